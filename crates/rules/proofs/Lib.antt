@@ -1,0 +1,6 @@
+pub mod Every
+pub mod Order
+pub mod Catalogue
+pub mod Cells
+pub mod Search
+pub mod Tree

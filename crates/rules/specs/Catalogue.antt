@@ -1,0 +1,112 @@
+-- "The catalogue": what the block says of a type and of a field, and the check. Assumes nothing: these are definitions.
+use mathlib.Core.Bool.{Bool, _&&_}
+use mathlib.Core.List.{List}
+use Prim.Native.Nat.{ℕ, zero, suc, _+_, _-_, _*_}
+use lib.Dec.{ltb, leb, eqb}
+use lib.ListN.{length}
+use Rattle.terms.specs.declared.TypeCode.{TypeCode}
+use Rattle.terms.specs.declared.FieldNumber.{FieldNumber}
+use Rattle.terms.specs.Choice.{pick}
+use Rattle.terms.specs.Names.{code, field}
+use Rattle.forest.specs.Types as Types
+use Rattle.forest.specs.Numbers.{range, isIn}
+use Rattle.rules.specs.Block.{Bytes, byte, part, every, zeros, marked}
+
+-- "start and length are at least 1 and start + length - 1 is at most L"
+abbrev pub goodSpan : ℕ → ℕ → ℕ → Bool
+goodSpan start long L = leb 1 start && leb 1 long && leb (start + long - 1) L
+
+module _ (cat : Bytes) where
+  -- "Byte 5: number of types T", "Byte 6: number of fields F"
+  unfoldable pub types : ℕ
+  types = byte cat 5
+
+  unfoldable pub fields : ℕ
+  fields = byte cat 6
+
+  -- "Then T entries of 8 bytes": type codes run from 1, so that the entry of type t begins at byte 8t
+  unfoldable pub typeByte : TypeCode → ℕ → ℕ
+  typeByte t k = byte cat (8 * t .0 + k)
+
+  -- "Type entry: parent code; data length L; key kind (0 none, 1 unique, 2 multiple); key start, counted from 1; key length; three zero bytes"
+  unfoldable pub parentOf : TypeCode → TypeCode
+  parentOf t = code (typeByte t 0)
+
+  unfoldable pub lengthOf : TypeCode → ℕ
+  lengthOf t = typeByte t 1
+
+  unfoldable pub keyKind : TypeCode → ℕ
+  keyKind t = typeByte t 2
+
+  unfoldable pub keyStart : TypeCode → ℕ
+  keyStart t = typeByte t 3
+
+  unfoldable pub keyLength : TypeCode → ℕ
+  keyLength t = typeByte t 4
+
+  -- "F entries of 4": field numbers run from 1
+  unfoldable pub fieldByte : FieldNumber → ℕ → ℕ
+  fieldByte f k = byte cat (4 + 8 * types + 4 * f .0 + k)
+
+  -- "Field entry: type code, start, length, zero byte"
+  unfoldable pub fieldType : FieldNumber → TypeCode
+  fieldType f = code (fieldByte f 0)
+
+  unfoldable pub fieldStart : FieldNumber → ℕ
+  fieldStart f = fieldByte f 1
+
+  unfoldable pub fieldLength : FieldNumber → ℕ
+  fieldLength f = fieldByte f 2
+
+  -- a type and the types above it, nearest first
+  unfoldable pub lineage : TypeCode → List ℕ
+  lineage t = Types.lineage (λ u. parentOf (code u) .0) (t .0)
+
+  -- "The root type has level 1, a child one more"
+  unfoldable pub level : TypeCode → ℕ
+  level t = length (lineage t)
+
+  -- "type not in 1..T"
+  unfoldable pub isType : TypeCode → Bool
+  isType t = leb 1 (t .0) && leb (t .0) types
+
+  -- type t lies beneath type u, and is not u
+  unfoldable pub typeBeneath : TypeCode → TypeCode → Bool
+  typeBeneath t u = isIn (u .0) (lineage (parentOf t))
+
+  -- the largest L of the types up to k
+  unfoldable pub largest : ℕ → ℕ
+  largest zero = 0
+  largest (suc k) = let m = largest k in pick (ltb m (lengthOf (code (suc k)))) (lengthOf (code (suc k))) m
+
+  -- "With kind 0, start and length are 0. Otherwise .."
+  unfoldable pub goodKey : TypeCode → Bool
+  goodKey t =
+      pick (eqb (keyKind t) 0) (eqb (keyStart t) 0 && eqb (keyLength t) 0)
+      (leb (keyKind t) 2 && goodSpan (keyStart t) (keyLength t) (lengthOf t))
+
+  -- "Type 1 has parent 0 and no other has. The parent of type k > 1 is k - 1 or an ancestor of k - 1."
+  unfoldable pub goodParent : ℕ → Bool
+  goodParent k = pick (eqb k 1) (eqb (parentOf (code k) .0) 0) (isIn (parentOf (code k) .0) (lineage (code (k - 1))))
+
+  -- "L, 1 to 120", "three zero bytes", "no level exceeds 15"
+  unfoldable pub goodType : ℕ → Bool
+  goodType k =
+      goodParent k && leb 1 (lengthOf (code k)) && leb (lengthOf (code k)) 120 && goodKey (code k)
+      && zeros (part cat (8 * k + 5) 3) && leb (level (code k)) 15
+
+  -- "Field entry: type code from 1 to T, start, length (same rule against that type's L), zero byte."
+  unfoldable pub goodField : ℕ → Bool
+  goodField f =
+      isType (fieldType (field f)) && goodSpan (fieldStart (field f)) (fieldLength (field f)) (lengthOf (fieldType (field f)))
+      && eqb (fieldByte (field f) 3) 0
+
+  -- "T, 1 to 32", "F, 0 to 64", "Byte 7: zero", "The block is exactly 8 + 8T + 4F bytes."
+  unfoldable pub goodHeader : Bool
+  goodHeader =
+      leb 8 (length cat) && marked 0x43 cat && leb 1 types && leb types 32 && leb fields 64 && eqb (byte cat 7) 0
+      && eqb (length cat) (8 + 8 * types + 4 * fields)
+
+  -- the check of a catalogue
+  unfoldable pub goodCatalogue : Bool
+  goodCatalogue = goodHeader && every goodType (range 1 types) && every goodField (range 1 fields)

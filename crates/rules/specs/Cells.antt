@@ -1,0 +1,98 @@
+-- "The table", as cells by number: segments, the order of values, twins, levels, runs, ancestors, and which listings are well formed.
+-- No byte of a table block is named here, so that a second layout can use it. Assumes nothing: these are definitions.
+use mathlib.Core.Bool.{Bool, true, false, _&&_, _||_, not}
+use mathlib.Core.List.{List, [], _∷_}
+use Prim.Native.Nat.{ℕ, _+_, _-_}
+use lib.Dec.{ltb, eqb}
+use lib.ListN.{length, getD, take}
+use Rattle.terms.specs.declared.TypeCode.{TypeCode}
+use Rattle.terms.specs.declared.Order.{Order}
+use Rattle.terms.specs.Choice.{pick}
+use Rattle.terms.specs.Names.{code, sameType}
+use Rattle.terms.specs.Operators.{isSmaller, isEqual, isGreater}
+use Rattle.forest.specs.Forest.{forestOf}
+use Rattle.forest.specs.Good.{formed}
+use Rattle.forest.specs.Groups.{ok}
+use Rattle.forest.specs.Numbers.{ancestors, run}
+use Rattle.rules.specs.Block.{Bytes, part}
+use Rattle.rules.specs.Order.{order}
+use Rattle.rules.specs.Catalogue.{isType, parentOf, lengthOf, keyKind, keyStart, keyLength, level}
+
+-- "A cell is its type code, L data bytes": the segment that a cell holds
+pub record Segment : Type 0 where
+  pub code : TypeCode
+  pub bytes : Bytes
+
+abbrev pub typeNumber : Segment → ℕ
+typeNumber s = s .code .0
+
+-- no segment
+abbrev pub blank : Segment
+blank = record { code = code 0; bytes = [] }
+
+-- the segment of cell i
+abbrev pub segment : List Segment → ℕ → Segment
+segment cs i = getD cs i blank
+
+module _ (cat : Bytes) where
+  -- a segment of type t, from the front of these bytes
+  unfoldable pub segmentOf : TypeCode → Bytes → Segment
+  segmentOf t b = record { code = t; bytes = take (lengthOf cat t) b }
+
+  -- the length that an answer tells
+  unfoldable pub long : Segment → ℕ
+  long s = lengthOf cat (s .code)
+
+  -- the key's bytes: none with kind 0
+  unfoldable pub key : Segment → Bytes
+  key s = part (s .bytes) (keyStart cat (s .code) - 1) (keyLength cat (s .code))
+
+  -- how the key of c stands to that of d, a segment of the same type
+  unfoldable pub keyOrder : Segment → Segment → Order
+  keyOrder c d = order (key c) (key d)
+
+  -- "Twins with a unique key ascend strictly, with a multiple key they never descend; without a key any order stands."
+  unfoldable pub twinOrder : Segment → Segment → Bool
+  twinOrder c d =
+      pick (eqb (keyKind cat (c .code)) 0) true
+      (pick (eqb (keyKind cat (c .code)) 1) (isSmaller (keyOrder c d)) (not (isGreater (keyOrder c d))))
+
+  -- a twin with the same key
+  unfoldable pub sameKey : Segment → Segment → Bool
+  sameKey c d = sameType (c .code) (d .code) && isEqual (keyOrder c d)
+
+  -- a segment whose type has parent p; the top has parent 0
+  unfoldable pub isChild : ℕ → Segment → Bool
+  isChild p s = isType cat (s .code) && eqb (parentOf cat (s .code) .0) p
+
+  -- "groups of child types in ascending code", "a row of segments of one type": d may stand behind its sibling c
+  abbrev pub siblings : Segment → Segment → Bool
+  siblings c d = ok typeNumber isChild twinOrder c d
+
+  -- a new segment x stands before its sibling c: one of a later group, or a twin of greater key ("after smaller and equal keys, before greater;
+  -- unkeyed, last")
+  unfoldable pub goesBefore : Segment → Segment → Bool
+  goesBefore x c = ltb (typeNumber x) (typeNumber c) || (sameType (x .code) (c .code) && isSmaller (keyOrder x c))
+
+  abbrev pub segmentLevel : Segment → ℕ
+  segmentLevel s = level cat (s .code)
+
+  -- "The first n cells are the parent-first listing of a forest .. The top is one group of type 1."
+  unfoldable pub goodListing : List Segment → Bool
+  goodListing cs = formed typeNumber isChild siblings 0 (forestOf segmentLevel cs)
+
+  module _ (cs : List Segment) where
+    unfoldable pub levelAt : ℕ → ℕ
+    levelAt i = segmentLevel (segment cs i)
+
+    -- "The run of a segment is its cell and all cells beneath it": how many they are
+    unfoldable pub runAt : ℕ → ℕ
+    runAt i = run levelAt (length cs) i
+
+    -- "the run ends at the first later cell of the same or a smaller level, or at n"
+    unfoldable pub endAt : ℕ → ℕ
+    endAt i = i + runAt i
+
+    -- cell i and its ancestors, nearest first
+    unfoldable pub rowAt : ℕ → List ℕ
+    rowAt i = i ∷ ancestors levelAt i

@@ -1,0 +1,13 @@
+pub mod Block
+pub mod Order
+pub mod Catalogue
+pub mod Cells
+pub mod Table
+pub mod Position
+pub mod Arguments
+pub mod Matching
+pub mod Calls
+pub mod Outcome
+pub mod Listing
+pub mod Tree
+pub mod Computed

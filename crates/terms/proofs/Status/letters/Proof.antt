@@ -1,0 +1,46 @@
+use borrow.Author.Needs.{needs}
+use Rattle.terms.proofs.Status.letters.Statement.{statement}
+use Rattle.terms.proofs.Status.letters.Tie as tie
+
+pub letters-spec : {M : Type 1} → statement M
+letters-spec =
+    tie.close
+    (tie.spec
+    (λ c. search needs)
+    (λ c. search needs)
+    (λ c. search needs)
+    (λ c. search needs)
+    (λ c. search needs)
+    (λ c. search needs)
+    (λ c. search needs)
+    (λ c. search needs)
+    (λ c. search needs)
+    (λ c. search needs)
+    (λ c. search needs)
+    (λ c. search needs)
+    (λ c. search needs)
+    (λ c. search needs)
+    (λ c. search needs)
+    (λ c. search needs)
+    (λ c. search needs)
+    (λ c. search needs)
+    (λ c. search needs)
+    (λ c. simp (c .before .before .enum-told .given .1))
+    (λ c. simp (c .before .before .enum-told2 .given .1))
+    (λ c. simp (c .before .before .enum-told3 .given .1))
+    (λ c. simp (c .before .before .enum-told4 .given .1))
+    (λ c. simp (c .before .before .enum-told5 .given .1))
+    (λ c. simp (c .before .before .enum-told6 .given .1))
+    (λ c. simp (c .before .before .enum-told7 .given .1))
+    (λ c. simp (c .before .before .enum-told8 .given .1))
+    (λ c. simp (c .before .before .enum-told9 .given .1))
+    (λ c. simp (c .before .before .enum-told10 .given .1))
+    (λ c. simp (c .before .before .enum-told11 .given .1))
+    (λ c. simp (c .before .before .enum-told12 .given .1))
+    (λ c. simp (c .before .before .enum-told13 .given .1))
+    (λ c. simp (c .before .before .enum-told14 .given .1))
+    (λ c. simp (c .before .before .enum-told15 .given .1))
+    (λ c. simp (c .before .before .enum-told16 .given .1))
+    (λ c. simp (c .before .before .enum-told17 .given .1))
+    (λ c. simp (c .before .before .enum-told18 .given .1))
+    (λ c. simp (c .before .before .enum-told19 .given .1)))

@@ -1,0 +1,5 @@
+pub mod Choice
+pub mod Names
+pub mod Statuses
+pub mod Operators
+pub mod Moves
