@@ -2,6 +2,7 @@ use mathlib.Core.Path.{_≡_, refl, ap, sym, _∙_}
 use native.Mathlib.Omega.{arith}
 use borrow.Author.Needs.{needs}
 use Rattle.forest.specs.Numbers.{isIn}
+use Rattle.forest.specs.Types.{lineage as lineageOver}
 use Rattle.rules.specs.Catalogue.{lineage}
 use Rattle.catalogue.proofs.Laws.{climbed, climbed-none, climbed-top, above-step, above-here}
 use Rattle.catalogue.proofs.lineage.is_above.Statement.{statement}

@@ -3,6 +3,7 @@ use Prim.Native.Nat.{_+_, _≤_}
 use native.Mathlib.Omega.{arith}
 use borrow.Author.Needs.{needs}
 use lib.ListN.{length}
+use Rattle.forest.specs.Types.{lineage as lineageOver}
 use Rattle.rules.specs.Catalogue.{lineage, level}
 use Rattle.catalogue.proofs.Laws.{climbed, climbed-none, climbed-top, level-step}
 use Rattle.catalogue.proofs.lineage.level.Statement.{statement}
