@@ -77,3 +77,31 @@ order-equal (x ∷ xs) (y ∷ ys) e h = elim (side x y) [
         rw (z, order-equal xs ys (omega arith) (sym (order-on x y xs ys z) ∙ h))
   ]
 ]
+
+greater-not : Smaller ≡ Greater → ⊥
+greater-not e = let z : _≡_ {A = ℕ} 0 2 = ap rank e in omega arith
+
+-- what the first bytes say, where one value is smaller: they are smaller, or the same and the rest is smaller
+smaller-first : (x y : ℕ) (xs ys : Bytes) → order (x ∷ xs) (y ∷ ys) ≡ Smaller → y ≤ x → (x ≡ y) × (order xs ys ≡ Smaller)
+smaller-first x y xs ys e l = elim (side y x) [
+  | inside m ↦ absurd (greater-not (sym e ∙ order-more x y xs ys m))
+  | outside m ↦ (let z : x ≡ y = omega arith in (z, sym (order-on x y xs ys z) ∙ e))
+]
+
+-- LAW 29: transitive
+pub order-transitive : (xs ys zs : Bytes) → length xs ≡ length ys → length ys ≡ length zs
+    → order xs ys ≡ Smaller → order ys zs ≡ Smaller → order xs zs ≡ Smaller
+unfolding order
+order-transitive [] ys zs e f h k = absurd (unequal-less (sym h))
+order-transitive (x ∷ xs) [] zs e f h k = absurd (omega arith)
+order-transitive (x ∷ xs) (y ∷ ys) [] e f h k = absurd (omega arith)
+order-transitive (x ∷ xs) (y ∷ ys) (z ∷ zs) e f h k = elim (side x z) [
+  | inside l ↦ order-less x z xs zs l
+  | outside l ↦ elim (side x y) [
+    | inside m ↦ absurd (let q = smaller-first y z ys zs k (omega arith) in omega (arith, q .0))
+    | outside m ↦
+        let p = smaller-first x y xs ys h m in
+        let q = smaller-first y z ys zs k (omega (arith, p .0)) in
+        order-on x z xs zs (p .0 ∙ q .0) ∙ order-transitive xs ys zs (omega arith) (omega arith) (p .1) (q .1)
+  ]
+]

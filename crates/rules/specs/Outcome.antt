@@ -28,6 +28,9 @@ pub record Outcome : Type 0 where
   pub table : Bytes
   pub area : Bytes
 
+abbrev pub isBlank : Status → Bool
+isBlank s = eqb (number s) 0
+
 abbrev pub isGnp : ℕ → Bool
 isGnp c = eqb c 3 || eqb c 6
 
@@ -41,45 +44,69 @@ isDlet c = eqb c 9
 abbrev pub isHeld : ℕ → Bool
 isHeld c = eqb c 8 || eqb c 9
 
--- "Order: 20, 21, 22, 23, list faults, 27, the other AJ, 28, 12, 29, then 10 and 11, 30, 31, 32": the last five are the call's own, in `done`
-unfoldable pub unlessRefused : Bytes → Bytes → Position → ℕ → Bytes → Bytes → After → After
-unlessRefused cat tab pos c list area done =
+-- The refusals in their order: "20, 21, 22, 23, list faults, 27, the other AJ, 28, 12, 29, then 10 and 11, 30, 31, 32". The first that holds answers;
+-- Blank where none does. The last five are the call's own.
+-- 20, 21, 22: the blocks and the position
+unfoldable pub unsound : Bytes → Bytes → Position → Status
+unsound cat tab pos =
+    pick (not (goodCatalogue cat)) CX
+    (pick (not (goodTable cat tab)) TX
+    (pick (not (goodPosition cat (listing cat tab) pos)) PX
+    Blank))
+
+-- 23, list faults, 27, the other AJ, 28, 12, 29: what is asked of them
+unfoldable pub misused : Bytes → Position → ℕ → Bytes → Bytes → Status
+misused cat pos c list area =
     let ar = listRead cat list .arguments in
     let fault = listRead cat list .fault in
-    let refuse : Status → After = λ s. refused s pos area in
-    pick (not (goodCatalogue cat)) (refuse CX)
-    (pick (not (goodTable cat tab)) (refuse TX)
-    (pick (not (goodPosition cat (listing cat tab) pos)) (refuse PX)
-    (pick (not (leb 1 c && leb c 9)) (refuse AD)
-    (pick (not (eqb (number fault) 0)) (refuse fault)
-    (pick (isIsrt c && isNil ar) (refuse AH)
-    (pick ((isIsrt c && isQualified (lastArgument ar .qualification)) || (isHeld c && not (isNil ar))) (refuse AJ)
-    (pick (not (isDlet c) && ltb (length area) (cellSize cat - 1)) (refuse AB)
-    (pick (isGnp c && isAbsent (pos .parentage)) (missed GP pos area)
-    (pick (isHeld c && not (pos .hold)) (refuse DJ)
-    done)))))))))
+    pick (not (leb 1 c && leb c 9)) AD
+    (pick (not (isBlank fault)) fault
+    (pick (isIsrt c && isNil ar) AH
+    (pick ((isIsrt c && isQualified (lastArgument ar .qualification)) || (isHeld c && not (isNil ar))) AJ
+    (pick (not (isDlet c) && ltb (length area) (cellSize cat - 1)) AB
+    (pick (isGnp c && isAbsent (pos .parentage)) GP
+    (pick (isHeld c && not (pos .hold)) DJ
+    Blank))))))
+
+-- "Status 10 to 12 clears the hold only; 20 and above changes nothing, area included."
+unfoldable pub stopped : Status → Position → Bytes → After
+stopped s pos area = pick (leb 20 (number s)) (refused s pos area) (missed s pos area)
+
+unfoldable pub unless : Status → Position → Bytes → After → After
+unless s pos area done = pick (isBlank s) done (stopped s pos area)
 
 -- a call over the cells (`called`) or over their forest (`interpreted` of Tree): on catalogue, cells, position, area, room M, call number and list
 abbrev pub Call : Type 0
 Call = Bytes → List Segment → Position → Bytes → ℕ → ℕ → Bytes → List Argument → After
 
+-- on sound blocks and a good position
+unfoldable pub afterSound : Call → Bytes → Bytes → Position → ℕ → Bytes → Bytes → After
+afterSound call cat tab pos c list area =
+    unless (misused cat pos c list area) pos area
+    (call cat (listing cat tab) pos area (room cat tab) c list (listRead cat list .arguments))
+
+-- on any
 unfoldable pub afterCall : Call → Bytes → Bytes → Position → ℕ → Bytes → Bytes → After
-afterCall call cat tab pos c list area =
-    unlessRefused cat tab pos c list area (call cat (listing cat tab) pos area (room cat tab) c list (listRead cat list .arguments))
+afterCall call cat tab pos c list area = unless (unsound cat tab pos) pos area (afterSound call cat tab pos c list area)
 
 -- the table's bytes afterwards: as they were, or those of the new cells
 abbrev pub tableAfter : Bytes → Bytes → Option (List Segment) → Bytes
 tableAfter cat tab none = tab
 tableAfter cat tab (some cs) = tableBytes cat (room cat tab) cs
 
+abbrev pub landed : Bytes → Bytes → After → Outcome
+landed cat tab a = record { answer = a .answer; table = tableAfter cat tab (a .cells); area = a .area }
+
 unfoldable pub outcomeOf : Call → Bytes → Bytes → Position → ℕ → Bytes → Bytes → Outcome
-outcomeOf call cat tab pos c list area =
-    let a = afterCall call cat tab pos c list area in
-    record { answer = a .answer; table = tableAfter cat tab (a .cells); area = a .area }
+outcomeOf call cat tab pos c list area = landed cat tab (afterCall call cat tab pos c list area)
 
 -- the promise
 unfoldable pub outcome : Bytes → Bytes → Position → ℕ → Bytes → Bytes → Outcome
 outcome cat tab pos c list area = outcomeOf called cat tab pos c list area
+
+-- the promise to a caller whose blocks and position are sound
+unfoldable pub soundOutcome : Bytes → Bytes → Position → ℕ → Bytes → Bytes → Outcome
+soundOutcome cat tab pos c list area = landed cat tab (afterSound called cat tab pos c list area)
 
 -- the position's block afterwards, where the position is lent as one: "20 and above changes nothing"
 unfoldable pub blockAfter : Bytes → Answer → Bytes

@@ -1,0 +1,48 @@
+-- What a lookup by cell number asks of the lent blocks, and the parent of a cell. Assumes nothing: these are definitions.
+use mathlib.Core.Path.{_≡_}
+use mathlib.Core.Bool.{true}
+use mathlib.Core.List.{List, [], _∷_}
+use Prim.Native.Nat.{ℕ, _+_, _*_, _≤_, _<_}
+use lib.ListN.{length}
+use Rattle.terms.specs.declared.Found.{Found}
+use Rattle.terms.specs.declared.Found.the-variants.{At, Nothing}
+use Rattle.terms.specs.Names.{cell}
+use Rattle.forest.specs.Rows.{back}
+use Rattle.forest.specs.Runs.{under}
+use Rattle.forest.specs.Numbers.{range, downTo, ancestors}
+use Rattle.rules.specs.Block.{Bytes}
+use Rattle.rules.specs.Table.{count, cellSize}
+use Rattle.rules.specs.Catalogue.{isType, goodCatalogue}
+use Rattle.rules.specs.Cells.{Segment, segment, levelAt}
+
+-- the first n cells of the table, each of this size, lie within the slice
+pub record Sized (cat tab : Bytes) (size : ℕ) : Type 0 where
+  pub is : size ≡ cellSize cat
+  pub some : 2 ≤ size
+  pub narrow : size ≤ 121
+  pub few : count tab ≤ 4096
+  pub within : 8 + count tab * size ≤ length tab
+
+abbrev pub nearest : List ℕ → Found
+nearest [] = Nothing
+nearest (i ∷ above) = At (cell i)
+
+-- the parent of cell i: the nearest of its ancestors
+unfoldable pub parentAt : Bytes → List Segment → ℕ → Found
+parentAt cat cs i = nearest (ancestors (levelAt cat cs) i)
+
+-- cells i and j hold segments of one type of a good catalogue
+pub record Alike (cat : Bytes) (cs : List Segment) (i j : ℕ) : Type 0 where
+  pub good : goodCatalogue cat ≡ true
+  pub first : i < length cs
+  pub second : j < length cs
+  pub known : isType cat (segment cs i .code) ≡ true
+  pub same : segment cs j .code ≡ segment cs i .code
+
+-- the first of the n cells from i on of a level that is at most the given one, or the cell past them
+unfoldable pub endFrom : Bytes → List Segment → ℕ → ℕ → ℕ → ℕ
+endFrom cat cs lev i n = i + under (levelAt cat cs) lev (range i n)
+
+-- the nearest of the cells before i whose level is smaller
+unfoldable pub climbed : Bytes → List Segment → ℕ → ℕ → Found
+climbed cat cs lev i = nearest (back (levelAt cat cs) lev (downTo i))

@@ -1,0 +1,74 @@
+// The check of a position against the cells of a table: "Anything else is a bad position."
+// What the calls make of a position are the methods of terms::Position.
+use cells::lookup::count;
+use cells::runs::run_end;
+use terms::CellNumber;
+use terms::Parentage;
+use terms::Place;
+use terms::Position;
+ghost use mathlib.Core.Path.{_≡_};
+ghost use mathlib.Core.Bool.{true, _&&_};
+ghost use Rattle.rules.specs.Position.{goodPlace, goodParentage, goodHold, goodPosition};
+ghost use Rattle.rules.specs.Table.{listing};
+ghost use Rattle.cells.specs.Lent.{Sized};
+
+// "The place is either on a cell i < n or in the gap before cell i, i ≤ n."
+fn good_place(cat: &[u8], tab: &[u8], q: Place) -> bool
+    ensures { λ r. ⌜ r ≡ goodPlace (now (cat .entry)) (listing (now (cat .entry)) (now (tab .entry))) q ⌝ }
+{
+    match q {
+        Place::On(c) => c.0 < count(tab),
+        Place::Before(c) => c.0 <= count(tab),
+    }
+}
+
+// "a hold, which needs a place on a cell"
+fn good_hold(cat: &[u8], tab: &[u8], q: Place, hold: bool) -> bool
+    ensures { λ r. ⌜ r ≡ goodHold (now (cat .entry)) (listing (now (cat .entry)) (now (tab .entry))) q hold ⌝ }
+{
+    match q {
+        Place::On(_) => true,
+        Place::Before(_) => !hold,
+    }
+}
+
+// "On cell i, p is i or an ancestor of it": i lies in p's run. "In gap i, p < i and i is at most the end of p's run."
+fn good_parentage(cat: &[u8], tab: &[u8], size: usize, q: Place, p: Parentage) -> bool
+    requires { ⌜ Sized (now cat) (now tab) size × (goodPlace (now cat) (listing (now cat) (now tab)) q ≡ true) ⌝ }
+    ensures { λ r. ⌜ r ≡ goodParentage (now (cat .entry)) (listing (now (cat .entry)) (now (tab .entry))) q p ⌝ }
+{
+    let Parentage::Of(a) = p else {
+        return true;
+    };
+    match q {
+        Place::On(c) => {
+            if c.0 < a.0 {
+                return false;
+            }
+            c.0 < run_end(cat, tab, size, a).0
+        }
+        Place::Before(c) => {
+            if c.0 <= a.0 {
+                return false;
+            }
+            c.0 <= run_end(cat, tab, size, a).0
+        }
+    }
+}
+
+// The check, on blocks that hold as many cells as they say. Numbers of any size are refused.
+pub fn is_good_on(cat: &[u8], tab: &[u8], size: usize, p: Position) -> bool
+    requires { ⌜ Sized (now cat) (now tab) size ⌝ }
+    ensures { λ r. ⌜ r ≡ goodPosition (now (cat .entry)) (listing (now (cat .entry)) (now (tab .entry))) p ⌝ }
+{
+    let place = p.place;
+    let parentage = p.parentage;
+    let hold = p.hold;
+    if !good_place(cat, tab, place) {
+        return false;
+    }
+    if !good_parentage(cat, tab, size, place, parentage) {
+        return false;
+    }
+    good_hold(cat, tab, place, hold)
+}
