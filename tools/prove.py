@@ -106,7 +106,8 @@ class Places:
 def places_of(crate, function):
     """By member of a cycle of calls ('' outside one), the places of a function."""
     room = os.path.join(os.environ.get("GEN") or tempfile.gettempdir(), "rt-generated", crate)
-    rt_dev(crate, "--generated", room)
+    if not os.environ.get("KEEP"):
+        rt_dev(crate, "--generated", room)
     folder = f"{room}/Rattle.{crate}.proofs/proofs/{function}"
     found = {}
     for name in sorted(os.listdir(folder)):

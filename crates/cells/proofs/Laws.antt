@@ -1,0 +1,237 @@
+-- Cells by number in the bytes of the table: where a cell lies, its type, its level. Assumes nothing.
+use mathlib.Core.Path.{_≡_, refl, ap, sym, _∙_}
+use mathlib.Core.Bool.{Bool, true, _&&_}
+use mathlib.Core.List.{List, [], _∷_}
+use Prim.Native.Nat.{ℕ, zero, suc, _+_, _-_, _*_, _<_, _≤_}
+use native.Mathlib.Nat.{mul-le-mul-right, add-mul}
+use native.Mathlib.Omega.{arith}
+use lib.Dec.{leb, eqb}
+use lib.ListN.{length, take, drop}
+use lib.Seq.{take-take, drop-drop}
+use borrow.Author.Tests.{leb-true, eqb-true}
+use Rattle.terms.specs.declared.TypeCode.{TypeCode}
+use Rattle.terms.specs.declared.CellNumber.{CellNumber}
+use Rattle.terms.specs.declared.Found.the-variants.{At, Nothing}
+use Rattle.terms.specs.Names.{code, cell}
+use Rattle.forest.specs.Forest.{inside, outside, side}
+use Rattle.forest.specs.Good.{both-left, both-right}
+use Rattle.forest.specs.Runs.{under, under-in, under-out}
+use Rattle.forest.specs.Rows.{back, back-in, back-out}
+use Rattle.forest.specs.Numbers.{range, downTo, ancestors, run}
+use Rattle.rules.specs.Block.{Bytes, byte, part, every, zeros, marked}
+use Rattle.rules.specs.Catalogue.{lengthOf, keyStart, keyLength, level, isType, goodCatalogue}
+use Rattle.rules.specs.Cells.{Segment, segment, segmentOf, key, keyOrder, levelAt, runAt, endAt, goodListing}
+use Rattle.rules.specs.Order.{order}
+use Rattle.rules.specs.Table.{count, cellSize, cellStart, room, typeAt, segmentAt, listing, padded, goodRoom, goodTable}
+use Rattle.rules.proofs.Cells.{listing-at, listing-length}
+use Rattle.cells.specs.Lent.{Sized, Alike, nearest, endFrom, climbed, parentAt}
+use Rattle.cells.proofs.Entries.{key-in, length-in, largest-some, largest-few}
+
+module _ (cat tab : Bytes) (i : ℕ) (l : i < count tab) where
+  -- the type of cell i
+  pub type-of : segment (listing cat tab) i .code ≡ typeAt cat tab i
+  unfolding segmentAt segmentOf
+  type-of = ap (λ (s : Segment). s .code) (listing-at cat tab i l)
+
+  -- its level
+  pub level-of : levelAt cat (listing cat tab) i ≡ level cat (typeAt cat tab i)
+  unfolding levelAt
+  level-of = ap (level cat) type-of
+
+-- the bytes from `at + k` on, as the bytes k, counted from 1, of the L data bytes of a cell that begins at `at`
+part-part : (n k L : ℕ) (xs : Bytes) → k + n ≤ L → take n (drop k (take L xs)) ≡ take n (drop k xs)
+part-part n zero L xs h = take-take n L xs (omega arith)
+part-part n (suc k) zero xs h = absurd (omega arith)
+part-part n (suc k) (suc L) [] h = refl
+part-part n (suc k) (suc L) (x ∷ xs) h = part-part n k L xs (omega arith)
+
+part-in : (at k n L : ℕ) (tab : Bytes) → k + n ≤ suc L → (k ≡ 0 → n ≡ 0) → part tab (at + k) n ≡ part (take L (drop (suc at) tab)) (k - 1) n
+part-in at zero n L tab h z = let e : n ≡ 0 = z refl in rw e
+part-in at (suc k) n L tab h z =
+    let a : suc k - 1 ≡ k = omega arith in
+    let b : at + suc k ≡ suc at + k = omega arith in
+    rw (a, b, part-part n k L (drop (suc at) tab) (omega arith), drop-drop k (suc at) tab)
+
+module _ {cat tab : Bytes} {size : ℕ} (s : Sized cat tab size) (i : ℕ) where
+  -- where a cell begins is within the slice
+  pub start-in : i ≤ count tab → 8 + i * size ≤ length tab
+  start-in l =
+      let m : i * size ≤ count tab * size = mul-le-mul-right size l in
+      omega (arith, s .within)
+
+  -- and so is where it ends
+  pub cell-in : i < count tab → 8 + i * size + size ≤ length tab
+  cell-in l =
+      let m : (i + 1) * size ≤ count tab * size = mul-le-mul-right size (omega arith) in
+      omega (arith, add-mul i 1 size, s .within)
+
+module _ {cat tab : Bytes} {size : ℕ} (s : Sized cat tab size) (i : ℕ) (l : i < count tab) where
+  -- the first byte of a cell is its type
+  pub code-of : code (byte tab (8 + i * size)) ≡ segment (listing cat tab) i .code
+  unfolding typeAt cellStart
+  code-of = ap (λ (n : ℕ). code (byte tab (8 + i * n))) (s .is) ∙ sym (type-of cat tab i l)
+
+  -- the data stand behind it
+  pub bytes-of : segment (listing cat tab) i .bytes ≡ part tab (suc (8 + i * size)) (lengthOf cat (segment (listing cat tab) i .code))
+  unfolding segmentAt segmentOf typeAt cellStart
+  bytes-of = rw (s .is, listing-at cat tab i l)
+
+  -- and the key among them
+  pub key-of : goodCatalogue cat ≡ true → isType cat (segment (listing cat tab) i .code) ≡ true
+      → part tab (8 + i * size + keyStart cat (segment (listing cat tab) i .code)) (keyLength cat (segment (listing cat tab) i .code)) ≡ key cat (segment (listing cat tab) i)
+  unfolding key
+  key-of g h =
+      let t = segment (listing cat tab) i .code in
+      let k = key-in cat g t h in
+      part-in (8 + i * size) (keyStart cat t) (keyLength cat t) (lengthOf cat t) tab (k .0) (k .1)
+      ∙ ap (λ (b : Bytes). part b (keyStart cat t - 1) (keyLength cat t)) (sym bytes-of)
+
+-- the keys of two cells of one type, which the code has read as t
+module _ {cat tab : Bytes} {size i j : ℕ} (s : Sized cat tab size) (a : Alike cat (listing cat tab) i j) {t : TypeCode} (e : t ≡ segment (listing cat tab) i .code) where
+  first-in : i < count tab
+  first-in = omega (arith, listing-length cat tab, a .first)
+
+  second-in : j < count tab
+  second-in = omega (arith, listing-length cat tab, a .second)
+
+  pub keys-in : (8 + i * size + keyStart cat t + keyLength cat t ≤ length tab) × (8 + j * size + keyStart cat t + keyLength cat t ≤ length tab)
+  unfolding cellSize
+  keys-in =
+      let h : isType cat t ≡ true = rw e (a .known) in
+      let n : keyStart cat t + keyLength cat t ≤ size = omega (arith, key-in cat (a .good) t h .0, length-in cat (a .good) t h, s .is) in
+      (omega (arith, cell-in s i first-in), omega (arith, cell-in s j second-in))
+
+  pub keys-order : (start long : ℕ) → start ≡ keyStart cat t → long ≡ keyLength cat t
+      → order (part tab (8 + i * size + start) (8 + i * size + start + long - (8 + i * size + start))) (part tab (8 + j * size + start) (8 + j * size + start + long - (8 + j * size + start)))
+      ≡ keyOrder cat (segment (listing cat tab) i) (segment (listing cat tab) j)
+  unfolding keyOrder
+  keys-order start long p q =
+      let x : 8 + i * size + start + long - (8 + i * size + start) ≡ long = omega arith in
+      let y : 8 + j * size + start + long - (8 + j * size + start) ≡ long = omega arith in
+      rw (x, y, p, q, e, ← key-of s i first-in (a .good) (a .known), ← key-of s j second-in (a .good) (rw (a .same) (a .known)), a .same)
+
+-- the end of a run, one cell after the other; `here` is what the code has read as the level of cell i
+module _ (cat : Bytes) (cs : List Segment) (lev i : ℕ) where
+  pub end-none : (left : ℕ) → left ≡ 0 → i ≡ endFrom cat cs lev i left
+  unfolding endFrom under
+  end-none zero e = omega arith
+  end-none (suc n) e = absurd (omega arith)
+
+  pub end-here : (left here : ℕ) → here ≡ levelAt cat cs i → here ≤ lev → i ≡ endFrom cat cs lev i left
+  unfolding endFrom under
+  end-here zero here e h = omega arith
+  end-here (suc n) here e h = omega (arith, under-out (levelAt cat cs) lev i (range (suc i) n) (omega arith))
+
+  pub end-more : (left here : ℕ) → (left ≡ 0 → ⊥) → here ≡ levelAt cat cs i → lev < here → endFrom cat cs lev (i + 1) (left - 1) ≡ endFrom cat cs lev i left
+  unfolding endFrom
+  end-more zero here n e h = absurd (n refl)
+  end-more (suc k) here n e h =
+      let a : i + 1 ≡ suc i = omega arith in
+      let b : suc k - 1 ≡ k = omega arith in
+      rw (a, b, under-in (levelAt cat cs) lev i (range (suc i) k) (omega arith)) (omega arith)
+
+  -- climbing to a parent, one cell after the other
+  pub climb-none : i ≡ 0 → Nothing ≡ climbed cat cs lev i
+  unfolding climbed back
+  climb-none e = rw e
+
+  pub climb-here : (here : ℕ) → (i ≡ 0 → ⊥) → here ≡ levelAt cat cs (i - 1) → here < lev → At (cell (i - 1)) ≡ climbed cat cs lev i
+  unfolding climbed
+  climb-here here n e h =
+      let a : i ≡ suc (i - 1) = omega arith in
+      sym (ap (λ (k : ℕ). nearest (back (levelAt cat cs) lev (downTo k))) a ∙ ap nearest (back-in (levelAt cat cs) lev (i - 1) (downTo (i - 1)) (omega arith)))
+
+  pub climb-more : (here : ℕ) → (i ≡ 0 → ⊥) → here ≡ levelAt cat cs (i - 1) → lev ≤ here → climbed cat cs lev (i - 1) ≡ climbed cat cs lev i
+  unfolding climbed
+  climb-more here n e h =
+      let a : i ≡ suc (i - 1) = omega arith in
+      sym (ap (λ (k : ℕ). nearest (back (levelAt cat cs) lev (downTo k))) a ∙ ap nearest (back-out (levelAt cat cs) lev (i - 1) (downTo (i - 1)) (omega arith)))
+
+module _ (lev : ℕ → ℕ) where
+  under-few : (n s k : ℕ) → under lev n (range s k) ≤ k
+  unfolding under
+  under-few n s zero = omega arith
+  under-few n s (suc k) = elim (side n (lev s)) [
+    | inside l ↦ omega (arith, under-in lev n s (range (suc s) k) l, under-few n (suc s) k)
+    | outside l ↦ omega (arith, under-out lev n s (range (suc s) k) l)
+  ]
+
+  nearest-before : (p n i : ℕ) → nearest (back lev n (downTo i)) ≡ At (cell p) → (p < i) × (lev p < n)
+  unfolding back
+  nearest-before p n zero e = absurd (let z : _≡_ {A = ℕ} 0 1 = cc in omega arith)
+  nearest-before p n (suc i) e = elim (side (lev i) n) [
+    | inside l ↦
+        let f : At (cell i) ≡ At (cell p) = rw (back-in lev n i (downTo i) l) at e in
+        let g : cell i ≡ cell p = cc in
+        let z : i ≡ p = ap (λ (c : CellNumber). c .0) g in
+        (omega arith, rw (← z) l)
+    | outside l ↦
+        let r = nearest-before p n i (rw (back-out lev n i (downTo i) l) at e) in
+        (omega (arith, r .0), r .1)
+  ]
+
+module _ (cat : Bytes) (cs : List Segment) (i : ℕ) where
+  -- from the next cell on, at the level of cell i, that is the end of its run
+  pub end-run : (here n : ℕ) → here ≡ levelAt cat cs i → n ≡ length cs → endFrom cat cs here (i + 1) (n - (i + 1)) ≡ endAt cat cs i
+  unfolding endFrom endAt runAt
+  end-run here n e f =
+      let a : i + 1 ≡ suc i = omega arith in
+      rw (e, f, a) (omega arith)
+
+  -- and from cell i back, that is its parent
+  pub climb-parent : (here : ℕ) → here ≡ levelAt cat cs i → climbed cat cs here i ≡ parentAt cat cs i
+  unfolding climbed parentAt
+  climb-parent here e = rw e
+
+  -- a run has its cell at least, and ends behind the last cell at the latest
+  pub end-after : i < endAt cat cs i
+  unfolding endAt runAt
+  end-after = omega arith
+
+  pub end-within : i < length cs → endAt cat cs i ≤ length cs
+  unfolding endAt runAt
+  end-within l = omega (arith, under-few (levelAt cat cs) (levelAt cat cs i) (suc i) (length cs - suc i))
+
+  -- a parent stands before the cell, at a smaller level
+  pub parent-before : (p : ℕ) → parentAt cat cs i ≡ At (cell p) → (p < i) × (levelAt cat cs p < levelAt cat cs i)
+  unfolding parentAt
+  parent-before p e = nearest-before (levelAt cat cs) p (levelAt cat cs i) i e
+
+-- what a good table gives: "the slice is exactly 8 + M·C bytes", "M from 0 to 4,096", "byte 5 the cell size C", "n is at most M"
+pub record Housed (cat tab : Bytes) : Type 0 where
+  pub whole : length tab ≡ 8 + room cat tab * cellSize cat
+  pub most : room cat tab ≤ 4096
+  pub told : byte tab 5 ≡ cellSize cat
+  pub few : count tab ≤ room cat tab
+
+module _ (cat tab : Bytes) (h : goodTable cat tab ≡ true) where
+  front-of : (a b c d e f g : Bool) → (a && b && c && d && e && f && g) ≡ true → (a ≡ true) × (c ≡ true) × (d ≡ true)
+  front-of a b c d e f g k =
+      let x : (a && b && c && d) ≡ true = both-left (a && b && c && d) e (both-left (a && b && c && d && e) f (both-left (a && b && c && d && e && f) g k)) in
+      let y : (a && b && c) ≡ true = both-left (a && b && c) d x in
+      (both-left a b (both-left (a && b) c y), both-right (a && b) c y, both-right (a && b && c) d x)
+
+  pub good-housed : Housed cat tab
+  unfolding goodTable goodRoom cellStart
+  good-housed =
+      let p = front-of (goodRoom cat tab) (marked 0x54 tab) (eqb (byte tab 5) (cellSize cat)) (leb (count tab) (room cat tab)) (every (padded cat tab) (range 0 (count tab))) (zeros (drop (cellStart cat (count tab)) tab)) (goodListing cat (listing cat tab)) h in
+      let q = both-left (leb 8 (length tab) && eqb (length tab) (cellStart cat (room cat tab))) (leb (room cat tab) 4096) (p .0) in
+      record {
+        whole = eqb-true (length tab) (cellStart cat (room cat tab)) (both-right (leb 8 (length tab)) (eqb (length tab) (cellStart cat (room cat tab))) q);
+        most = leb-true (room cat tab) 4096 (both-right (leb 8 (length tab) && eqb (length tab) (cellStart cat (room cat tab))) (leb (room cat tab) 4096) (p .0));
+        told = eqb-true (byte tab 5) (cellSize cat) (p .1);
+        few = leb-true (count tab) (room cat tab) (p .2);
+      }
+
+  pub good-sized : goodCatalogue cat ≡ true → Sized cat tab (cellSize cat)
+  unfolding cellSize
+  good-sized g =
+      let o = good-housed in
+      let m : count tab * cellSize cat ≤ room cat tab * cellSize cat = mul-le-mul-right (cellSize cat) (o .few) in
+      record {
+        is = refl;
+        some = omega (arith, largest-some cat g);
+        narrow = omega (arith, largest-few cat g);
+        few = omega (arith, o .few, o .most);
+        within = omega (arith, o .whole);
+      }

@@ -1,0 +1,69 @@
+// The answers that change nothing, and the area's front.
+use catalogue::entries::data_length;
+use catalogue::lineage::level;
+use terms::Answer;
+use terms::Position;
+use terms::Status;
+use terms::TypeCode;
+ghost use mathlib.Core.Path.{_≡_};
+ghost use Prim.Native.Nat.{_≤_};
+ghost use lib.ListN.{length};
+ghost use Rattle.rules.specs.Calls.{bare, afterMiss, over};
+ghost use Rattle.dli.specs.Ready.{stoppedAnswer, told};
+
+// "For status 10 and above all four are 0."
+pub fn bare(s: Status, p: Position) -> Answer
+    ensures { λ r. ⌜ r ≡ bare s p ⌝ }
+{
+    Answer {
+        status: s,
+        position: p,
+        code: TypeCode(0),
+        level: 0,
+        length: 0,
+        removed: 0,
+    }
+}
+
+// "Status 10 to 12 clears the hold only"
+pub fn missed(s: Status, p: Position) -> Answer
+    ensures { λ r. ⌜ r ≡ bare s (afterMiss s p) ⌝ }
+{
+    bare(s, p.hold_dropped())
+}
+
+// "20 and above changes nothing"
+pub fn stopped(s: Status, p: Position) -> Answer
+    ensures { λ r. ⌜ r ≡ stoppedAnswer s p ⌝ }
+{
+    if 20 <= s.number() {
+        return bare(s, p);
+    }
+    missed(s, p)
+}
+
+// "Type, level and length are those of the segment got, inserted, replaced or deleted"
+pub fn told(cat: &[u8], s: Status, p: Position, t: TypeCode, removed: usize) -> Answer
+    ensures { λ r. ⌜ r ≡ told (now (cat .entry)) s p t removed ⌝ }
+{
+    Answer {
+        status: s,
+        position: p,
+        code: t,
+        level: level(cat, t),
+        length: data_length(cat, t),
+        removed: removed,
+    }
+}
+
+// "writes its L bytes to the front of the area; the area's other bytes stay"
+pub fn put_front(bytes: &[u8], area: &mut [u8])
+    requires { ⌜ length (now bytes) ≤ length (now area) ⌝ }
+    ensures { λ _. ⌜ now (area .exit) ≡ over (now (bytes .entry)) (now (area .entry)) ⌝ }
+{
+    let mut i = 0;
+    while i < bytes.len() {
+        area[i] = bytes[i];
+        i += 1;
+    }
+}

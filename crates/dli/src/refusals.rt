@@ -1,0 +1,142 @@
+// The refusals that look only at what is lent, in the order of document 01.
+use arguments::lookup::last_of;
+use arguments::read::fault;
+use cells::lookup::cell_size;
+use terms::Parentage;
+use terms::Position;
+use terms::Qualification;
+use terms::Status;
+ghost use mathlib.Core.Path.{_≡_};
+ghost use Prim.Native.Nat.{_≤_};
+ghost use Rattle.terms.specs.Moves.{isAbsent};
+ghost use Rattle.rules.specs.Table.{cellSize};
+ghost use Rattle.rules.specs.Arguments.{isQualified};
+ghost use Rattle.rules.specs.Outcome.{unsound, misused};
+ghost use Rattle.arguments.specs.Sound.{SoundList};
+ghost use Rattle.dli.specs.Refusals.{misusedGet, misusedInsert, misusedHeld};
+
+// 20, 21, 22: the blocks and the position.
+pub fn unsound(cat: &[u8], tab: &[u8], pos: Position) -> Status
+    ensures { λ r. ⌜ r ≡ unsound (now (cat .entry)) (now (tab .entry)) pos ⌝ }
+{
+    if !catalogue::check::is_good(cat) {
+        return Status::CX;
+    }
+    if !table::check::is_good_on(cat, tab) {
+        return Status::TX;
+    }
+    if !position::is_good_on(cat, tab, cell_size(cat), pos) {
+        return Status::PX;
+    }
+    Status::Blank
+}
+
+fn is_absent(p: Parentage) -> bool
+    ensures { λ r. ⌜ r ≡ isAbsent p ⌝ }
+{
+    match p {
+        Parentage::Absent => true,
+        Parentage::Of(_) => false,
+    }
+}
+
+fn is_qualified(q: Qualification) -> bool
+    ensures { λ r. ⌜ r ≡ isQualified q ⌝ }
+{
+    match q {
+        Qualification::None => false,
+        Qualification::Test(_, _, _) => true,
+    }
+}
+
+// Of a get: 28, 12.
+fn misused_get(size: usize, pos: Position, number: u8, area: &[u8]) -> Status
+    requires { ⌜ 1 ≤ size ⌝ }
+    ensures { λ r. ⌜ r ≡ misusedGet size pos number (now (area .entry)) ⌝ }
+{
+    let parentage = pos.parentage;
+    if area.len() < size - 1 {
+        return Status::AB;
+    }
+    if number == 3 {
+        if is_absent(parentage) {
+            return Status::GP;
+        }
+        return Status::Blank;
+    }
+    if number == 6 {
+        if is_absent(parentage) {
+            return Status::GP;
+        }
+    }
+    Status::Blank
+}
+
+// Of ISRT: 27, the other AJ, 28.
+fn misused_insert(cat: &[u8], size: usize, list: &[u8], area: &[u8]) -> Status
+    requires { ⌜ (1 ≤ size) × SoundList (now cat) (now list) ⌝ }
+    ensures { λ r. ⌜ r ≡ misusedInsert (now (cat .entry)) size (now (list .entry)) (now (area .entry)) ⌝ }
+{
+    if list.len() == 0 {
+        return Status::AH;
+    }
+    let q = last_of(cat, list).qualification;
+    if is_qualified(q) {
+        return Status::AJ;
+    }
+    if area.len() < size - 1 {
+        return Status::AB;
+    }
+    Status::Blank
+}
+
+// Of REPL and DLET: the other AJ, 28 (not for DLET), 29.
+fn misused_held(size: usize, pos: Position, number: u8, list: &[u8], area: &[u8]) -> Status
+    requires { ⌜ 1 ≤ size ⌝ }
+    ensures { λ r. ⌜ r ≡ misusedHeld size pos number (now (list .entry)) (now (area .entry)) ⌝ }
+{
+    let hold = pos.hold;
+    if list.len() != 0 {
+        return Status::AJ;
+    }
+    if number == 8 {
+        if area.len() < size - 1 {
+            return Status::AB;
+        }
+    }
+    if !hold {
+        return Status::DJ;
+    }
+    Status::Blank
+}
+
+// 23, list faults, and then what the call of this number looks at.
+pub fn misused_sized(
+    cat: &[u8],
+    size: usize,
+    pos: Position,
+    number: u8,
+    list: &[u8],
+    area: &[u8],
+) -> Status
+    requires { ⌜ size ≡ cellSize (now cat) ⌝ }
+    ensures { λ r. ⌜ r ≡ misused (now (cat .entry)) pos number (now (list .entry)) (now (area .entry)) ⌝ }
+{
+    if number == 0 {
+        return Status::AD;
+    }
+    if 9 < number {
+        return Status::AD;
+    }
+    let f = fault(cat, list);
+    if f.number() != 0 {
+        return f;
+    }
+    if number == 7 {
+        return misused_insert(cat, size, list, area);
+    }
+    if 7 < number {
+        return misused_held(size, pos, number, list, area);
+    }
+    misused_get(size, pos, number, area)
+}
