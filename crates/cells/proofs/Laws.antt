@@ -1,9 +1,10 @@
--- Cells by number in the bytes of the table: where a cell lies, its type, its level. Assumes nothing.
+-- Cells by number in the bytes of the table: where a cell lies, its type, level, data and key; the end of its run, its parent; what a good
+-- table gives to these. Assumes nothing.
 use mathlib.Core.Path.{_≡_, refl, ap, sym, _∙_}
 use mathlib.Core.Bool.{Bool, true, _&&_}
 use mathlib.Core.List.{List, [], _∷_}
 use Prim.Native.Nat.{ℕ, zero, suc, _+_, _-_, _*_, _<_, _≤_}
-use native.Mathlib.Nat.{mul-le-mul-right, add-mul}
+use native.Mathlib.Nat.{mul-le-mul, mul-le-mul-right, add-mul}
 use native.Mathlib.Omega.{arith}
 use lib.Dec.{leb, eqb}
 use lib.ListN.{length, take, drop}
@@ -17,7 +18,7 @@ use Rattle.forest.specs.Forest.{inside, outside, side}
 use Rattle.forest.specs.Good.{both-left, both-right}
 use Rattle.forest.specs.Runs.{under, under-in, under-out}
 use Rattle.forest.specs.Rows.{back, back-in, back-out}
-use Rattle.forest.specs.Numbers.{range, downTo, ancestors, run}
+use Rattle.forest.specs.Numbers.{range, downTo}
 use Rattle.rules.specs.Block.{Bytes, byte, part, every, zeros, marked}
 use Rattle.rules.specs.Catalogue.{lengthOf, keyStart, keyLength, level, isType, goodCatalogue}
 use Rattle.rules.specs.Cells.{Segment, segment, segmentOf, key, keyOrder, levelAt, runAt, endAt, goodListing}
@@ -38,13 +39,14 @@ module _ (cat tab : Bytes) (i : ℕ) (l : i < count tab) where
   unfolding levelAt
   level-of = ap (level cat) type-of
 
--- the bytes from `at + k` on, as the bytes k, counted from 1, of the L data bytes of a cell that begins at `at`
+-- a part of the first L bytes, where it lies within them
 part-part : (n k L : ℕ) (xs : Bytes) → k + n ≤ L → take n (drop k (take L xs)) ≡ take n (drop k xs)
 part-part n zero L xs h = take-take n L xs (omega arith)
 part-part n (suc k) zero xs h = absurd (omega arith)
 part-part n (suc k) (suc L) [] h = refl
 part-part n (suc k) (suc L) (x ∷ xs) h = part-part n k L xs (omega arith)
 
+-- n bytes from byte `at + k` on are those from data byte k on, counted from 1, of a cell that begins at `at` and has L of them
 part-in : (at k n L : ℕ) (tab : Bytes) → k + n ≤ suc L → (k ≡ 0 → n ≡ 0) → part tab (at + k) n ≡ part (take L (drop (suc at) tab)) (k - 1) n
 part-in at zero n L tab h z = let e : n ≡ 0 = z refl in rw e
 part-in at (suc k) n L tab h z =
@@ -64,6 +66,12 @@ module _ {cat tab : Bytes} {size : ℕ} (s : Sized cat tab size) (i : ℕ) where
   cell-in l =
       let m : (i + 1) * size ≤ count tab * size = mul-le-mul-right size (omega arith) in
       omega (arith, add-mul i 1 size, s .within)
+
+  -- no cell begins far up: at most 4,096 cells of at most 121 bytes stand before it
+  pub start-small : i ≤ count tab → i * size ≤ 495616
+  start-small l =
+      let m : i * size ≤ 4096 * 121 = mul-le-mul {n₂ = 4096} (omega (arith, s .few)) (s .narrow) in
+      omega arith
 
 module _ {cat tab : Bytes} {size : ℕ} (s : Sized cat tab size) (i : ℕ) (l : i < count tab) where
   -- the first byte of a cell is its type
@@ -197,7 +205,7 @@ module _ (cat : Bytes) (cs : List Segment) (i : ℕ) where
   unfolding parentAt
   parent-before p e = nearest-before (levelAt cat cs) p (levelAt cat cs i) i e
 
--- what a good table gives: "the slice is exactly 8 + M·C bytes", "M from 0 to 4,096", "byte 5 the cell size C", "n is at most M"
+-- what a good table says of its room: "the slice is exactly 8 + M·C bytes", "M from 0 to 4,096", "byte 5 the cell size C", "n is at most M"
 pub record Housed (cat tab : Bytes) : Type 0 where
   pub whole : length tab ≡ 8 + room cat tab * cellSize cat
   pub most : room cat tab ≤ 4096
@@ -223,15 +231,15 @@ module _ (cat tab : Bytes) (h : goodTable cat tab ≡ true) where
         few = leb-true (count tab) (room cat tab) (p .2);
       }
 
-  pub good-sized : goodCatalogue cat ≡ true → Sized cat tab (cellSize cat)
-  unfolding cellSize
-  good-sized g =
-      let o = good-housed in
-      let m : count tab * cellSize cat ≤ room cat tab * cellSize cat = mul-le-mul-right (cellSize cat) (o .few) in
-      record {
-        is = refl;
-        some = omega (arith, largest-some cat g);
-        narrow = omega (arith, largest-few cat g);
-        few = omega (arith, o .few, o .most);
-        within = omega (arith, o .whole);
-      }
+pub good-sized : (cat tab : Bytes) → goodCatalogue cat ≡ true → goodTable cat tab ≡ true → Sized cat tab (cellSize cat)
+unfolding cellSize
+good-sized cat tab g h =
+    let o = good-housed cat tab h in
+    let m : count tab * cellSize cat ≤ room cat tab * cellSize cat = mul-le-mul-right (cellSize cat) (o .few) in
+    record {
+      is = refl;
+      some = omega (arith, largest-some cat g);
+      narrow = omega (arith, largest-few cat g);
+      few = omega (arith, o .few, o .most);
+      within = omega (arith, o .whole);
+    }

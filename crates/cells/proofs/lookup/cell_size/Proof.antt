@@ -1,5 +1,4 @@
 use Rattle.rules.specs.Table.{cellSize}
-use mathlib.Core.Path.{_≡_, ap, sym, _∙_}
 use native.Mathlib.Omega.{arith}
 use borrow.Author.Needs.{needs}
 use Rattle.cells.proofs.lookup.cell_size.Statement.{statement}

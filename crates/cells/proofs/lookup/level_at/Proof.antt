@@ -1,4 +1,4 @@
-use mathlib.Core.Path.{_≡_, ap, _∙_}
+use mathlib.Core.Path.{ap, _∙_}
 use Rattle.rules.specs.Catalogue.{level}
 use Rattle.rules.specs.Cells.{levelAt}
 use borrow.Author.Needs.{needs}

@@ -32,6 +32,6 @@ pub +climb-spec : {M : Type 1} → statement M
     (λ c. climb-none _ _ _ _ (c .if1 .taken))
     (λ c. omega arith)
     (λ c κs. (c .before .before .before .pre .1 .0, omega (arith, c .before .before .before .pre .1 .1)))
-    (λ c. climb-here _ _ _ _ _ (c .before .before .if1 .left) (c .before .level-at .ensures) (c .if2 .taken))
+    (λ c. climb-here _ _ _ _ _ (c .before .before .if1 .left) (c .before .level-at .ensures) (omega arith))
     (λ c κs. (omega arith, (c .before .before .before .before .before .pre .1 .0, omega (arith, c .before .before .before .before .before .pre .1 .1))))
-    (λ c. c .climb .ensures ∙ climb-more _ _ _ _ _ (c .before .before .before .if1 .left) (c .before .before .level-at .ensures) (c .before .if2 .left))
+    (λ c. c .climb .ensures ∙ climb-more _ _ _ _ _ (c .before .before .before .if1 .left) (c .before .before .level-at .ensures) (omega arith))

@@ -32,8 +32,8 @@ pub +end-from-spec : {M : Type 1} → statement M
     end-from.Post
     (λ c. end-none _ _ _ _ _ (c .if1 .taken))
     (λ c κs. (c .before .before .before .pre .1 .0, omega (arith, c .before .before .before .pre .1 .1)))
-    (λ c. end-here _ _ _ _ _ _ (c .before .level-at .ensures) (c .if2 .taken))
+    (λ c. end-here _ _ _ _ _ _ (c .before .level-at .ensures) (omega arith))
     (λ c. omega (arith, c .before .before .before .before .before .pre .1 .1, c .before .before .before .before .before .pre .1 .0 .few))
     (λ c. omega arith)
     (λ c κs. (omega arith, (c .before .before .before .before .before .pre .1 .0, omega (arith, c .before .before .before .before .before .pre .1 .1))))
-    (λ c. c .end-from .ensures ∙ end-more _ _ _ _ _ _ (c .before .before .before .if1 .left) (c .before .before .level-at .ensures) (c .before .if2 .left))
+    (λ c. c .end-from .ensures ∙ end-more _ _ _ _ _ _ (c .before .before .before .if1 .left) (c .before .before .level-at .ensures) (omega arith))
