@@ -8,7 +8,7 @@
   prove.py shorten PROOF.antt ..       put each answer into the last declaration, and drop what that leaves unused
 
 FUNCTION is the folder below crates/CRATE/proofs/. docs/PROVING.md says what an answer is and shows one worked example.
-None of this is a verdict: that is `make test`.
+With KEEP set, `paths` and `fill` read what the last run generated instead of generating it again. None of this is a verdict: that is `make test`.
 """
 import os
 import re
@@ -106,9 +106,9 @@ class Places:
 def places_of(crate, function):
     """By member of a cycle of calls ('' outside one), the places of a function."""
     room = os.path.join(os.environ.get("GEN") or tempfile.gettempdir(), "rt-generated", crate)
-    if not os.environ.get("KEEP"):
-        rt_dev(crate, "--generated", room)
     folder = f"{room}/Rattle.{crate}.proofs/proofs/{function}"
+    if not (os.environ.get("KEEP") and os.path.isdir(folder)):
+        rt_dev(crate, "--generated", room)
     found = {}
     for name in sorted(os.listdir(folder)):
         lts = re.match(r"Lts(?:-(\S+))?\.antt$", name)

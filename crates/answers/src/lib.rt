@@ -1,4 +1,4 @@
-// The answers that change nothing, and the area's front.
+// What a call answers where it changes nothing, and what it tells of a segment.
 use catalogue::entries::data_length;
 use catalogue::lineage::level;
 use terms::Answer;
@@ -6,10 +6,8 @@ use terms::Position;
 use terms::Status;
 use terms::TypeCode;
 ghost use mathlib.Core.Path.{_≡_};
-ghost use Prim.Native.Nat.{_≤_};
-ghost use lib.ListN.{length};
-ghost use Rattle.rules.specs.Calls.{bare, afterMiss, over};
-ghost use Rattle.dli.specs.Ready.{stoppedAnswer, told};
+ghost use Rattle.rules.specs.Calls.{bare, afterMiss};
+ghost use Rattle.answers.specs.Told.{stoppedAnswer, told};
 
 // "For status 10 and above all four are 0."
 pub fn bare(s: Status, p: Position) -> Answer
@@ -53,17 +51,5 @@ pub fn told(cat: &[u8], s: Status, p: Position, t: TypeCode, removed: usize) -> 
         level: level(cat, t),
         length: data_length(cat, t),
         removed: removed,
-    }
-}
-
-// "writes its L bytes to the front of the area; the area's other bytes stay"
-pub fn put_front(bytes: &[u8], area: &mut [u8])
-    requires { ⌜ length (now bytes) ≤ length (now area) ⌝ }
-    ensures { λ _. ⌜ now (area .exit) ≡ over (now (bytes .entry)) (now (area .entry)) ⌝ }
-{
-    let mut i = 0;
-    while i < bytes.len() {
-        area[i] = bytes[i];
-        i += 1;
     }
 }
