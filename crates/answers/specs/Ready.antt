@@ -1,0 +1,60 @@
+-- What the calls ask of blocks, position, list and area once these have been tested. Assumes nothing: these are definitions.
+use mathlib.Core.Path.{_≡_}
+use mathlib.Core.Bool.{Bool, true}
+use mathlib.Core.Option.{none}
+use mathlib.Core.List.{List}
+use Prim.Native.Nat.{ℕ}
+use lib.Dec.{leb, eqb}
+use lib.ListN.{length}
+use Rattle.terms.specs.declared.TypeCode.{TypeCode}
+use Rattle.terms.specs.declared.Position.{Position}
+use Rattle.terms.specs.declared.Parentage.{Parentage}
+use Rattle.terms.specs.declared.Status.{Status}
+use Rattle.terms.specs.declared.Status.the-variants.{Blank, GB, GE}
+use Rattle.terms.specs.declared.Answer.{Answer}
+use Rattle.terms.specs.Choice.{pick}
+use Rattle.terms.specs.Statuses.{number}
+use Rattle.terms.specs.Moves.{movedOnto}
+use Rattle.rules.specs.Block.{Bytes}
+use Rattle.rules.specs.Catalogue.{goodCatalogue, lengthOf, level}
+use Rattle.rules.specs.Table.{goodTable, listing}
+use Rattle.rules.specs.Cells.{Segment, segment}
+use Rattle.rules.specs.Position.{goodPosition}
+use Rattle.rules.specs.Arguments.{listRead}
+use Rattle.rules.specs.Calls.{After, bare, afterMiss, over, answerOf}
+use Rattle.rules.specs.Outcome.{Outcome}
+use Rattle.cells.specs.Sound.{Sound}
+
+abbrev pub made : Answer → Bytes → Bytes → Outcome
+made r tab area = record { answer = r; table = tab; area = area }
+
+-- the blocks and the position that a check accepts, and that calls keep so
+pub record SoundFor (cat tab : Bytes) (pos : Position) : Type 0 where
+  pub catalogue : goodCatalogue cat ≡ true
+  pub table : goodTable cat tab ≡ true
+  pub position : goodPosition cat (listing cat tab) pos ≡ true
+
+-- the same with the cell size, and a list without fault
+pub record Ready (cat tab : Bytes) (size : ℕ) (pos : Position) (list : Bytes) : Type 0 where
+  pub sound : Sound cat tab size
+  pub position : goodPosition cat (listing cat tab) pos ≡ true
+  pub asked : listRead cat list .fault ≡ Blank
+
+-- a place on a cell that is held
+pub record Held (cat tab : Bytes) (size : ℕ) (pos : Position) : Type 0 where
+  pub sound : Sound cat tab size
+  pub position : goodPosition cat (listing cat tab) pos ≡ true
+  pub hold : pos .hold ≡ true
+
+-- what a get leaves: its answer and the area; the cells stay
+abbrev pub left : Answer → Bytes → After
+left r area = record { answer = r; cells = none; area = area }
+
+-- a get that found cell i
+abbrev pub gotAt : Bytes → List Segment → Status → Parentage → Bool → ℕ → Bytes → After
+gotAt cat cs s parentage hold i area =
+    left (answerOf cat s (movedOnto i parentage hold) (segment cs i) 0) (over (segment cs i .bytes) area)
+
+-- GB for an empty list, GE for another
+abbrev pub missedStatus : Bytes → Status
+missedStatus list = pick (eqb (length list) 0) GB GE

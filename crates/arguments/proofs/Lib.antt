@@ -1,0 +1,6 @@
+pub mod Branches
+pub mod Rest
+pub mod Walk
+pub mod Above
+pub mod Sound
+pub mod Complete

@@ -1,0 +1,109 @@
+-- A sound list walked from the left: what is wanted of a type, and the last argument. Assumes nothing.
+use mathlib.Core.Path.{_≡_, refl, ap, sym, _∙_}
+use mathlib.Core.List.{List, [], _∷_}
+use Prim.Native.Nat.{ℕ, _+_, _<_, _≤_}
+use lib.ListN.{length}
+use borrow.Author.Tests.{eq-eqb, ne-eqb}
+use Rattle.terms.specs.declared.TypeCode.{TypeCode}
+use Rattle.terms.specs.declared.Argument.{Argument}
+use Rattle.terms.specs.declared.Qualification.{Qualification}
+use Rattle.terms.specs.declared.Qualification.the-variants.{None}
+use Rattle.terms.specs.declared.Status.the-variants.{Blank}
+use Rattle.terms.specs.Names.{code}
+use Rattle.rules.specs.Block.{Bytes, byte}
+use Rattle.rules.specs.Arguments.{ListRead, listRead, lastArgument}
+use Rattle.arguments.specs.declared.Wanted.the-variants.{Implied, Named}
+use Rattle.arguments.specs.Sound.{SoundList, rest, qualificationAt, nextAt, untested, Room, wantedOf}
+use Rattle.arguments.proofs.Rest.{rest-whole, rest-end, step, step-rest, step-fault}
+
+pub wanted-here : (a : Argument) (ar : List Argument) (t : TypeCode) → a .code .0 ≡ t .0 → wantedOf (a ∷ ar) t ≡ Named (a .qualification)
+unfolding wantedOf
+wanted-here a ar t e = rw (wantedOf, eq-eqb (a .code .0) (t .0) e)
+
+pub wanted-next : (a : Argument) (ar : List Argument) (t : TypeCode) → (a .code .0 ≡ t .0 → ⊥) → wantedOf (a ∷ ar) t ≡ wantedOf ar t
+unfolding wantedOf
+wanted-next a ar t n = rw (wantedOf, ne-eqb (a .code .0) (t .0) n)
+
+-- the walk has come to byte `at`, behind an argument of type `before`, and has not met t
+pub record Sought (cat list : Bytes) (t : TypeCode) (at : ℕ) : Type 0 where
+  pub before : TypeCode
+  pub sound : rest cat list before at .fault ≡ Blank
+  pub same : wantedOf (rest cat list before at .arguments) t ≡ wantedOf (listRead cat list .arguments) t
+
+module _ (cat list : Bytes) (t : TypeCode) where
+  pub sought-start : SoundList cat list → Sought cat list t 0
+  sought-start s = record {
+    before = code 0;
+    sound = ap (λ (l : ListRead). l .fault) (rest-whole cat list) ∙ s .read;
+    same = ap (λ (l : ListRead). wantedOf (l .arguments) t) (rest-whole cat list);
+  }
+
+  module _ (at : ℕ) where
+    pub sought-end : length list ≤ at → Sought cat list t at → Implied ≡ wantedOf (listRead cat list .arguments) t
+    unfolding wantedOf
+    sought-end h w = sym (ap (λ (l : ListRead). wantedOf (l .arguments) t) (rest-end cat list (w .before) at h)) ∙ w .same
+
+    module _ (h : at < length list) (w : Sought cat list t at) where
+      taken : wantedOf (untested cat list at ∷ rest cat list (code (byte list at)) (nextAt cat list at) .arguments) t ≡ wantedOf (listRead cat list .arguments) t
+      taken = sym (ap (λ (l : ListRead). wantedOf (l .arguments) t) (step-rest cat list (w .before) at h (w .sound))) ∙ w .same
+
+      pub sought-room : Room list at
+      sought-room = step cat list (w .before) at h (w .sound) .room
+
+      pub sought-onward : at + 2 ≤ nextAt cat list at
+      sought-onward = step cat list (w .before) at h (w .sound) .onward
+
+      pub sought-here : {q : Qualification} → byte list at ≡ t .0 → q ≡ qualificationAt list at → Named q ≡ wantedOf (listRead cat list .arguments) t
+      sought-here e f = ap Named f ∙ sym (wanted-here (untested cat list at) (rest cat list (code (byte list at)) (nextAt cat list at) .arguments) t e) ∙ taken
+
+      pub sought-next : {n : ℕ} → (byte list at ≡ t .0 → ⊥) → n ≡ nextAt cat list at → Sought cat list t n
+      sought-next d e = rw e (record {
+        before = code (byte list at);
+        sound = step-fault cat list (w .before) at h (w .sound);
+        same = sym (wanted-next (untested cat list at) (rest cat list (code (byte list at)) (nextAt cat list at) .arguments) t d) ∙ taken;
+      })
+
+-- the last of these arguments; a, where there is none
+abbrev pub lastOr : Argument → List Argument → Argument
+lastOr a [] = a
+lastOr a (b ∷ ar) = lastOr b ar
+
+abbrev pub noArgument : Argument
+noArgument = record { code = code 0; qualification = None; next = 0 }
+
+last-or : (a : Argument) (ar : List Argument) → lastArgument (a ∷ ar) ≡ lastOr a ar
+last-or a [] = refl
+last-or a (b ∷ ar) = last-or b ar
+
+pub last-first : (ar : List Argument) → lastOr noArgument ar ≡ lastArgument ar
+last-first [] = refl
+last-first (a ∷ ar) = sym (last-or a ar)
+
+-- the walk has come behind this argument
+pub record Passed (cat list : Bytes) (a : Argument) : Type 0 where
+  pub sound : rest cat list (a .code) (a .next) .fault ≡ Blank
+  pub same : lastOr a (rest cat list (a .code) (a .next) .arguments) ≡ lastArgument (listRead cat list .arguments)
+
+module _ (cat list : Bytes) where
+  pub passed-start : SoundList cat list → Passed cat list noArgument
+  passed-start s = record {
+    sound = ap (λ (l : ListRead). l .fault) (rest-whole cat list) ∙ s .read;
+    same = ap (λ (l : ListRead). lastOr noArgument (l .arguments)) (rest-whole cat list) ∙ last-first (listRead cat list .arguments);
+  }
+
+  module _ (a : Argument) where
+    pub passed-end : length list ≤ a .next → Passed cat list a → a ≡ lastArgument (listRead cat list .arguments)
+    passed-end h p = sym (ap (λ (l : ListRead). lastOr a (l .arguments)) (rest-end cat list (a .code) (a .next) h)) ∙ p .same
+
+    module _ (h : a .next < length list) (p : Passed cat list a) where
+      pub passed-room : Room list (a .next)
+      passed-room = step cat list (a .code) (a .next) h (p .sound) .room
+
+      pub passed-onward : a .next + 2 ≤ nextAt cat list (a .next)
+      passed-onward = step cat list (a .code) (a .next) h (p .sound) .onward
+
+      pub passed-next : {b : Argument} → b ≡ untested cat list (a .next) → Passed cat list b
+      passed-next e = rw e (record {
+        sound = step-fault cat list (a .code) (a .next) h (p .sound);
+        same = sym (ap (λ (l : ListRead). lastOr a (l .arguments)) (step-rest cat list (a .code) (a .next) h (p .sound))) ∙ p .same;
+      })

@@ -1,0 +1,128 @@
+// "The list is read from the left, one argument at a time, and the first fault answers."
+use blocks::wide;
+use catalogue::entries::field_length;
+use catalogue::entries::field_type;
+use catalogue::entries::fields;
+use catalogue::lineage::is_beneath;
+use catalogue::lineage::is_type;
+use terms::Argument;
+use terms::ArgumentRead;
+use terms::FieldNumber;
+use terms::Operator;
+use terms::Qualification;
+use terms::Status;
+use terms::TypeCode;
+ghost use mathlib.Core.Path.{_≡_};
+ghost use mathlib.Core.List.{[]};
+ghost use Rattle.rules.specs.Arguments.{operatorOf, goodNext, isFieldOf, argumentAt, listRead};
+ghost use Rattle.arguments.specs.Sound.{statusOf};
+
+// "1 =, 2 ≠, 3 <, 4 ≤, 5 >, 6 ≥". A list with another has answered AJ before this is asked.
+pub fn operator_of(b: u8) -> Operator
+    ensures { λ r. ⌜ r ≡ operatorOf b ⌝ }
+{
+    match b {
+        1 => Operator::Eq,
+        2 => Operator::Ne,
+        3 => Operator::Lt,
+        4 => Operator::Le,
+        5 => Operator::Gt,
+        _ => Operator::Ge,
+    }
+}
+
+// "type not in 1..T, or not beneath the type before it" is what this denies; 0 where no type is before it. Of the list it asks nothing.
+fn is_next(cat: &[u8], before: TypeCode, t: TypeCode) -> bool
+    ensures { λ r. ⌜ r ≡ goodNext (now (cat .entry)) [] before t ⌝ }
+{
+    if !is_type(cat, t) {
+        return false;
+    }
+    if before.0 == 0 {
+        return true;
+    }
+    is_beneath(cat, t, before)
+}
+
+// "not in 1..F or of another type" is what this denies. Of the list it asks nothing.
+fn is_field_of(cat: &[u8], t: TypeCode, f: FieldNumber) -> bool
+    ensures { λ r. ⌜ r ≡ isFieldOf (now (cat .entry)) [] t f ⌝ }
+{
+    if f.0 == 0 {
+        return false;
+    }
+    if fields(cat) < f.0 {
+        return false;
+    }
+    field_type(cat, f).0 == t.0
+}
+
+// The argument that begins at byte `at`. Past the end of the list there is no type.
+pub fn read_argument(cat: &[u8], list: &[u8], before: TypeCode, at: usize) -> ArgumentRead
+    ensures { λ r. ⌜ r ≡ argumentAt (now (cat .entry)) (now (list .entry)) before at ⌝ }
+{
+    if list.len() <= at {
+        return ArgumentRead::Fault(Status::AC);
+    }
+    let t = TypeCode(list[at]);
+    if !is_next(cat, before, t) {
+        return ArgumentRead::Fault(Status::AC);
+    }
+    if list.len() <= at + 1 {
+        return ArgumentRead::Fault(Status::AJ);
+    }
+    let o = list[at + 1];
+    if o == 0 {
+        return ArgumentRead::Got(Argument {
+            code: t,
+            qualification: Qualification::None,
+            next: at + 2,
+        });
+    }
+    if 6 < o {
+        return ArgumentRead::Fault(Status::AJ);
+    }
+    if list.len() <= at + 2 {
+        return ArgumentRead::Fault(Status::AJ);
+    }
+    let f = FieldNumber(list[at + 2]);
+    if !is_field_of(cat, t, f) {
+        return ArgumentRead::Fault(Status::AK);
+    }
+    let next = at + 3 + wide(field_length(cat, f));
+    if list.len() < next {
+        return ArgumentRead::Fault(Status::AJ);
+    }
+    ArgumentRead::Got(Argument {
+        code: t,
+        qualification: Qualification::Test(operator_of(o), f, at + 3),
+        next: next,
+    })
+}
+
+// What a fault answers.
+fn status_of(read: ArgumentRead) -> Status
+    ensures { λ r. ⌜ r ≡ statusOf read ⌝ }
+{
+    match read {
+        ArgumentRead::Got(_) => Status::Blank,
+        ArgumentRead::Fault(s) => s,
+    }
+}
+
+// "the first fault answers"; Blank, if there is none.
+pub fn fault(cat: &[u8], list: &[u8]) -> Status
+    ensures { λ r. ⌜ r ≡ listRead (now (cat .entry)) (now (list .entry)) .fault ⌝ }
+{
+    let mut before = TypeCode(0);
+    let mut at = 0;
+    while at < list.len() {
+        let read = read_argument(cat, list, before, at);
+        let ArgumentRead::Got(a) = read else {
+            return status_of(read);
+        };
+        before = a.code;
+        at = a.next;
+    }
+    Status::Blank
+}

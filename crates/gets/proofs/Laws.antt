@@ -1,0 +1,188 @@
+-- The gets, branch by branch: what was found or not, and its status. Assumes nothing.
+use mathlib.Core.Path.{_≡_, refl, ap, sym, _∙_}
+use mathlib.Core.Bool.{Bool, true, false, _&&_, not}
+use mathlib.Core.List.{List, [], _∷_, _++_}
+use Prim.Native.Nat.{ℕ, suc, _+_, _-_, _*_, _<_, _≤_}
+use native.Mathlib.Omega.{arith}
+use lib.Dec.{ltb, eqb}
+use lib.ListN.{length, take, drop}
+use borrow.Author.Tests.{lt-ltb, le-ltb, eq-eqb, ne-eqb, eqb-true, eqb-false}
+use Rattle.terms.specs.declared.TypeCode.{TypeCode}
+use Rattle.terms.specs.declared.CellNumber.{CellNumber}
+use Rattle.terms.specs.declared.Place.{Place}
+use Rattle.terms.specs.declared.Place.the-variants.{On, Before}
+use Rattle.terms.specs.declared.Parentage.{Parentage}
+use Rattle.terms.specs.declared.Parentage.the-variants.{Absent, Of}
+use Rattle.terms.specs.declared.Position.{Position}
+use Rattle.terms.specs.declared.Status.{Status}
+use Rattle.terms.specs.declared.Status.the-variants.{Blank, GA, GK, GB, GE}
+use Rattle.terms.specs.declared.Answer.{Answer}
+use Rattle.terms.specs.declared.Found.{Found}
+use Rattle.terms.specs.declared.Found.the-variants.{At, Nothing}
+use Rattle.terms.specs.Choice.{pick}
+use Rattle.terms.specs.Names.{sameType}
+use Rattle.terms.specs.Moves.{afterPlace, isAbsent, movedOnto}
+use Rattle.rules.specs.Block.{Bytes}
+use Rattle.rules.specs.Catalogue.{lengthOf, isType, level}
+use Rattle.rules.specs.Cells.{Segment, segment, long as segmentLong, levelAt, endAt}
+use Rattle.rules.specs.Table.{count, listing}
+use Rattle.rules.specs.Arguments.{Level, ListRead, listRead, lastArgument, complete, getLevels}
+use Rattle.rules.specs.Matching.{firstMatch, along}
+use Rattle.rules.specs.Calls.{bare, afterMiss, answerOf, missStatus, levelStatus, getUnique, getNext, getNextWithin}
+use Rattle.catalogue.proofs.Hierarchy.{type-range, cell-holds, level-least}
+use Rattle.cells.specs.Sound.{Sound}
+use Rattle.cells.proofs.Laws.{type-of, bytes-of}
+use Rattle.arguments.specs.Sound.{SoundList}
+use Rattle.arguments.proofs.Sound.{list-empty, last-asks}
+use Rattle.arguments.proofs.Complete.{complete-length}
+use Rattle.image.proofs.Bytes.{table-known}
+use Rattle.search.specs.Good.{Good}
+use Rattle.search.proofs.Laws.{known-last}
+use Rattle.search.proofs.Levels.{get-levels}
+use Rattle.answers.specs.Told.{told}
+use Rattle.answers.specs.Ready.{Ready, left, gotAt, missedStatus}
+
+-- a cell's data lies within the cell
+pub data-fits : {cat tab : Bytes} {size : ℕ} → Sound cat tab size → (i : ℕ) → i < count tab → suc (lengthOf cat (segment (listing cat tab) i .code)) ≤ size
+data-fits {cat} {tab} {size} s i l =
+    let k : isType cat (segment (listing cat tab) i .code) ≡ true = rw (type-of cat tab i l) (table-known cat tab (s .table) i l) in
+    let r = type-range cat (segment (listing cat tab) i .code) k in
+    omega (arith, cell-holds cat (s .catalogue) (segment (listing cat tab) i .code) (r .0) (r .1), s .sized .is)
+
+-- what a get writes and answers, once cell i is found: `from` are the bytes that are put over the front of the area
+pub got-is : {cat tab : Bytes} {size : ℕ} → Sound cat tab size → (i : ℕ) → i < count tab → (s : Status) (parentage : Parentage) (hold : Bool) (area out : Bytes) (r : Answer)
+    (p : Position) (t : TypeCode) (start long : ℕ) → start ≡ 9 + i * size → long ≡ lengthOf cat t → t ≡ segment (listing cat tab) i .code
+    → p ≡ movedOnto i parentage hold → r ≡ told cat s p t 0
+    → out ≡ take (start + long - start) (drop start tab) ++ drop (length (take (start + long - start) (drop start tab))) area
+    → left r out ≡ gotAt cat (listing cat tab) s parentage hold i area
+unfolding told answerOf segmentLong
+got-is {cat} {tab} {size} snd i l s parentage hold area out r p t start long e f g h k o =
+    let n : start + long - start ≡ lengthOf cat (segment (listing cat tab) i .code) = omega (arith, f ∙ ap (lengthOf cat) g) in
+    let m : start ≡ suc (8 + i * size) = omega arith in
+    let b : take (start + long - start) (drop start tab) ≡ segment (listing cat tab) i .bytes =
+    ap (λ (x : ℕ). take x (drop start tab)) n ∙ ap (λ (x : ℕ). take (lengthOf cat (segment (listing cat tab) i .code)) (drop x tab)) m ∙ sym (bytes-of (snd .sized) i l) in
+    rw (o, b, k, h, g)
+
+module _ {cat tab : Bytes} {size : ℕ} {pos : Position} {list : Bytes} (r : Ready cat tab size pos list) where
+  abbrev cs : List Segment
+  cs = listing cat tab
+
+  abbrev ls : List Level
+  ls = getLevels cat list (listRead cat list .arguments)
+
+  abbrev last : TypeCode
+  last = lastArgument (listRead cat list .arguments) .code
+
+  sound-list : SoundList cat list
+  sound-list = record { catalogue = r .sound .catalogue; read = r .asked }
+
+  pub search-good : (t : TypeCode) → t ≡ last → Good cat tab list size t
+  search-good t e = record {
+    catalogue = r .sound .catalogue;
+    table = r .sound .table;
+    sized = r .sound .sized;
+    sound = r .asked;
+    known = rw e (known-last cat list sound-list);
+  }
+
+  levels-same : (t : TypeCode) → t ≡ last → complete cat list (listRead cat list .arguments) t ≡ ls
+  levels-same t e = rw e (sym (get-levels cat list (listRead cat list .arguments)))
+
+  levels-none : length list ≡ 0 → ls ≡ []
+  levels-none e = ap (λ (l : ListRead). getLevels cat list (l .arguments)) (list-empty cat list e)
+
+  levels-some : (length list ≡ 0 → ⊥) → 0 < length ls
+  levels-some n =
+      let a = last-asks cat list sound-list (omega arith) in
+      let k = type-range cat last (a .type) in
+      omega (
+        arith,
+        ap length (get-levels cat list (listRead cat list .arguments)),
+        complete-length cat list (listRead cat list .arguments) last,
+        level-least cat (r .sound .catalogue) last (k .0) (k .1),
+      )
+
+  miss-filled : (m : List Level) → 0 < length m → missStatus m ≡ GE
+  miss-filled [] h = absurd (omega arith)
+  miss-filled (l ∷ m) h = refl
+
+  status-filled : (m : List Level) (q : Place) (i : ℕ) → 0 < length m → levelStatus cat cs m q i ≡ Blank
+  status-filled [] q i h = absurd (omega arith)
+  status-filled (l ∷ m) q i h = refl
+
+  pub miss-status : missedStatus list ≡ missStatus ls
+  miss-status = go (eqb (length list) 0) refl
+    where
+      go : (b : Bool) → eqb (length list) 0 ≡ b → missedStatus list ≡ missStatus ls
+      go true e = rw (e, levels-none (eqb-true (length list) 0 e))
+      go false e = rw e (sym (miss-filled ls (levels-some (eqb-false (length list) 0 e))))
+
+  module _ (i : ℕ) where
+    pub status-named : (length list ≡ 0 → ⊥) → Blank ≡ levelStatus cat cs ls (pos .place) i
+    status-named n = sym (status-filled ls (pos .place) i (levels-some n))
+
+    pub status-gap : (q : CellNumber) → length list ≡ 0 → pos .place ≡ Before q → Blank ≡ levelStatus cat cs ls (pos .place) i
+    status-gap q e f = rw (levels-none e, f)
+
+    module _ (q : CellNumber) (was here : ℕ) (e : length list ≡ 0) (f : pos .place ≡ On q) (w : was ≡ levelAt cat cs (q .0)) (h : here ≡ levelAt cat cs i) where
+      pub status-less : here < was → GA ≡ levelStatus cat cs ls (pos .place) i
+      status-less l = rw (levels-none e, f, lt-ltb (levelAt cat cs i) (levelAt cat cs (q .0)) (omega arith))
+
+      pub status-more : was < here → Blank ≡ levelStatus cat cs ls (pos .place) i
+      status-more l = rw (levels-none e, f, le-ltb (levelAt cat cs i) (levelAt cat cs (q .0)) (omega arith), ne-eqb (levelAt cat cs i) (levelAt cat cs (q .0)) (λ z. omega arith))
+
+      module _ (s : here ≡ was) (t u : TypeCode) (x : t ≡ segment cs i .code) (y : u ≡ segment cs (q .0) .code) where
+        level-same : levelStatus cat cs ls (pos .place) i ≡ pick (not (sameType t u)) GK Blank
+        level-same =
+            rw (
+              levels-none e,
+              f,
+              le-ltb (levelAt cat cs i) (levelAt cat cs (q .0)) (omega arith),
+              eq-eqb (levelAt cat cs i) (levelAt cat cs (q .0)) (omega arith),
+              x,
+              y,
+            )
+
+        pub status-twin : t .0 ≡ u .0 → Blank ≡ levelStatus cat cs ls (pos .place) i
+        status-twin z = rw (level-same, eq-eqb (t .0) (u .0) z)
+
+        pub status-other : (t .0 ≡ u .0 → ⊥) → GK ≡ levelStatus cat cs ls (pos .place) i
+        status-other z = rw (level-same, ne-eqb (t .0) (u .0) z)
+
+  module _ (area : Bytes) (hold : Bool) (t : TypeCode) (found : Found) (te : t ≡ last) where
+    module _ (e : found ≡ along cat cs (complete cat list (listRead cat list .arguments) t) (pos .place)) where
+      along-is : along cat cs ls (pos .place) ≡ found
+      along-is = ap (λ (l : List Level). along cat cs l (pos .place)) (sym (levels-same t te)) ∙ sym e
+
+      pub unique-found : (c : CellNumber) → found ≡ At c → gotAt cat cs Blank (Of c) hold (c .0) area ≡ getUnique cat cs pos area hold ls
+      unfolding getUnique
+      unique-found c f = rw (along-is ∙ f)
+
+      pub unique-missed : found ≡ Nothing → left (bare GE (afterMiss GE pos)) area ≡ getUnique cat cs pos area hold ls
+      unfolding getUnique
+      unique-missed f = rw (along-is ∙ f)
+
+    module _ (from : ℕ) (fe : from ≡ afterPlace (pos .place)) (to : ℕ) (e : found ≡ firstMatch cat cs (complete cat list (listRead cat list .arguments) t) from to) where
+      first-is : firstMatch cat cs ls (afterPlace (pos .place)) to ≡ found
+      first-is = ap (λ (l : List Level). firstMatch cat cs l (afterPlace (pos .place)) to) (sym (levels-same t te)) ∙ ap (λ (n : ℕ). firstMatch cat cs (complete cat list (listRead cat list .arguments) t) n to) (sym fe) ∙ sym e
+
+      pub next-found : (c : CellNumber) (s : Status) → to ≡ length cs → found ≡ At c → s ≡ levelStatus cat cs ls (pos .place) (c .0)
+          → gotAt cat cs s (Of c) hold (c .0) area ≡ getNext cat cs pos area hold ls
+      unfolding getNext
+      next-found c s n f z = rw (← n, first-is ∙ f, z)
+
+      pub next-missed : (s : Status) → to ≡ length cs → found ≡ Nothing → s ≡ missedStatus list → left (bare s (afterMiss s pos)) area ≡ getNext cat cs pos area hold ls
+      unfolding getNext
+      next-missed s n f z = rw (← n, first-is ∙ f, z, miss-status)
+
+      pub within-found : (p c : CellNumber) (s : Status) → pos .parentage ≡ Of p → to ≡ endAt cat cs (p .0) → found ≡ At c → s ≡ levelStatus cat cs ls (pos .place) (c .0)
+          → gotAt cat cs s (Of p) hold (c .0) area ≡ getNextWithin cat cs pos area hold ls
+      unfolding getNextWithin
+      within-found p c s x n f z = rw (x, ← n, first-is ∙ f, z)
+
+      pub within-missed : (p : CellNumber) → pos .parentage ≡ Of p → to ≡ endAt cat cs (p .0) → found ≡ Nothing → left (bare GE (afterMiss GE pos)) area ≡ getNextWithin cat cs pos area hold ls
+      unfolding getNextWithin
+      within-missed p x n f = rw (x, ← n, first-is ∙ f)
+
+pub absent-not : (pos : Position) → pos .parentage ≡ Absent → isAbsent (pos .parentage) ≡ false → ⊥
+absent-not pos e h = let z : true ≡ false = rw e at h in let y : _≡_ {A = ℕ} 1 0 = ap (λ (b : Bool). pick b 1 0) z in omega arith

@@ -1,0 +1,189 @@
+// The gets: what is found, the status of it, and the position on it.
+use answers::missed;
+use answers::told;
+use arguments::lookup::last_of;
+use blocks::wide;
+use catalogue::entries::data_length;
+use cells::lookup::code_at;
+use cells::lookup::count;
+use cells::lookup::level_at;
+use cells::runs::run_end;
+use search::along::along;
+use search::forward::first_match;
+use terms::Answer;
+use terms::CellNumber;
+use terms::Found;
+use terms::Parentage;
+use terms::Place;
+use terms::Position;
+use terms::Status;
+use update::moves::put;
+ghost use mathlib.Core.Path.{_≡_};
+ghost use mathlib.Core.Bool.{false};
+ghost use Prim.Native.Nat.{suc, _<_, _≤_};
+ghost use lib.ListN.{length};
+ghost use Rattle.terms.specs.Moves.{afterPlace, isAbsent};
+ghost use Rattle.rules.specs.Table.{count, listing};
+ghost use Rattle.rules.specs.Arguments.{listRead, getLevels};
+ghost use Rattle.rules.specs.Calls.{levelStatus, getUnique, getNext, getNextWithin};
+ghost use Rattle.cells.specs.Sound.{Sound};
+ghost use Rattle.answers.specs.Ready.{Ready, gotAt, left, missedStatus};
+
+// "A get moves onto it and writes its L bytes to the front of the area".
+fn got(
+    cat: &[u8],
+    tab: &[u8],
+    size: usize,
+    c: CellNumber,
+    s: Status,
+    parentage: Parentage,
+    hold: bool,
+    pos: Position,
+    area: &mut [u8],
+) -> Answer
+    requires { ⌜ Sound (now cat) (now tab) size × (c .0 < count (now tab)) × (size ≤ suc (length (now area))) ⌝ }
+    ensures { λ r. ⌜ left r (now (area .exit)) ≡ gotAt (now (cat .entry)) (listing (now (cat .entry)) (now (tab .entry))) s parentage hold (c .0) (now (area .entry)) ⌝ }
+{
+    let t = code_at(cat, tab, size, c);
+    let i = c.0;
+    let start = 9 + i * size;
+    let end = start + wide(data_length(cat, t));
+    put(area, &tab[start..end]);
+    told(cat, s, pos.moved_onto(c, parentage, hold), t, 0)
+}
+
+// The first cell after the place; "from gap i: cell i or later".
+fn after_place(q: Place) -> usize
+    requires { ⌜ afterPlace q ≤ 65536 ⌝ }
+    ensures { λ r. ⌜ r ≡ afterPlace q ⌝ }
+{
+    match q {
+        Place::On(c) => c.0 + 1,
+        Place::Before(c) => c.0,
+    }
+}
+
+// GA, GK or blank, of the cell that a get-next found.
+fn level_status(
+    cat: &[u8],
+    tab: &[u8],
+    size: usize,
+    pos: Position,
+    list: &[u8],
+    c: CellNumber,
+) -> Status
+    requires { ⌜ Ready (now cat) (now tab) size pos (now list) × (c .0 < count (now tab)) ⌝ }
+    ensures { λ r. ⌜ r ≡ levelStatus (now (cat .entry)) (listing (now (cat .entry)) (now (tab .entry))) (getLevels (now (cat .entry)) (now (list .entry)) (listRead (now (cat .entry)) (now (list .entry)) .arguments)) (pos .place) (c .0) ⌝ }
+{
+    if list.len() != 0 {
+        return Status::Blank;
+    }
+    let place = pos.place;
+    let Place::On(q) = place else {
+        return Status::Blank;
+    };
+    let was = level_at(cat, tab, size, q);
+    let now = level_at(cat, tab, size, c);
+    if now < was {
+        return Status::GA;
+    }
+    if was < now {
+        return Status::Blank;
+    }
+    if code_at(cat, tab, size, c).0 == code_at(cat, tab, size, q).0 {
+        return Status::Blank;
+    }
+    Status::GK
+}
+
+// GB: "GN or GHN, empty list, no cell left"
+fn miss_status(list: &[u8]) -> Status
+    ensures { λ r. ⌜ r ≡ missedStatus (now (list .entry)) ⌝ }
+{
+    if list.len() == 0 {
+        return Status::GB;
+    }
+    Status::GE
+}
+
+// "GU: first match in cell order, along the position."
+pub fn get_unique(
+    cat: &[u8],
+    tab: &[u8],
+    size: usize,
+    pos: Position,
+    list: &[u8],
+    area: &mut [u8],
+    hold: bool,
+) -> Answer
+    requires { ⌜ Ready (now cat) (now tab) size pos (now list) × (size ≤ suc (length (now area))) ⌝ }
+    ensures { λ r. ⌜ left r (now (area .exit)) ≡ getUnique (now (cat .entry)) (listing (now (cat .entry)) (now (tab .entry))) pos (now (area .entry)) hold (getLevels (now (cat .entry)) (now (list .entry)) (listRead (now (cat .entry)) (now (list .entry)) .arguments)) ⌝ }
+{
+    let place = pos.place;
+    let t = last_of(cat, list).code;
+    let Found::At(c) = along(cat, tab, size, list, t, place) else {
+        return missed(Status::GE, pos);
+    };
+    got(
+        cat,
+        tab,
+        size,
+        c,
+        Status::Blank,
+        Parentage::Of(c),
+        hold,
+        pos,
+        area,
+    )
+}
+
+// "GN: first match after the place"
+pub fn get_next(
+    cat: &[u8],
+    tab: &[u8],
+    size: usize,
+    pos: Position,
+    list: &[u8],
+    area: &mut [u8],
+    hold: bool,
+) -> Answer
+    requires { ⌜ Ready (now cat) (now tab) size pos (now list) × (size ≤ suc (length (now area))) ⌝ }
+    ensures { λ r. ⌜ left r (now (area .exit)) ≡ getNext (now (cat .entry)) (listing (now (cat .entry)) (now (tab .entry))) pos (now (area .entry)) hold (getLevels (now (cat .entry)) (now (list .entry)) (listRead (now (cat .entry)) (now (list .entry)) .arguments)) ⌝ }
+{
+    let place = pos.place;
+    let t = last_of(cat, list).code;
+    let from = after_place(place);
+    let Found::At(c) = first_match(cat, tab, size, list, t, from, count(tab)) else {
+        return missed(miss_status(list), pos);
+    };
+    let s = level_status(cat, tab, size, pos, list, c);
+    got(cat, tab, size, c, s, Parentage::Of(c), hold, pos, area)
+}
+
+// "GNP: as GN, and beneath p. The parentage stays."
+pub fn get_next_within(
+    cat: &[u8],
+    tab: &[u8],
+    size: usize,
+    pos: Position,
+    list: &[u8],
+    area: &mut [u8],
+    hold: bool,
+) -> Answer
+    requires { ⌜ Ready (now cat) (now tab) size pos (now list) × (size ≤ suc (length (now area))) × (isAbsent (pos .parentage) ≡ false) ⌝ }
+    ensures { λ r. ⌜ left r (now (area .exit)) ≡ getNextWithin (now (cat .entry)) (listing (now (cat .entry)) (now (tab .entry))) pos (now (area .entry)) hold (getLevels (now (cat .entry)) (now (list .entry)) (listRead (now (cat .entry)) (now (list .entry)) .arguments)) ⌝ }
+{
+    let place = pos.place;
+    let parentage = pos.parentage;
+    let Parentage::Of(p) = parentage else {
+        return missed(Status::GP, pos);
+    };
+    let t = last_of(cat, list).code;
+    let from = after_place(place);
+    let to = run_end(cat, tab, size, p).0;
+    let Found::At(c) = first_match(cat, tab, size, list, t, from, to) else {
+        return missed(Status::GE, pos);
+    };
+    let s = level_status(cat, tab, size, pos, list, c);
+    got(cat, tab, size, c, s, parentage, hold, pos, area)
+}

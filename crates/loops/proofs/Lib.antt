@@ -1,0 +1,10 @@
+pub mod Hits
+pub mod Scan
+pub mod Nest
+pub mod Cut
+pub mod Asked
+pub mod Rows
+pub mod Matches
+pub mod Gets
+pub mod Demand
+pub mod Wrong

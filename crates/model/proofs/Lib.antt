@@ -1,0 +1,11 @@
+pub mod Paths
+pub mod Along
+pub mod Parents
+pub mod Insert
+pub mod Asked
+pub mod Model
+pub mod Twins
+pub mod Levels
+pub mod Changed
+pub mod Kept
+pub mod Session

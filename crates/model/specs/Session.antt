@@ -1,0 +1,35 @@
+-- Checked once, sound for good. A session is a row of calls, each on the table and at the position that the one before left. Where catalogue, table and position
+-- are good at its start, they need not be checked again: the calls that do not look at 20, 21 and 22 give the same outcomes, to the byte, as those that do.
+-- Assumes nothing: these are definitions, and the proof is in proofs/.
+use mathlib.Core.Path.{_≡_}
+use mathlib.Core.Bool.{true}
+use mathlib.Core.List.{List, [], _∷_}
+use Prim.Native.Nat.{ℕ}
+use Rattle.terms.specs.declared.Position.{Position}
+use Rattle.rules.specs.Block.{Bytes}
+use Rattle.rules.specs.Catalogue.{goodCatalogue}
+use Rattle.rules.specs.Table.{listing, goodTable}
+use Rattle.rules.specs.Position.{goodPosition}
+use Rattle.rules.specs.Outcome.{Outcome, outcome, soundOutcome}
+use Rattle.image.specs.Determined.{IsBytes, All}
+
+-- what is asked: a call by its number, with a list and an area
+pub record Ask : Type 0 where
+  pub call : ℕ
+  pub list : Bytes
+  pub area : Bytes
+
+-- a call from bytes to bytes
+abbrev pub Step : Type 0
+Step = Bytes → Bytes → Position → ℕ → Bytes → Bytes → Outcome
+
+unfoldable pub session : Step → Bytes → Bytes → Position → List Ask → List Outcome
+session step cat tab pos [] = []
+session step cat tab pos (k ∷ ks) =
+    let o = step cat tab pos (k .call) (k .list) (k .area) in
+    o ∷ session step cat (o .table) (o .answer .position) ks
+
+abbrev pub CheckedOnce : Type 0
+CheckedOnce =
+    (cat tab : Bytes) (pos : Position) (ks : List Ask) → goodCatalogue cat ≡ true → IsBytes tab → All (λ (k : Ask). IsBytes (k .area)) ks
+    → goodTable cat tab ≡ true → goodPosition cat (listing cat tab) pos ≡ true → session outcome cat tab pos ks ≡ session soundOutcome cat tab pos ks

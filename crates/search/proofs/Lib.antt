@@ -1,0 +1,5 @@
+pub mod Rows
+pub mod Carry
+pub mod Levels
+pub mod Fields
+pub mod Laws

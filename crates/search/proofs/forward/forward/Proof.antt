@@ -1,0 +1,33 @@
+use mathlib.Core.Logic.{⊎-elim}
+use native.Mathlib.Omega.{arith}
+use borrow.Author.Needs.{needs}
+use mathlib.Core.Path.{_≡_, refl, _∙_}
+use Prim.Native.Nat.{_-_}
+use Rattle.rules.specs.Matching.{firstMatch}
+use Rattle.rules.specs.Table.{listing}
+use Rattle.search.specs.Stretch.{levels, stretchBefore}
+use Rattle.search.proofs.Laws.{carried-cell, before-next, turn-found, turn-next, first-none}
+use Rattle.search.proofs.forward.forward.Statement.{statement}
+use Rattle.search.proofs.forward.forward.Tie as tie
+
+abbrev Inv-loop : tie.InvT-loop
+Inv-loop cat tab size list t k from to last long₀ i₀ long i = (long ≡ stretchBefore cat (listing cat tab) (levels cat list t) i) × (firstMatch cat (listing cat tab) (levels cat list t) i to ≡ firstMatch cat (listing cat tab) (levels cat list t) from to)
+
+abbrev μ-loop : tie.MeasureT-loop
+μ-loop cat tab size list t k from to last long₀ i₀ long i = to - i
+
+pub forward-spec : {M : Type 1} → statement M
+forward-spec =
+    tie.close
+    (tie.spec
+    Inv-loop
+    μ-loop
+    (λ c κs. search needs)
+    (λ c. (c .before .before .before .before .pre .3, refl))
+    (λ c κs. let s = c .before .before .before .before .before .before in (s .pre .0 .sized, omega (arith, s .pre .2)))
+    (λ c κs. let s = c .before .before .before .before .before .before .before in (s .pre .0, omega (arith, s .pre .2), c .level-at .ensures, carried-cell (s .pre .0) (c .before .before .loop .i) (c .before .before .loop .long) (omega (arith, s .pre .2)) (c .before .before .loop .inv .0)))
+    (λ c. let s = c .before .before .before .before .before .before .before .before .before .before in turn-found (s .pre .0) (c .before .before .before .before .before .loop .i) (c .before .before .before .level-at .result) (c .before .before .stretched .result) (c .before .before .before .before .before .before .level .result) (s .args .to) (c .before .before .before .before .loop-test .taken) (s .pre .2) (s .pre .1) (c .before .before .before .level-at .ensures) (c .before .before .stretched .ensures) (c .before .before .before .before .before .before .level .ensures) (c .before .if1 .taken) (c .if2 .taken) ∙ c .before .before .before .before .before .loop .inv .1)
+    (λ c. omega (arith, c .before .before .before .before .before .before .before .before .before .pre .2))
+    (λ c. omega arith)
+    (λ c. let s = c .before .before .before .before .before .before .before .before .before in (before-next (s .pre .0) (c .before .before .before .before .loop .i) (c .before .stretched .result) (c .before .stretched .ensures), turn-next (s .pre .0) (c .before .before .before .before .loop .i) (c .before .before .level-at .result) (c .before .stretched .result) (c .before .before .before .before .before .level .result) (s .args .to) (c .before .before .before .loop-test .taken) (s .pre .2) (s .pre .1) (c .before .before .level-at .ensures) (c .before .stretched .ensures) (c .before .before .before .before .before .level .ensures) (⊎-elim (λ w a b. w .1 .left b) (λ w a b. w .left a) (c .if1 .came)) ∙ c .before .before .before .before .loop .inv .1))
+    (λ c. first-none _ _ _ _ _ (c .loop-test .left) ∙ c .before .loop .inv .1))

@@ -1,0 +1,71 @@
+// The pass forward: "first match after the place", "beneath p".
+use crate::stretch::path_to;
+use crate::stretch::stretched;
+use catalogue::lineage::level;
+use cells::lookup::level_at;
+use terms::CellNumber;
+use terms::Found;
+use terms::TypeCode;
+ghost use mathlib.Core.Path.{_≡_};
+ghost use Prim.Native.Nat.{_≤_, _<_};
+ghost use Rattle.rules.specs.Matching.{firstMatch};
+ghost use Rattle.rules.specs.Table.{count, listing};
+ghost use Rattle.search.specs.Good.{Good};
+ghost use Rattle.search.specs.Stretch.{levels, stretchBefore};
+
+// The first match from cell `from` on and before cell `to`; k is the stretch of the cell before.
+pub(crate) fn forward(
+    cat: &[u8],
+    tab: &[u8],
+    size: usize,
+    list: &[u8],
+    t: TypeCode,
+    k: u8,
+    from: usize,
+    to: usize,
+) -> Found
+    requires { ⌜ Good (now cat) (now tab) (now list) size t × (0 < t .0) × (to ≤ count (now tab)) × (k ≡ stretchBefore (now cat) (listing (now cat) (now tab)) (levels (now cat) (now list) t) from) ⌝ }
+    ensures { λ r. ⌜ r ≡ firstMatch (now (cat .entry)) (listing (now (cat .entry)) (now (tab .entry))) (levels (now (cat .entry)) (now (list .entry)) t) from to ⌝ }
+{
+    let last = level(cat, t);
+    let mut long = k;
+    let mut i = from;
+    while i < to {
+        let c = CellNumber(i);
+        let l = level_at(cat, tab, size, c);
+        long = stretched(cat, tab, size, list, t, long, l, c);
+        if l == last {
+            if long == last {
+                return Found::At(c);
+            }
+        }
+        i += 1;
+    }
+    Found::Nothing
+}
+
+// The same from any cell: it climbs once, for the cell before. "The empty list matches every segment."
+pub fn first_match(
+    cat: &[u8],
+    tab: &[u8],
+    size: usize,
+    list: &[u8],
+    t: TypeCode,
+    from: usize,
+    to: usize,
+) -> Found
+    requires { ⌜ Good (now cat) (now tab) (now list) size t × (to ≤ count (now tab)) ⌝ }
+    ensures { λ r. ⌜ r ≡ firstMatch (now (cat .entry)) (listing (now (cat .entry)) (now (tab .entry))) (levels (now (cat .entry)) (now (list .entry)) t) from to ⌝ }
+{
+    if to <= from {
+        return Found::Nothing;
+    }
+    if t.0 == 0 {
+        return Found::At(CellNumber(from));
+    }
+    if from == 0 {
+        return forward(cat, tab, size, list, t, 0, from, to);
+    }
+    let before = path_to(cat, tab, size, list, t, CellNumber(from - 1));
+    forward(cat, tab, size, list, t, before.long, from, to)
+}

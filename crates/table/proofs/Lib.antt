@@ -1,0 +1,6 @@
+pub mod Types
+pub mod Reader
+pub mod Top
+pub mod Frame
+pub mod Unused
+pub mod Made

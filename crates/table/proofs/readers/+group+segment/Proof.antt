@@ -1,0 +1,104 @@
+use mathlib.Core.Path.{_≡_, refl, ap, sym, _∙_}
+use mathlib.Core.Bool.{true}
+use Prim.Native.Nat.{ℕ, _<_, _+_, _*_, _-_, _≤_}
+use native.Mathlib.Omega.{arith}
+use Rattle.terms.specs.declared.TypeCode.{TypeCode}
+use Rattle.terms.specs.Names.{code}
+use Rattle.rules.specs.Catalogue.{isType}
+use Rattle.rules.specs.Cells.{segment}
+use Rattle.rules.specs.Table.{listing}
+use Rattle.rules.proofs.Cells.{listing-length}
+use Rattle.table.specs.Reader.{prior, afterRow, afterTypes}
+use Rattle.catalogue.proofs.Chains.{clash}
+use Rattle.catalogue.proofs.Hierarchy.{type-range, range-type, no-later-child}
+use Rattle.catalogue.proofs.Tests.{told-no, told-yes}
+use Rattle.rules.proofs.Catalogue.{par}
+use Rattle.table.proofs.Reader.{group-empty, group-stop, group-go, twin-type, types-first, types-pass, types-group, types-done}
+use borrow.Fn.Kinds.{In}
+use borrow.Fn.PlainCycle.{Measures, is, falls, and}
+use Rattle.table.proofs.readers.group.Reads as group
+use Rattle.table.proofs.readers.group.Kinds as group-kinds
+use Rattle.table.proofs.readers.+group+segment.Lts-group as group-lts
+use Rattle.table.proofs.readers.segment.Reads as segment
+use Rattle.table.proofs.readers.segment.Kinds as segment-kinds
+use Rattle.table.proofs.readers.+group+segment.Lts-segment as segment-lts
+use Rattle.catalogue.proofs.entries.parent.Reads as parent-reads
+use Rattle.catalogue.proofs.entries.types.Reads as types-reads
+use Rattle.cells.proofs.lookup.code_at.Reads as code-at-reads
+use Rattle.table.proofs.readers.twin.Reads as twin-reads
+use Rattle.table.proofs.readers.+group+segment.{statement}
+use Rattle.table.proofs.readers.+group+segment.Tie.{close}
+
+abbrev μ-group : Measures 2 group-kinds.ps ℕ
+μ-group κs a = 2 * (a .1 .1 .1 .1 .1 .1 .1 .0) + 1
+
+abbrev μ-segment : Measures 2 segment-kinds.ps ℕ
+μ-segment κs a = 2 * (a .1 .1 .1 .1 .0)
+
+abbrev group-at : ℕ → In 2 group-kinds.ps
+group-at t = and 2 group-kinds.ps (is 2 group-kinds.ps μ-group t) group.Pre
+
+abbrev group-below : ℕ → In 2 group-kinds.ps
+group-below t = and 2 group-kinds.ps (falls 2 group-kinds.ps _<_ μ-group t) group.Pre
+
+abbrev segment-at : ℕ → In 2 segment-kinds.ps
+segment-at t = and 2 segment-kinds.ps (is 2 segment-kinds.ps μ-segment t) segment.Pre
+
+abbrev segment-below : ℕ → In 2 segment-kinds.ps
+segment-below t = and 2 segment-kinds.ps (falls 2 segment-kinds.ps _<_ μ-segment t) segment.Pre
+
+abbrev segment-Inv-loop : segment-lts.InvT-loop
+segment-Inv-loop cat tab size i left p top end j₀ v₀ j v = (i < j) × (j ≤ end) × (p ≤ v) × (v ≤ top) × (afterTypes cat (listing cat tab) p v j (end - j) ≡ afterRow cat (listing cat tab) p (i + 1) (left - 1))
+
+abbrev segment-μ-loop : segment-lts.MeasureT-loop
+segment-μ-loop cat tab size i left p top end j₀ v₀ j v = top - v
+
+pub +group+segment-spec : {M : Type 1} → statement M
++group+segment-spec = close μ-group μ-segment (λ t. group-lts.spec (
+  twin-reads.Asked,
+  twin-reads.Learnt,
+  segment-below t,
+  segment.Post,
+  group-below t,
+  group.Post,
+)
+    (group-at t)
+    group.Post
+    (λ c. group-empty _ _ _ _ _ _ (c .if1 .taken))
+    (λ c κs. (c .before .before .before .pre .1 .0, c .before .before .before .pre .1 .1, omega arith))
+    (λ c. group-stop _ _ _ _ _ _ (c .before .before .if1 .left) (told-no (c .before .twin .ensures) (c .if2 .taken)))
+    (λ c κs. (omega arith, (record { good = c .before .before .before .before .before .pre .1 .0 .good; sized = c .before .before .before .before .before .pre .1 .0 .sized; known = ap (isType (c .before .before .before .before .before .args .cat .now)) (twin-type (c .before .before .before .before .before .args .cat .now) (listing (c .before .before .before .before .before .args .cat .now) (c .before .before .before .before .before .args .tab .now)) (c .before .before .before .before .before .args .v) (prior (c .before .before .before .before .before .args .first) (c .before .before .before .before .before .args .last)) (c .before .before .before .before .before .args .i) (told-yes (c .before .twin .ensures) (c .if2 .left))) ∙ c .before .before .before .before .before .pre .1 .0 .known }, omega arith, omega arith)))
+    (λ c. omega arith)
+    (λ c. omega arith)
+    (λ c κs. (omega arith, (c .before .before .before .before .before .before .pre .1 .0, record { within = λ e. omega (arith, listing-length (c .before .before .before .before .before .before .args .cat .now) (c .before .before .before .before .before .before .args .tab .now)); same = λ e. twin-type (c .before .before .before .before .before .before .args .cat .now) (listing (c .before .before .before .before .before .before .args .cat .now) (c .before .before .before .before .before .before .args .tab .now)) (c .before .before .before .before .before .before .args .v) (prior (c .before .before .before .before .before .before .args .first) (c .before .before .before .before .before .before .args .last)) (c .before .before .before .before .before .before .args .i) (told-yes (c .before .before .twin .ensures) (c .before .if2 .left)) }, omega arith)))
+    (λ c. group-go _ _ _ _ _ (c .before .segment .result) (c .group .result) _ (c .before .before .before .before .if1 .left) (told-yes (c .before .before .before .twin .ensures) (c .before .before .if2 .left)) (c .before .segment .ensures) (c .group .ensures)))
+    λ t. segment-lts.spec (
+      code-at-reads.Asked,
+      code-at-reads.Learnt,
+      types-reads.Asked,
+      types-reads.Learnt,
+      parent-reads.Asked,
+      parent-reads.Learnt,
+      group-below t,
+      group.Post,
+    )
+    (segment-at t)
+    segment.Post
+    segment-Inv-loop
+    segment-μ-loop
+    (λ c κs. (c .before .before .pre .1 .0 .sized, omega arith))
+    (λ c κs. omega arith)
+    (λ c. omega arith)
+    (λ c. omega arith)
+    (λ c. (omega arith, omega arith, omega arith, omega (arith, ap (λ (u : TypeCode). u .0) (c .before .code-at .ensures), type-range (c .before .before .before .before .args .cat .now) _ (c .before .before .before .before .pre .1 .0 .known) .1, c .types .ensures), types-first (c .before .before .before .before .args .cat .now) (listing (c .before .before .before .before .args .cat .now) (c .before .before .before .before .args .tab .now)) (c .before .before .before .before .pre .1 .0 .good) (c .before .code-at .result .0) (c .before .before .before .before .args .i) (c .before .before .before .before .args .left) (omega arith)))
+    (λ c. omega arith)
+    (λ c κs. omega arith)
+    (λ c. let below : par (c .before .before .before .before .before .before .before .before .args .cat .now) (c .before .before .before .loop .v + 1) < c .before .before .before .before .before .code-at .result .0 = omega (arith, ap (λ (u : TypeCode). u .0) (c .before .parent .ensures), c .if1 .taken) in
+    rw (← c .before .before .before .before .before .code-at .ensures) (types-done (c .before .before .before .before .before .before .before .before .args .cat .now) (listing (c .before .before .before .before .before .before .before .before .args .cat .now) (c .before .before .before .before .before .before .before .before .args .tab .now)) (c .before .before .before .before .before .before .before .before .pre .1 .0 .good) (c .before .before .before .before .before .code-at .result .0) (c .before .before .before .loop .v) (c .before .before .before .before .before .before .before .before .args .i) (c .before .before .before .before .before .before .before .before .args .left) (c .before .before .before .loop .j) (λ w l m. no-later-child (c .before .before .before .before .before .before .before .before .args .cat .now) (c .before .before .before .before .before .before .before .before .pre .1 .0 .good) (c .before .before .before .before .before .code-at .result .0) (c .before .before .before .loop .v + 1) w (omega arith) below (omega arith) m) (omega arith) (omega arith) (c .before .before .before .loop .inv .4)))
+    (λ c. omega arith)
+    (λ c κs. (omega arith, (record { good = c .before .before .before .before .before .before .before .before .before .pre .1 .0 .good; sized = c .before .before .before .before .before .before .before .before .before .pre .1 .0 .sized; known = range-type (c .before .before .before .before .before .before .before .before .before .args .cat .now) (code (c .before .before .before .before .loop .v + 1)) (omega arith) (omega (arith, c .before .before .before .before .before .types .ensures)) }, record { within = λ e. absurd (clash {b = true} refl e); same = λ e. absurd (clash {b = true} refl e) }, omega arith)))
+    (λ c. omega arith)
+    (λ c. (omega arith, omega arith, omega arith, omega arith, types-group (c .before .before .before .before .before .before .before .before .before .before .args .cat .now) (listing (c .before .before .before .before .before .before .before .before .before .before .args .cat .now) (c .before .before .before .before .before .before .before .before .before .before .args .tab .now)) (c .before .before .before .before .before .before .before .before .before .before .pre .1 .0 .good) (c .before .before .before .before .before .before .before .code-at .result .0) (c .before .before .before .before .before .loop .v) (c .before .before .before .before .before .loop .j) (c .before .before .before .before .before .before .before .before .before .before .args .i + c .before .before .before .before .before .before .before .before .before .before .args .left) (c .group .result) _ (sym (ap (λ (u : TypeCode). u .0) (c .before .before .before .parent .ensures)) ∙ c .before .if2 .taken) (omega (arith, c .before .before .before .before .before .before .types .ensures)) (omega arith) (c .group .ensures) (c .before .before .before .before .before .loop .inv .4)))
+    (λ c. omega arith)
+    (λ c. (omega arith, omega arith, omega arith, omega arith, types-pass (c .before .before .before .before .before .before .before .before .before .args .cat .now) (listing (c .before .before .before .before .before .before .before .before .before .args .cat .now) (c .before .before .before .before .before .before .before .before .before .args .tab .now)) (c .before .before .before .before .before .before .before .before .before .pre .1 .0 .good) (c .before .before .before .before .before .before .code-at .result .0) (c .before .before .before .before .loop .v) (c .before .before .before .before .loop .j) (c .before .before .before .before .before .before .before .before .before .args .i + c .before .before .before .before .before .before .before .before .before .args .left) _ (λ e. c .if2 .left (ap (λ (u : TypeCode). u .0) (c .before .before .parent .ensures) ∙ e)) (c .before .before .before .before .loop .inv .4)))
+    (λ c. rw (← c .before .before .before .code-at .ensures) (types-done (c .before .before .before .before .before .before .args .cat .now) (listing (c .before .before .before .before .before .before .args .cat .now) (c .before .before .before .before .before .before .args .tab .now)) (c .before .before .before .before .before .before .pre .1 .0 .good) (c .before .before .before .code-at .result .0) (c .before .loop .v) (c .before .before .before .before .before .before .args .i) (c .before .before .before .before .before .before .args .left) (c .before .loop .j) (λ w l m e. omega (arith, c .before .before .types .ensures)) (omega arith) (omega arith) (c .before .loop .inv .4)))

@@ -1,0 +1,185 @@
+-- How a new segment x stands to one cell: it goes before it, has its key, or passes it. Assumes nothing.
+use mathlib.Core.Path.{_≡_, refl, ap, sym, _∙_}
+use mathlib.Core.Bool.{true, false, not}
+use mathlib.Core.List.{[], _∷_}
+use Prim.Native.Nat.{ℕ, _<_, _≤_}
+use native.Mathlib.Omega.{arith}
+use borrow.Author.Tests.{lt-ltb, le-ltb, eq-eqb, ne-eqb}
+use Rattle.terms.specs.declared.Order.{Order}
+use Rattle.terms.specs.declared.Order.the-variants.{Smaller, Equal, Greater}
+use Rattle.terms.specs.Names.{code}
+use Rattle.terms.specs.Operators.{isSmaller, isEqual}
+use Rattle.forest.specs.Forest.{inside, outside, side}
+use Rattle.forest.specs.Insert.{passes}
+use Rattle.rules.specs.Block.{Bytes}
+use Rattle.rules.specs.Order.{order}
+use Rattle.rules.specs.Catalogue.{keyKind, level}
+use Rattle.rules.specs.Cells.{Segment, typeNumber, key, keyOrder, twinOrder, sameKey, siblings, goesBefore, segmentLevel}
+use Rattle.rules.proofs.Order.{order-on, order-less, order-more}
+use Rattle.twins.specs.Among.{standing}
+use Rattle.twins.proofs.Rows.{pass-deep, pass-same}
+
+-- two numbers, by which is less
+data Against (n m : ℕ) : Type 0 where
+  less : n < m → Against n m
+  same : n ≡ m → Against n m
+  more : m < n → Against n m
+
+against : (n m : ℕ) → Against n m
+against n m = elim (side n m) [
+  | inside l ↦ less l
+  | outside l ↦ elim (side m n) [ inside k ↦ more k | outside k ↦ same (omega arith) ]
+]
+
+smaller-is : (o : Order) → isSmaller o ≡ true → o ≡ Smaller
+smaller-is Smaller e = refl
+smaller-is Equal e = let z : _≡_ {A = ℕ} 0 1 = cc in absurd (omega arith)
+smaller-is Greater e = let z : _≡_ {A = ℕ} 0 1 = cc in absurd (omega arith)
+
+-- what the first bytes say, where one value is smaller: they are smaller, or the same and the rest is smaller
+smaller-first : (x y : ℕ) (xs ys : Bytes) → order (x ∷ xs) (y ∷ ys) ≡ Smaller → y ≤ x → (x ≡ y) × (order xs ys ≡ Smaller)
+smaller-first x y xs ys e l = elim (side y x) [
+  | inside m ↦ absurd (let h : Smaller ≡ Greater = sym e ∙ order-more x y xs ys m in let z : _≡_ {A = ℕ} 0 1 = cc in omega arith)
+  | outside m ↦ (let z : x ≡ y = omega arith in (z, sym (order-on x y xs ys z) ∙ e))
+]
+
+-- smaller than a smaller one, whatever the lengths
+pub smaller-through : (xs ys zs : Bytes) → order xs ys ≡ Smaller → order ys zs ≡ Smaller → order xs zs ≡ Smaller
+unfolding order
+smaller-through [] ys zs h k = absurd (let z : _≡_ {A = ℕ} 0 1 = cc in omega arith)
+smaller-through (x ∷ xs) [] zs h k = absurd (let z : _≡_ {A = ℕ} 0 1 = cc in omega arith)
+smaller-through (x ∷ xs) (y ∷ ys) [] h k = absurd (let z : _≡_ {A = ℕ} 0 1 = cc in omega arith)
+smaller-through (x ∷ xs) (y ∷ ys) (z ∷ zs) h k = elim (side x z) [
+  | inside l ↦ order-less x z xs zs l
+  | outside l ↦ elim (side x y) [
+    | inside m ↦ absurd (let q = smaller-first y z ys zs k (omega arith) in omega (arith, q .0))
+    | outside m ↦
+        let p = smaller-first x y xs ys h m in
+        let q = smaller-first y z ys zs k (omega (arith, p .0)) in
+        order-on x z xs zs (p .0 ∙ q .0) ∙ smaller-through xs ys zs (p .1) (q .1)
+  ]
+]
+
+module _ (cat : Bytes) (x : Segment) where
+  -- goes before, by cases of the types
+  before-less : (c : Segment) → typeNumber x < typeNumber c → goesBefore cat x c ≡ true
+  unfolding goesBefore
+  before-less c l = rw (lt-ltb (typeNumber x) (typeNumber c) l)
+
+  before-more : (c : Segment) → typeNumber c < typeNumber x → goesBefore cat x c ≡ false
+  unfolding goesBefore
+  before-more c l = rw (le-ltb (typeNumber x) (typeNumber c) (omega arith), ne-eqb (typeNumber x) (typeNumber c) (λ e. omega arith))
+
+  before-same : (c : Segment) → typeNumber x ≡ typeNumber c → goesBefore cat x c ≡ isSmaller (keyOrder cat x c)
+  unfolding goesBefore
+  before-same c e = rw (le-ltb (typeNumber x) (typeNumber c) (omega arith), eq-eqb (typeNumber x) (typeNumber c) e)
+
+  key-other : (c : Segment) → (typeNumber x ≡ typeNumber c → ⊥) → sameKey cat x c ≡ false
+  unfolding sameKey
+  key-other c n = rw (ne-eqb (typeNumber x) (typeNumber c) n)
+
+  key-same : (c : Segment) → typeNumber x ≡ typeNumber c → sameKey cat x c ≡ isEqual (keyOrder cat x c)
+  unfolding sameKey
+  key-same c e = rw (eq-eqb (typeNumber x) (typeNumber c) e)
+
+  -- segments of one type are of one level
+  same-level : (c : Segment) → typeNumber x ≡ typeNumber c → segmentLevel cat x ≡ segmentLevel cat c
+  same-level c e = ap (λ (n : ℕ). level cat (code n)) e
+
+  -- a deeper cell is no twin
+  pub key-deep : (c : Segment) → segmentLevel cat x < segmentLevel cat c → sameKey cat x c ≡ false
+  key-deep c h = key-other c (λ e. omega (arith, same-level c e))
+
+  -- nor has a cell that x goes before its key
+  pub key-past : (c : Segment) → goesBefore cat x c ≡ true → sameKey cat x c ≡ false
+  key-past c h = elim (against (typeNumber x) (typeNumber c)) [
+    | less l ↦ key-other c (λ e. omega arith)
+    | same e ↦ key-same c e ∙ ap isEqual (smaller-is (keyOrder cat x c) (sym (before-same c e) ∙ h))
+    | more l ↦ key-other c (λ e. omega arith)
+  ]
+
+  before-le : (c : Segment) → goesBefore cat x c ≡ true → typeNumber x ≤ typeNumber c
+  before-le c h = elim (side (typeNumber c) (typeNumber x)) [
+    | inside l ↦ absurd (let f : false ≡ true = sym (before-more c l) ∙ h in let z : _≡_ {A = ℕ} 0 1 = cc in omega arith)
+    | outside l ↦ l
+  ]
+
+  siblings-le : (c d : Segment) → siblings cat c d ≡ true → typeNumber c ≤ typeNumber d
+  siblings-le c d h = elim (side (typeNumber d) (typeNumber c)) [
+    | inside l ↦ absurd (let f : false ≡ true = rw (le-ltb (typeNumber c) (typeNumber d) (omega arith), ne-eqb (typeNumber c) (typeNumber d) (λ e. omega arith)) at h in let z : _≡_ {A = ℕ} 0 1 = cc in omega arith)
+    | outside l ↦ l
+  ]
+
+  -- "Twins with a unique key ascend strictly"
+  twins-ascend : (c d : Segment) → keyKind cat (c .code) ≡ 1 → typeNumber c ≡ typeNumber d → siblings cat c d ≡ true → keyOrder cat c d ≡ Smaller
+  unfolding twinOrder
+  twins-ascend c d k e h =
+      smaller-is (keyOrder cat c d)
+      (rw (le-ltb (typeNumber c) (typeNumber d) (omega arith), eq-eqb (typeNumber c) (typeNumber d) e, k) at h)
+
+  -- so with a unique key x goes before each sibling that stands behind one that it goes before
+  pub before-onward : keyKind cat (x .code) ≡ 1 → (c d : Segment) → goesBefore cat x c ≡ true → siblings cat c d ≡ true → goesBefore cat x d ≡ true
+  unfolding keyOrder
+  before-onward k c d h g = elim (side (typeNumber x) (typeNumber d)) [
+    | inside l ↦ before-less d l
+    | outside l ↦
+        let e : typeNumber x ≡ typeNumber c = omega (arith, before-le c h, siblings-le c d g) in
+        let f : typeNumber c ≡ typeNumber d = omega (arith, before-le c h, siblings-le c d g) in
+        let kc : keyKind cat (c .code) ≡ 1 = sym (ap (λ (n : ℕ). keyKind cat (code n)) e) ∙ k in
+        let a : order (key cat x) (key cat c) ≡ Smaller = smaller-is (keyOrder cat x c) (sym (before-same c e) ∙ h) in
+        before-same d (e ∙ f) ∙ ap isSmaller (smaller-through (key cat x) (key cat c) (key cat d) a (twins-ascend c d kc f g))
+  ]
+
+  module _ (c : Segment) where
+    -- the cases of a standing
+    pub stands-more : typeNumber c < typeNumber x → Greater ≡ standing cat x c
+    unfolding standing
+    stands-more l = rw (lt-ltb (typeNumber c) (typeNumber x) l)
+
+    pub stands-twin : typeNumber x ≡ typeNumber c → keyOrder cat x c ≡ standing cat x c
+    unfolding standing
+    stands-twin e = rw (le-ltb (typeNumber c) (typeNumber x) (omega arith), eq-eqb (typeNumber c) (typeNumber x) (sym e))
+
+    module _ (l : typeNumber x < typeNumber c) where
+      pub stands-deep : segmentLevel cat x < segmentLevel cat c → Greater ≡ standing cat x c
+      unfolding standing
+      stands-deep h =
+          rw (le-ltb (typeNumber c) (typeNumber x) (omega arith), ne-eqb (typeNumber c) (typeNumber x) (λ e. omega arith), lt-ltb (segmentLevel cat x) (segmentLevel cat c) h)
+
+      pub stands-less : segmentLevel cat c ≤ segmentLevel cat x → Smaller ≡ standing cat x c
+      unfolding standing
+      stands-less h =
+          rw (le-ltb (typeNumber c) (typeNumber x) (omega arith), ne-eqb (typeNumber c) (typeNumber x) (λ e. omega arith), le-ltb (segmentLevel cat x) (segmentLevel cat c) h)
+
+    -- Smaller: x goes before it, or it is deeper
+    before-stands : segmentLevel cat c ≤ segmentLevel cat x → goesBefore cat x c ≡ isSmaller (standing cat x c)
+    before-stands h = elim (against (typeNumber x) (typeNumber c)) [
+      | less l ↦ before-less c l ∙ ap isSmaller (stands-less l h)
+      | same e ↦ before-same c e ∙ ap isSmaller (stands-twin e)
+      | more l ↦ before-more c l ∙ ap isSmaller (stands-more l)
+    ]
+
+    deep-stands : segmentLevel cat x < segmentLevel cat c → Greater ≡ standing cat x c
+    deep-stands h = elim (against (typeNumber x) (typeNumber c)) [
+      | less l ↦ stands-deep l h
+      | same e ↦ absurd (omega (arith, same-level c e))
+      | more l ↦ stands-more l
+    ]
+
+    -- in a row no cell is less deep than x, and x passes those to which it does not stand Smaller
+    pub passes-stands : segmentLevel cat x ≤ segmentLevel cat c → passes (segmentLevel cat) x (goesBefore cat x) c ≡ not (isSmaller (standing cat x c))
+    passes-stands h = elim (side (segmentLevel cat x) (segmentLevel cat c)) [
+      | inside l ↦ pass-deep (segmentLevel cat) x (goesBefore cat x) c l ∙ ap (λ (o : Order). not (isSmaller o)) (deep-stands l)
+      | outside l ↦ pass-same (segmentLevel cat) x (goesBefore cat x) c (omega arith) ∙ ap not (before-stands l)
+    ]
+
+    -- Equal: c is a twin with its key
+    pub key-stands : sameKey cat x c ≡ isEqual (standing cat x c)
+    key-stands = elim (against (typeNumber x) (typeNumber c)) [
+      | less l ↦ key-other c (λ e. omega arith) ∙ elim (side (segmentLevel cat x) (segmentLevel cat c)) [
+        | inside h ↦ ap isEqual (stands-deep l h)
+        | outside h ↦ ap isEqual (stands-less l h)
+      ]
+      | same e ↦ key-same c e ∙ ap isEqual (stands-twin e)
+      | more l ↦ key-other c (λ e. omega arith) ∙ ap isEqual (stands-more l)
+    ]

@@ -1,0 +1,130 @@
+// Where a new segment goes among its twins, and whether its unique key is taken.
+// The new segment is of type t, with the area's first L bytes.
+use blocks::order_of;
+use blocks::wide;
+use catalogue::entries::key_kind;
+use catalogue::entries::key_length;
+use catalogue::entries::key_start;
+use catalogue::lineage::level;
+use cells::lookup::code_at;
+use terms::CellNumber;
+use terms::Order;
+use terms::TypeCode;
+ghost use mathlib.Core.Path.{_≡_};
+ghost use Prim.Native.Nat.{_<_};
+ghost use Rattle.rules.specs.Catalogue.{level};
+ghost use Rattle.rules.specs.Cells.{segment, segmentOf, keyOrder};
+ghost use Rattle.rules.specs.Table.{count, listing};
+ghost use Rattle.twins.specs.Among.{New, Beneath, standing, placed, spotAmong};
+
+// The cell that the new segment becomes, and whether it has a unique key that a twin has already.
+pub struct Spot {
+    pub at: usize,
+    pub taken: bool,
+}
+
+// How the key of the new segment stands to that of cell c, which has its type; without a key, as to an equal one.
+fn key_order_with(
+    cat: &[u8],
+    tab: &[u8],
+    size: usize,
+    t: TypeCode,
+    area: &[u8],
+    c: CellNumber,
+) -> Order
+    requires { ⌜ New (now cat) (now tab) size t (now area) × (c .0 < count (now tab)) × (segment (listing (now cat) (now tab)) (c .0) .code ≡ t) ⌝ }
+    ensures { λ r. ⌜ r ≡ keyOrder (now (cat .entry)) (segmentOf (now (cat .entry)) t (now (area .entry))) (segment (listing (now (cat .entry)) (now (tab .entry))) (c .0)) ⌝ }
+{
+    let start = wide(key_start(cat, t));
+    if start == 0 {
+        return Order::Equal;
+    }
+    let long = wide(key_length(cat, t));
+    let i = c.0;
+    let a = start - 1;
+    let b = 8 + i * size + start;
+    let x = a + long;
+    let y = b + long;
+    order_of(&area[a..x], &tab[b..y])
+}
+
+// How the new segment, of level `depth`, stands to cell c beneath its parent: greater, it passes c; smaller, it goes before c; equal, c is a
+// twin with its key. A level is looked up only for a later type, where a cell of a later group and one beneath a twin have to be told apart.
+fn stands_to(
+    cat: &[u8],
+    tab: &[u8],
+    size: usize,
+    depth: u8,
+    t: TypeCode,
+    area: &[u8],
+    c: CellNumber,
+) -> Order
+    requires { ⌜ New (now cat) (now tab) size t (now area) × (c .0 < count (now tab)) × (depth ≡ level (now cat) t) ⌝ }
+    ensures { λ r. ⌜ r ≡ standing (now (cat .entry)) (segmentOf (now (cat .entry)) t (now (area .entry))) (segment (listing (now (cat .entry)) (now (tab .entry))) (c .0)) ⌝ }
+{
+    let u = code_at(cat, tab, size, c);
+    if u.0 < t.0 {
+        return Order::Greater;
+    }
+    if u.0 == t.0 {
+        return key_order_with(cat, tab, size, t, area, c);
+    }
+    if depth < level(cat, u) {
+        return Order::Greater;
+    }
+    Order::Smaller
+}
+
+// Passes the cells up to the first that the new segment goes before, and tells whether one of them is a twin with its key. Where the key is
+// unique no later one can be, since twins ascend strictly: so the cells behind the spot are not looked at.
+fn pass_row(
+    cat: &[u8],
+    tab: &[u8],
+    size: usize,
+    t: TypeCode,
+    area: &[u8],
+    from: usize,
+    to: usize,
+) -> Spot
+    requires { ⌜ New (now cat) (now tab) size t (now area) × Beneath (now cat) (now tab) t from to ⌝ }
+    ensures { λ r. ⌜ r ≡ placed (now (cat .entry)) (listing (now (cat .entry)) (now (tab .entry))) (segmentOf (now (cat .entry)) t (now (area .entry))) from ⌝ }
+{
+    let depth = level(cat, t);
+    let mut at = from;
+    let mut taken = false;
+    while at < to {
+        let o = stands_to(cat, tab, size, depth, t, area, CellNumber(at));
+        if o.is_smaller() {
+            return Spot { at, taken };
+        }
+        if o.is_equal() {
+            taken = true;
+        }
+        at += 1;
+    }
+    Spot { at, taken }
+}
+
+// "goes among its twins: after smaller and equal keys, before greater; unkeyed, last"; "unique key equal to a twin's".
+// The cells from `from` to before `to` are all those beneath the parent.
+pub fn spot_sound(
+    cat: &[u8],
+    tab: &[u8],
+    size: usize,
+    t: TypeCode,
+    area: &[u8],
+    from: usize,
+    to: usize,
+) -> Spot
+    requires { ⌜ New (now cat) (now tab) size t (now area) × Beneath (now cat) (now tab) t from to ⌝ }
+    ensures { λ r. ⌜ r ≡ spotAmong (now (cat .entry)) (listing (now (cat .entry)) (now (tab .entry))) (segmentOf (now (cat .entry)) t (now (area .entry))) from to ⌝ }
+{
+    let s = pass_row(cat, tab, size, t, area, from, to);
+    if key_kind(cat, t) == 1 {
+        return s;
+    }
+    Spot {
+        at: s.at,
+        taken: false,
+    }
+}
