@@ -14,7 +14,7 @@ use Rattle.rules.specs.Block.{Bytes}
 use Rattle.rules.specs.Calls.{missed}
 use Rattle.rules.specs.Outcome.{Outcome, landed}
 use Rattle.rules.specs.Computed.{computed}
-use Rattle.bench.specs.Bench.{catalogue, table}
+use Rattle.rules.specs.Bench.{catalogue, table}
 use Rattle.loops.specs.Loops.{Store, promised, loop, nestedLoop}
 use Rattle.loops.specs.Reading.{filter, picked}
 use Rattle.loops.specs.Demand3.{Accepted, Cut, Demand3}

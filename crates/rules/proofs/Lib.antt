@@ -4,3 +4,4 @@ pub mod Catalogue
 pub mod Cells
 pub mod Search
 pub mod Tree
+pub mod Bench

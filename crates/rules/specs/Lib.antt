@@ -11,3 +11,5 @@ pub mod Outcome
 pub mod Listing
 pub mod Tree
 pub mod Computed
+pub mod Bench
+pub mod Further

@@ -1,8 +1,8 @@
--- B1 to B10 of document 01, "proved as a single table with a single claim". Assumes nothing.
-use mathlib.Core.Bool.{Bool, true, false, _&&_}
+-- "A bench table", and B1 to B10 as a single table of cases; the single claim is in proofs/Bench.antt. Assumes nothing: these are definitions.
+use mathlib.Core.Bool.{Bool, true, false, _&&_, not}
 use mathlib.Core.List.{List, [], _∷_}
 use Prim.Native.Nat.{ℕ}
-use lib.Dec.{T, eqb}
+use lib.Dec.{eqb}
 use lib.ListN.{length, take}
 use Rattle.terms.specs.declared.Place.{Place}
 use Rattle.terms.specs.declared.Place.the-variants.{On, Before}
@@ -11,13 +11,12 @@ use Rattle.terms.specs.declared.Position.{Position}
 use Rattle.terms.specs.declared.Status.{Status}
 use Rattle.terms.specs.declared.Status.the-variants.{Blank, GB, GE, GP, DA, II}
 use Rattle.terms.specs.Statuses.{number}
 use Rattle.rules.specs.Block.{Bytes, every}
 use Rattle.rules.specs.Table.{count, segmentAt, tableBytes}
 use Rattle.terms.specs.Names.{cell}
 use Rattle.terms.specs.Moves.{fresh}
 use Rattle.rules.specs.Outcome.{Outcome, outcome}
 use Rattle.rules.specs.Listing.{listingText}
-use Rattle.rules.specs.Computed.{computed}
 
 -- "Types (parent, L, kind, key start, key length): 1 unit (0,3,1,1,2), 2 step (1,3,1,1,2), 3 try (2,2,0,0,0), 4 note (1,1,0,0,0).
 -- Fields (type, start, length): 1 (1,1,2), 2 (2,1,2), 3 (3,1,1), 4 (2,3,1)."
@@ -65,7 +64,7 @@ output =
     ∷ 0x38 ∷ 0x20 ∷ 0x32 ∷ 0x20 ∷ 0x32 ∷ 0x20 ∷ 0x2D ∷ 0x2D ∷ 0x20 ∷ 0x33 ∷ 0x31 ∷ 0x33 ∷ 0x34 ∷ 0x35 ∷ 0x30 ∷ 0x0A
     ∷ 0x47 ∷ 0x42 ∷ 0x0A ∷ []
 
--- what a case says of a call: its status, the place after it, removed, n, the front of the area, the segment in a cell
+-- what a case says of a call: its status, the place after it, removed, n, the front of the area, the segment in a cell, the hold
 pub data Says : Type 0 where
   gives : Status → Says
   on : ℕ → Says
@@ -74,6 +73,7 @@ pub data Says : Type 0 where
   leaves : ℕ → Says
   shows : Bytes → Says
   holds : ℕ → ℕ → Bytes → Says
+  held : Bool → Says
 
 -- a call: its number, list and area; and what is said of it
 pub record Step : Type 0 where
@@ -87,49 +87,54 @@ pub data Case : Type 0 where
   lists : Bytes → Bytes → Case
   calls : Bytes → Position → List Step → Case
 
-abbrev same : Bytes → Bytes → Bool
+abbrev pub same : Bytes → Bytes → Bool
 same [] [] = true
 same [] (y ∷ ys) = false
 same (x ∷ xs) [] = false
 same (x ∷ xs) (y ∷ ys) = eqb x y && same xs ys
 
-abbrev isOn : ℕ → Place → Bool
+abbrev pub isOn : ℕ → Place → Bool
 isOn i (On c) = eqb (c .0) i
 isOn i (Before c) = false
 
-abbrev isGap : ℕ → Place → Bool
+abbrev pub isGap : ℕ → Place → Bool
 isGap i (On c) = false
 isGap i (Before c) = eqb (c .0) i
 
-abbrev met : Outcome → Says → Bool
-met o (gives s) = eqb (number (o .answer .status)) (number s)
-met o (on i) = isOn i (o .answer .position .place)
-met o (gap i) = isGap i (o .answer .position .place)
-met o (removes n) = eqb (o .answer .removed) n
-met o (leaves n) = eqb (count (o .table)) n
-met o (shows b) = same (take (length b) (o .area)) b
-met o (holds i t b) = eqb (segmentAt catalogue (o .table) i .code .0) t && same (segmentAt catalogue (o .table) i .bytes) b
+abbrev pub sameTest : Bool → Bool → Bool
+sameTest true b = b
+sameTest false b = not b
 
-abbrev runs : Bytes → Position → List Step → Bool
-runs tab pos [] = true
-runs tab pos (s ∷ ss) = let o = outcome catalogue tab pos (s .call) (s .list) (s .area) in every (met o) (s .says) && runs (o .table) (o .answer .position) ss
+abbrev pub met : Bytes → Outcome → Says → Bool
+met cat o (gives s) = eqb (number (o .answer .status)) (number s)
+met cat o (on i) = isOn i (o .answer .position .place)
+met cat o (gap i) = isGap i (o .answer .position .place)
+met cat o (removes n) = eqb (o .answer .removed) n
+met cat o (leaves n) = eqb (count (o .table)) n
+met cat o (shows b) = same (take (length b) (o .area)) b
+met cat o (holds i t b) = eqb (segmentAt cat (o .table) i .code .0) t && same (segmentAt cat (o .table) i .bytes) b
+met cat o (held b) = sameTest b (o .answer .position .hold)
 
-abbrev right : Case → Bool
+abbrev pub runs : Bytes → Bytes → Position → List Step → Bool
+runs cat tab pos [] = true
+runs cat tab pos (s ∷ ss) = let o = outcome cat tab pos (s .call) (s .list) (s .area) in every (met cat o) (s .says) && runs cat (o .table) (o .answer .position) ss
+
+abbrev pub right : Case → Bool
 right (lists tab text) = same (listingText catalogue tab) text
-right (calls tab pos steps) = runs tab pos steps
+right (calls tab pos steps) = runs catalogue tab pos steps
 
 -- where a get that found cell i leaves the position
-abbrev onCell : ℕ → Position
+abbrev pub onCell : ℕ → Position
 onCell i = record { place = On (cell i); parentage = Of (cell i); hold = false }
 
 -- an area, of C - 1 bytes
-abbrev area : Bytes
+abbrev pub area : Bytes
 area = 0 ∷ 0 ∷ 0 ∷ []
 
-abbrev tryT : Bytes
+abbrev pub tryT : Bytes
 tryT = 3 ∷ 1 ∷ 3 ∷ 0x54 ∷ []
 
-abbrev step14 : Bytes
+abbrev pub step14 : Bytes
 step14 = 2 ∷ 1 ∷ 2 ∷ 0x31 ∷ 0x34 ∷ []
 
 unfoldable pub cases : List Case
@@ -172,8 +177,3 @@ cases =
     -- B10 the empty table: GN answers GB
     ∷ calls empty fresh (record { call = 2; list = []; area = area; says = gives GB ∷ [] } ∷ [])
     ∷ []
-
--- the one claim
-pub bench : T (every right cases)
-unfolding computed cases catalogue table empty output
-bench = tt
