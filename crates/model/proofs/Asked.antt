@@ -77,6 +77,7 @@ sound-of cat tab pos e =
 pub record Usable (cat : Bytes) (pos : Position) (c : ℕ) (list area : Bytes) : Type 0 where
   pub first : 1 ≤ c
   pub last : c ≤ 9
+  pub read : isBlank (listRead cat list .fault) ≡ true
   pub some : isIsrt c ≡ true → isNil (listRead cat list .arguments) ≡ false
   pub long : isDlet c ≡ false → cellSize cat - 1 ≤ length area
   pub parent : isGnp c ≡ true → isAbsent (pos .parentage) ≡ false
@@ -109,6 +110,7 @@ usable-of cat pos c list area e =
     record {
       first = leb-true 1 c (both-left (leb 1 c) (leb c 9) n);
       last = leb-true c 9 (both-right (leb 1 c) (leb c 9) n);
+      read = not-true (isBlank fault) (r1 .0);
       some = and-false (isIsrt c) (isNil ar) (r2 .0);
       long = λ d. ltb-false (length area) (cellSize cat - 1) (and-false (not (isDlet c)) (ltb (length area) (cellSize cat - 1)) (r4 .0) (rw d));
       parent = and-false (isGnp c) (isAbsent (pos .parentage)) (r5 .0);
