@@ -1,5 +1,5 @@
 # make run: the main job on the shipped example. make test: the gate.
-.PHONY: run test fmt clean
+.PHONY: run test soak fmt clean
 
 run:
 	@tools/run-example
@@ -7,8 +7,12 @@ run:
 test:
 	@tools/gate
 
+soak:
+	@tools/soak
+
 fmt:
 	rt fmt
+	cargo fmt --manifest-path rust/Cargo.toml --all
 
 clean:
 	rm -rf target rust/target

@@ -1,0 +1,53 @@
+//! Compares two stores on generated input: the same bytes are lent to both, and status, result, position
+//! block, table and area must come back the same.
+//!
+//! A run is a row of cases, each drawn from the seed and its own number, so that a difference can be looked at
+//! alone. [`run()`] is the whole of it; [`command::main`] is the same for a command line.
+
+pub mod command;
+pub mod comparison;
+pub mod damage;
+pub mod dice;
+pub mod drawing;
+pub mod plan;
+pub mod scenarios;
+pub mod store;
+pub mod table;
+pub mod tally;
+
+pub use comparison::{Comparison, Difference};
+pub use store::{Functions, Store};
+pub use tally::Tally;
+
+/// The judge itself, as a store.
+pub const MODEL: Functions = Functions {
+    name: "model",
+    catalogue_check: model::lent::catalogue_check,
+    table_check: model::lent::table_check,
+    table_make: model::lent::table_make,
+    call: model::lent::call,
+    report: model::lent::report,
+};
+
+/// Compares until that many calls were compared, or to the first difference.
+pub fn run(
+    judge: &dyn Store,
+    store: &dyn Store,
+    seed: u64,
+    calls: u64,
+) -> Result<Tally, Box<Difference>> {
+    let mut comparison = Comparison::new(judge, store, seed);
+    for case in 0.. {
+        if comparison.tally.calls() >= calls {
+            break;
+        }
+        run_case(&mut comparison, case)?;
+    }
+    Ok(comparison.tally)
+}
+
+/// One case alone, as [`run()`] would run it.
+pub fn run_case(comparison: &mut Comparison, case: u64) -> Result<(), Box<Difference>> {
+    let mut dice = comparison.open_case(case);
+    scenarios::play(&mut dice, comparison, case)
+}

@@ -1,0 +1,461 @@
+//! What a case does.
+
+use crate::comparison::{Comparison, Difference, Left, Lent};
+use crate::damage;
+use crate::dice::Dice;
+use crate::drawing::{self, Word, DELETE, INSERT, REPLACE};
+use crate::plan::Plan;
+use crate::table::{Base, Size};
+
+type Played = Result<(), Box<Difference>>;
+
+const GET_NEXT: u8 = 2;
+const GET_HOLD_UNIQUE: u8 = 4;
+
+/// How often the long and the wide cases come, in cases.
+const LONG_EVERY: u64 = 150;
+const HUGE_EVERY: u64 = 400;
+
+/// Plays one case. The first is always what document 01 says to run also.
+pub fn play(dice: &mut Dice, comparison: &mut Comparison, case: u64) -> Played {
+    if case == 0 {
+        return run_also(dice, comparison);
+    }
+    if case % HUGE_EVERY == HUGE_EVERY / 2 {
+        return huge(dice, comparison);
+    }
+    if case % LONG_EVERY == LONG_EVERY / 2 {
+        let steps = dice.between(1000, 3000);
+        return session(dice, comparison, Size::Small, steps);
+    }
+    match dice.weighted(&[40, 30, 10, 4, 4, 7, 5]) {
+        0 => singles(dice, comparison),
+        1 => {
+            let steps = dice.between(10, 120);
+            session(dice, comparison, Size::Any, steps)
+        }
+        2 => damaged(dice, comparison),
+        3 => makers(dice, comparison),
+        4 => cuts(dice, comparison),
+        5 => reports(dice, comparison),
+        _ => loops(dice, comparison),
+    }
+}
+
+/// Calls that have nothing to do with one another, on one table.
+fn singles(dice: &mut Dice, comparison: &mut Comparison) -> Played {
+    let base = Base::draw(dice, Size::Any);
+    sound_blocks(comparison, &base)?;
+    for _ in 0..25 {
+        single(dice, comparison, &base)?;
+    }
+    Ok(())
+}
+
+fn single(dice: &mut Dice, comparison: &mut Comparison, base: &Base) -> Played {
+    let number = drawing::number(dice);
+    let position = drawing::position(dice, base);
+    let list = drawing::list(dice, base, number);
+    let area = drawing::area(dice, base, &position);
+    comparison.call(Lent {
+        catalogue: &base.catalogue,
+        table: &base.table,
+        position: &position,
+        number,
+        list: &list,
+        area: &area,
+    })?;
+    Ok(())
+}
+
+/// Both checks, on blocks that were drawn to be sound.
+fn sound_blocks(comparison: &mut Comparison, base: &Base) -> Played {
+    let catalogue = comparison.catalogue_check(&base.catalogue)?;
+    comparison.insist(catalogue == 0, "drawn catalogue is sound")?;
+    sound_table(comparison, base)
+}
+
+fn sound_table(comparison: &mut Comparison, base: &Base) -> Played {
+    let table = comparison.table_check(&base.catalogue, &base.table)?;
+    comparison.insist(table == 0, "table is sound")
+}
+
+/// A base on which calls follow one another, the position carried on.
+struct Session {
+    base: Base,
+    position: Vec<u8>,
+}
+
+impl Session {
+    fn new(base: Base) -> Session {
+        Session {
+            base,
+            position: drawing::block(0, 0, None, false),
+        }
+    }
+
+    /// A call; what it leaves behind is where the next one starts, and the table is checked.
+    fn call(
+        &mut self,
+        comparison: &mut Comparison,
+        number: u8,
+        list: &[u8],
+        area: &[u8],
+    ) -> Result<Left, Box<Difference>> {
+        let left = comparison.call(Lent {
+            catalogue: &self.base.catalogue,
+            table: &self.base.table,
+            position: &self.position,
+            number,
+            list,
+            area,
+        })?;
+        comparison.insist(
+            !(20..23).contains(&left.status()),
+            "what a call leaves is sound",
+        )?;
+        let changed = self.base.table != left.table;
+        self.base.table.copy_from_slice(&left.table);
+        self.position.copy_from_slice(&left.position);
+        if changed {
+            sound_table(comparison, &self.base)?;
+        }
+        Ok(left)
+    }
+
+    /// An area that is long enough.
+    fn area(&self, dice: &mut Dice) -> Vec<u8> {
+        let length = self.base.plan.cell_size() - 1 + dice.below(3);
+        self.base.draw_data(dice, length)
+    }
+
+    /// An area for REPL: the held data, changed outside the key, and rarely within.
+    fn replacement(&self, dice: &mut Dice, cell: usize) -> Vec<u8> {
+        let mut area = self.area(dice);
+        let data = self.base.data_at(cell);
+        let plan = self.base.plan.of(self.base.type_at(cell));
+        let strict = !dice.percent(15);
+        for (index, &byte) in data.iter().enumerate() {
+            let first = usize::from(plan.key_start);
+            let in_key = (first..first + usize::from(plan.key_length)).contains(&(index + 1));
+            if (in_key && strict) || dice.percent(20) {
+                area[index] = byte;
+            }
+        }
+        area
+    }
+
+    /// The next call of a session that mostly succeeds: with a hold it replaces or deletes, else it inserts
+    /// while there is room and gets otherwise.
+    fn step(&mut self, dice: &mut Dice, comparison: &mut Comparison) -> Played {
+        if dice.percent(7) {
+            return self.stray(dice, comparison);
+        }
+        let (count, capacity) = (self.base.count(), self.base.capacity());
+        let crowded = count * 4 > capacity * 3;
+        let held = drawing::placed_on(&self.position).filter(|_| drawing::is_held(&self.position));
+        let number = match held {
+            Some(_) => match dice.weighted(&[35, if crowded { 40 } else { 15 }, 35]) {
+                0 => REPLACE,
+                1 => DELETE,
+                _ => dice.between(1, 7) as u8,
+            },
+            None => match dice.weighted(&[if crowded { 12 } else { 45 }, 35, 30]) {
+                0 => INSERT,
+                1 => dice.between(4, 6) as u8,
+                _ => dice.between(1, 3) as u8,
+            },
+        };
+        let list = match number {
+            REPLACE | DELETE => Vec::new(),
+            INSERT if count == 0 || dice.percent(15) => vec![1, 0],
+            _ => drawing::sound_list(dice, &self.base, number),
+        };
+        let area = match held {
+            Some(cell) if number == REPLACE => self.replacement(dice, cell),
+            _ => self.area(dice),
+        };
+        self.call(comparison, number, &list, &area)?;
+        Ok(())
+    }
+
+    /// A call that may well be refused, or a place taken afresh.
+    fn stray(&mut self, dice: &mut Dice, comparison: &mut Comparison) -> Played {
+        if dice.percent(20) {
+            self.position = drawing::good_position(dice, &self.base);
+            return Ok(());
+        }
+        let number = drawing::number(dice);
+        let list = drawing::list(dice, &self.base, number);
+        let area = drawing::area(dice, &self.base, &self.position);
+        self.call(comparison, number, &list, &area)?;
+        Ok(())
+    }
+}
+
+fn session(dice: &mut Dice, comparison: &mut Comparison, size: Size, steps: usize) -> Played {
+    let base = Base::draw(dice, size);
+    let mut session = Session::new(base);
+    for _ in 0..steps {
+        session.step(dice, comparison)?;
+    }
+    Ok(())
+}
+
+/// A table of up to 4,096 cells.
+fn huge(dice: &mut Dice, comparison: &mut Comparison) -> Played {
+    let base = Base::draw(dice, Size::Huge);
+    sound_blocks(comparison, &base)?;
+    for _ in 0..10 {
+        single(dice, comparison, &base)?;
+    }
+    let mut session = Session::new(base);
+    session.position = drawing::good_position(dice, &session.base);
+    for _ in 0..20 {
+        session.step(dice, comparison)?;
+    }
+    Ok(())
+}
+
+/// Damaged blocks: checks, maker, and calls that must see the damage.
+fn damaged(dice: &mut Dice, comparison: &mut Comparison) -> Played {
+    let base = Base::draw(dice, Size::Small);
+    for _ in 0..25 {
+        let catalogue = if dice.percent(40) {
+            damage::catalogue(dice, &base)
+        } else {
+            base.catalogue.clone()
+        };
+        let table = if dice.percent(70) {
+            damage::table(dice, &base)
+        } else {
+            base.table.clone()
+        };
+        comparison.catalogue_check(&catalogue)?;
+        comparison.table_check(&catalogue, &table)?;
+        comparison.table_make(&catalogue, &table)?;
+        let number = drawing::number(dice);
+        let position = drawing::position(dice, &base);
+        let list = drawing::list(dice, &base, number);
+        let area = drawing::area(dice, &base, &position);
+        comparison.call(Lent {
+            catalogue: &catalogue,
+            table: &table,
+            position: &position,
+            number,
+            list: &list,
+            area: &area,
+        })?;
+        let room = dice.bytes(40);
+        comparison.reports(&catalogue, &table, &[1, 0], &list, &room)?;
+    }
+    Ok(())
+}
+
+/// The maker on slices of every small length, and at both ends of M; and types at the deepest level.
+fn makers(dice: &mut Dice, comparison: &mut Comparison) -> Played {
+    let plan = Plan::draw(dice);
+    let catalogue = plan.block();
+    let size = plan.cell_size();
+    for _ in 0..20 {
+        let length = match dice.below(4) {
+            0 => dice.below(20),
+            1 => 8 + size * dice.below(12),
+            2 => 8 + size * dice.below(12) + 1,
+            _ => dice.below(8 + 6 * size),
+        };
+        let slice = dice.bytes(length);
+        let made = comparison.table_make(&catalogue, &slice)?;
+        comparison.table_check(&catalogue, &made)?;
+    }
+    for levels in [15, 16] {
+        let deep = Plan::chain(dice, levels).block();
+        comparison.catalogue_check(&deep)?;
+        comparison.table_make(&deep, &[0; 12])?;
+    }
+    too_many(comparison)
+}
+
+/// T and F at their limits and one beyond, in blocks of the right length.
+fn too_many(comparison: &mut Comparison) -> Played {
+    for (types, fields) in [(0, 0), (1, 0), (32, 64), (33, 0), (1, 65), (255, 255)] {
+        let mut block = b"HDC\x00\x01".to_vec();
+        block.extend([types, fields, 0]);
+        for code in 1..=types {
+            block.extend([u8::from(code > 1), 1, 0, 0, 0, 0, 0, 0]);
+        }
+        for _ in 0..fields {
+            block.extend([1, 1, 1, 0]);
+        }
+        comparison.catalogue_check(&block)?;
+    }
+    Ok(())
+}
+
+/// A list cut at every byte, for a call of each kind.
+fn cuts(dice: &mut Dice, comparison: &mut Comparison) -> Played {
+    let base = Base::draw(dice, Size::Small);
+    let words = drawing::words(dice, &base);
+    let list = drawing::list_of(&words);
+    let position = drawing::good_position(dice, &base);
+    let area = drawing::area(dice, &base, &position);
+    for end in 0..=list.len() {
+        let number = drawing::number(dice);
+        comparison.call(Lent {
+            catalogue: &base.catalogue,
+            table: &base.table,
+            position: &position,
+            number,
+            list: &list[..end],
+            area: &area,
+        })?;
+    }
+    Ok(())
+}
+
+/// The three reports on random pairs of lists, with an out that is exact, long or too short.
+fn reports(dice: &mut Dice, comparison: &mut Comparison) -> Played {
+    let base = Base::draw(dice, Size::Any);
+    for _ in 0..15 {
+        let words = several_words(dice, &base);
+        let seam = dice.between(1, words.len().max(2) - 1).min(words.len());
+        let mut list1 = drawing::list_of(&words[..seam]);
+        let mut list2 = drawing::list_of(&words[seam..]);
+        if dice.percent(10) {
+            list1 = drawing::faulty_list(dice, &base);
+        }
+        if dice.percent(10) {
+            list2 = drawing::faulty_list(dice, &base);
+        }
+        let ample = vec![0xEE; 2 * base.count() + 3];
+        let packed = comparison.reports(&base.catalogue, &base.table, &list1, &list2, &ample)?;
+        let hits = (packed >> 32) as usize;
+        for room in [2 * hits, (2 * hits).saturating_sub(1)] {
+            let out = vec![0xEE; room];
+            comparison.reports(&base.catalogue, &base.table, &list1, &list2, &out)?;
+        }
+    }
+    Ok(())
+}
+
+/// A list with two arguments or more, if a few tries give one: a pair of lists needs them.
+fn several_words(dice: &mut Dice, base: &Base) -> Vec<Word> {
+    for _ in 0..6 {
+        let words = drawing::words(dice, base);
+        if words.len() > 1 {
+            return words;
+        }
+    }
+    drawing::words(dice, base)
+}
+
+/// Get-next loops with one list, which must end by call n + 1.
+fn loops(dice: &mut Dice, comparison: &mut Comparison) -> Played {
+    let base = Base::draw(dice, Size::Small);
+    let count = base.count();
+    let mut session = Session::new(base);
+    for _ in 0..4 {
+        session.position = drawing::good_position(dice, &session.base);
+        let number = *dice.pick(&[2, 5, 3, 6]);
+        let list = drawing::sound_list(dice, &session.base, number);
+        let area = session.area(dice);
+        let mut calls = 1;
+        while session.call(comparison, number, &list, &area)?.status() < 10 {
+            comparison.insist(calls <= count, "get-next loop ends by call n + 1")?;
+            calls += 1;
+        }
+    }
+    Ok(())
+}
+
+/// What document 01 says to run also, and the bench table itself.
+fn run_also(dice: &mut Dice, comparison: &mut Comparison) -> Played {
+    bench(comparison)?;
+    no_cells(comparison)?;
+    full_delete_insert(comparison)?;
+    deepest(dice, comparison)?;
+    most_cells(dice, comparison)
+}
+
+fn bench(comparison: &mut Comparison) -> Played {
+    let mut session = Session::new(Base::bench());
+    for _ in 0..12 {
+        session.call(comparison, GET_NEXT, &[], &[0; 3])?;
+    }
+    Ok(())
+}
+
+fn no_cells(comparison: &mut Comparison) -> Played {
+    let base = Base::bench();
+    let table = comparison.table_make(&base.catalogue, &[7; 8])?;
+    let mut session = Session::new(Base::new(base.plan, table, base.alphabet));
+    let refused = session.call(comparison, INSERT, &[1, 0], b"08C")?;
+    comparison.insist(refused.status() == 32, "no cell is free")
+}
+
+fn full_delete_insert(comparison: &mut Comparison) -> Played {
+    let mut session = Session::new(Base::bench());
+    for unit in [b"10A", b"11A", b"12A"] {
+        session.call(comparison, INSERT, &[1, 0], unit)?;
+    }
+    comparison.insist(session.base.count() == 12, "the table is full")?;
+    session.call(comparison, INSERT, &[1, 0], b"13A")?;
+    session.call(comparison, GET_HOLD_UNIQUE, b"\x01\x01\x0111", &[0; 3])?;
+    session.call(comparison, DELETE, &[], &[])?;
+    let done = session.call(comparison, INSERT, &[1, 0], b"13A")?;
+    comparison.insist(done.status() == 0, "the freed cell is used")
+}
+
+/// Level 15, filled from the top down, and level 16.
+fn deepest(dice: &mut Dice, comparison: &mut Comparison) -> Played {
+    let plan = Plan::chain(dice, 15);
+    let slice = vec![0; 8 + 20 * plan.cell_size()];
+    let table = comparison.table_make(&plan.block(), &slice)?;
+    let mut session = Session::new(Base::new(plan, table, vec![1, 2]));
+    for level in 1..=15 {
+        let area = session.area(dice);
+        session.call(comparison, INSERT, &[level, 0], &area)?;
+    }
+    comparison.insist(session.base.count() == 15, "fifteen levels")?;
+    for _ in 0..16 {
+        let area = session.area(dice);
+        session.call(comparison, GET_NEXT, &[], &area)?;
+    }
+    let deeper = Plan::chain(dice, 16).block();
+    let refused = comparison.catalogue_check(&deeper)?;
+    comparison.insist(refused == 20, "level 16 is refused")
+}
+
+/// M = 4,096 filled to the last cell, and M = 4,097.
+fn most_cells(dice: &mut Dice, comparison: &mut Comparison) -> Played {
+    let base = Base::bench();
+    let more = vec![0; 8 + 4097 * 4];
+    comparison.table_make(&base.catalogue, &more)?;
+    let mut table = comparison.table_make(&base.catalogue, &more[4..])?;
+    let mut one_more = table.clone();
+    one_more.resize(more.len(), 0);
+    comparison.table_check(&base.catalogue, &one_more)?;
+    table[8..12].copy_from_slice(b"\x0107A");
+    for cell in 1..4096 {
+        table[8 + 4 * cell] = 4;
+        table[9 + 4 * cell] = cell as u8;
+    }
+    table[6..8].copy_from_slice(&4096u16.to_be_bytes());
+    let full = Base::new(base.plan, table, base.alphabet);
+    let mut session = Session::new(full);
+    for cell in [0, 1, 2047, 4094, 4095] {
+        session.position = drawing::block(1, cell, Some(0), true);
+        session.call(comparison, GET_NEXT, &[], &[0; 3])?;
+    }
+    session.call(comparison, INSERT, &[4, 0], b"n  ")?;
+    session.position = drawing::block(1, 2000, Some(0), true);
+    session.call(comparison, DELETE, &[], &[])?;
+    session.call(comparison, INSERT, &[4, 0], b"n  ")?;
+    session.position = drawing::block(1, 0, Some(0), true);
+    session.call(comparison, DELETE, &[], &[])?;
+    comparison.insist(session.base.count() == 0, "the whole run is gone")?;
+    for _ in 0..10 {
+        session.step(dice, comparison)?;
+    }
+    Ok(())
+}

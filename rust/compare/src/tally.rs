@@ -1,0 +1,115 @@
+//! How often each call answered each status, so that one sees that everything is judged.
+
+use model::Status;
+use std::fmt;
+
+const NAMES: [&str; 16] = [
+    "other",
+    "GU",
+    "GN",
+    "GNP",
+    "GHU",
+    "GHN",
+    "GHNP",
+    "ISRT",
+    "REPL",
+    "DLET",
+    "catalogue",
+    "table",
+    "maker",
+    "nested",
+    "joined",
+    "plain",
+];
+
+const CALL_ROWS: usize = 10;
+
+/// Where something is counted.
+#[derive(Clone, Copy, PartialEq, Eq, Debug)]
+pub enum Row {
+    Call(u8),
+    CatalogueCheck,
+    TableCheck,
+    Maker,
+    Report(model::Way),
+}
+
+impl Row {
+    fn index(self) -> usize {
+        match self {
+            Row::Call(number) if (1..=9).contains(&number) => usize::from(number),
+            Row::Call(_) => 0,
+            Row::CatalogueCheck => 10,
+            Row::TableCheck => 11,
+            Row::Maker => 12,
+            Row::Report(model::Way::Nested) => 13,
+            Row::Report(model::Way::Joined) => 14,
+            Row::Report(model::Way::Plain) => 15,
+        }
+    }
+}
+
+/// The column of a status: its place in the table of document 01.
+fn column(status: Status) -> usize {
+    let is_it = |each: &Status| *each == status;
+    Status::ALL.iter().position(is_it).expect("all are there")
+}
+
+#[derive(Clone, Default)]
+pub struct Tally {
+    counts: [[u64; Status::ALL.len()]; NAMES.len()],
+    /// How many of the calls were put to the sound call as well.
+    pub sound: u64,
+}
+
+impl Tally {
+    pub fn count(&mut self, row: Row, status: u8) {
+        let status = Status::of_number(status).expect("the judge answers with a known status");
+        self.counts[row.index()][column(status)] += 1;
+    }
+
+    pub fn of(&self, row: Row, status: Status) -> u64 {
+        self.counts[row.index()][column(status)]
+    }
+
+    /// How many calls were compared, the checked and the sound ones.
+    pub fn calls(&self) -> u64 {
+        let checked: u64 = self.counts[..CALL_ROWS].iter().flatten().sum();
+        checked + self.sound
+    }
+
+    pub fn add(&mut self, other: &Tally) {
+        for (row, more) in self.counts.iter_mut().zip(&other.counts) {
+            for (count, more) in row.iter_mut().zip(more) {
+                *count += more;
+            }
+        }
+        self.sound += other.sound;
+    }
+}
+
+impl fmt::Display for Tally {
+    fn fmt(&self, out: &mut fmt::Formatter) -> fmt::Result {
+        write!(out, "{:10}", "")?;
+        for status in Status::ALL {
+            write!(out, "{:>9}", status.letters())?;
+        }
+        writeln!(out)?;
+        for (name, row) in NAMES.iter().zip(&self.counts) {
+            write!(out, "{name:10}")?;
+            for &count in row {
+                match count {
+                    0 => write!(out, "{:>9}", ".")?,
+                    _ => write!(out, "{count:>9}")?,
+                }
+            }
+            writeln!(out)?;
+        }
+        write!(
+            out,
+            "calls compared: {}, of them sound calls: {}",
+            self.calls(),
+            self.sound
+        )
+    }
+}

@@ -1,0 +1,533 @@
+//! The faults, each as one change to one place of the judge's sources. Layout does not matter, words do.
+
+/// One change.
+pub struct Change {
+    pub name: &'static str,
+    pub module: &'static str,
+    pub from: &'static str,
+    pub to: &'static str,
+}
+
+const fn change(
+    module: &'static str,
+    name: &'static str,
+    from: &'static str,
+    to: &'static str,
+) -> Change {
+    Change {
+        name,
+        module,
+        from,
+        to,
+    }
+}
+
+pub const CHANGES: &[Change] = &[
+    // The order of refusals.
+    change(
+        "calls",
+        "TX where the catalogue is bad",
+        "Catalogue::read(catalogue).ok_or(Status::CX)?",
+        "Catalogue::read(catalogue).ok_or(Status::TX)?",
+    ),
+    change(
+        "lib",
+        "the call number judged before the position",
+        "let place = Position::read",
+        "if Call::of_number(number).is_none() { return Err(Status::AD); } let place = Position::read",
+    ),
+    change(
+        "calls",
+        "the list judged before the call number",
+        "let call = Call::of_number(number).ok_or(Status::AD)?;",
+        "read_list(&self.catalogue, list)?; let call = Call::of_number(number).ok_or(Status::AD)?;",
+    ),
+    change(
+        "calls",
+        "the area looked at before list faults",
+        "let list = read_list(&self.catalogue, list)?;",
+        "if call != Call::Delete && area.len() < self.catalogue.longest() { return Err(Status::AB); }
+         let list = read_list(&self.catalogue, list)?;",
+    ),
+    change(
+        "calls",
+        "the area looked at before AH and the other AJ",
+        "self.judge_list(call, &list)?;",
+        "if call != Call::Delete && area.len() < self.catalogue.longest() { return Err(Status::AB); }
+         self.judge_list(call, &list)?;",
+    ),
+    change(
+        "calls",
+        "DJ before AB",
+        "if call != Call::Delete && area.len()",
+        "if call == Call::Replace && !position.hold { return Err(Status::DJ); }
+         if call != Call::Delete && area.len()",
+    ),
+    change(
+        "calls",
+        "FX before GE",
+        "let (last, above) = list.split_last()",
+        "if self.forest.is_full() { return Err(Status::FX); }
+         let (last, above) = list.split_last()",
+    ),
+    change(
+        "calls",
+        "FX before II",
+        "if self.forest.has_rival",
+        "if self.forest.is_full() { return Err(Status::FX); } if self.forest.has_rival",
+    ),
+    change(
+        "arguments",
+        "AK where the field number is missing",
+        "let number = take_byte(rest).ok_or(Status::AJ)?;",
+        "let number = take_byte(rest).ok_or(Status::AK)?;",
+    ),
+    change(
+        "arguments",
+        "a missing operator seen before the type",
+        "let type_code = take_byte(rest).ok_or(Status::AC)?;",
+        "let type_code = take_byte(rest).ok_or(Status::AC)?;
+         if rest.is_empty() { return Err(Status::AJ); }",
+    ),
+    // Refusals that come where they should not, or not where they should.
+    change(
+        "calls",
+        "AB looked at for DLET",
+        "if call != Call::Delete && area.len()",
+        "if area.len()",
+    ),
+    change(
+        "calls",
+        "an exact area refused",
+        "area.len() < self.catalogue.longest()",
+        "area.len() <= self.catalogue.longest()",
+    ),
+    change(
+        "calls",
+        "a list let through for REPL and DLET",
+        "(Call::Replace | Call::Delete, Some(_)) => Err(Status::AJ),",
+        "",
+    ),
+    change(
+        "calls",
+        "ISRT's last argument may be qualified",
+        "(Call::Insert, Some(last)) if last.test.is_some() => Err(Status::AJ),",
+        "",
+    ),
+    change(
+        "calls",
+        "call number 10 taken for DLET",
+        "9 => Some(Call::Delete),",
+        "9 | 10 => Some(Call::Delete),",
+    ),
+    change(
+        "calls",
+        "REPL may change a key",
+        "if segment.data[key.clone()] != data[key]",
+        "if false",
+    ),
+    change(
+        "calls",
+        "REPL may change nothing at all",
+        "if segment.data[key.clone()] != data[key]",
+        "if segment.data != data",
+    ),
+    change(
+        "forest",
+        "a multiple key may not have equals",
+        "catalogue.of(segment.type_code).kind == KeyKind::Unique &&",
+        "catalogue.of(segment.type_code).kind != KeyKind::None &&",
+    ),
+    change(
+        "forest",
+        "FX one cell early",
+        "self.count() == self.capacity",
+        "self.count() + 1 >= self.capacity",
+    ),
+    change(
+        "lib",
+        "a refusal drops the hold",
+        "removed: 0, position: position.to_vec(),",
+        "removed: 0, position: position.iter().enumerate()
+         .map(|(index, &byte)| if index == 6 { 0 } else { byte }).collect(),",
+    ),
+    change(
+        "lib",
+        "the maker answers TX where the catalogue is bad",
+        "Catalogue::read(catalogue).ok_or(Status::CX)?",
+        "Catalogue::read(catalogue).ok_or(Status::TX)?",
+    ),
+    // Blocks.
+    change(
+        "catalogue",
+        "33 types accepted",
+        "(1..=32).contains(&type_count)",
+        "(1..=33).contains(&type_count)",
+    ),
+    change(
+        "catalogue",
+        "65 fields accepted",
+        "field_count <= 64",
+        "field_count <= 65",
+    ),
+    change(
+        "catalogue",
+        "level 16 accepted",
+        "DEEPEST_LEVEL: usize = 15",
+        "DEEPEST_LEVEL: usize = 16",
+    ),
+    change(
+        "catalogue",
+        "length 121 accepted",
+        "(1..=120).contains(&length)",
+        "(1..=121).contains(&length)",
+    ),
+    change("catalogue", "byte 7 not tested", "&& header[7] == 0", ""),
+    change(
+        "catalogue",
+        "three zero bytes not tested",
+        "|| entry[5..] != [0, 0, 0]",
+        "",
+    ),
+    change(
+        "catalogue",
+        "a field's zero byte not tested",
+        "(entry[3] == 0).then_some(Field",
+        "true.then_some(Field",
+    ),
+    change(
+        "catalogue",
+        "a key start without a key accepted",
+        "(KeyKind::None, 0, 0) => 0..0, (KeyKind::None, _, _) => return None,",
+        "(KeyKind::None, _, _) => 0..0,",
+    ),
+    change(
+        "catalogue",
+        "start and length wrap",
+        "let end = first + usize::from(length);",
+        "let end = first.max(usize::from((first as u8).wrapping_add(length)));",
+    ),
+    change(
+        "catalogue",
+        "any earlier type as parent",
+        "let depth = previous.lineage.iter().position(|&above| above == parent)?;
+         previous.lineage[..=depth].to_vec()",
+        "self.segment_type(parent)?.lineage.clone()",
+    ),
+    change(
+        "forest",
+        "4,097 cells accepted",
+        "MOST_CELLS: usize = 4096",
+        "MOST_CELLS: usize = 4097",
+    ),
+    change(
+        "forest",
+        "4,096 cells refused",
+        "MOST_CELLS: usize = 4096",
+        "MOST_CELLS: usize = 4095",
+    ),
+    change(
+        "forest",
+        "the table's version not tested",
+        "header.starts_with(MARK)",
+        "header.starts_with(&MARK[..3])",
+    ),
+    change(
+        "forest",
+        "padding not tested",
+        "all_zero(padding).then(||",
+        "true.then(||",
+    ),
+    change(
+        "forest",
+        "free cells not tested",
+        "all_zero(free).then_some(forest)",
+        "Some(forest)",
+    ),
+    change(
+        "forest",
+        "groups in any order",
+        "return last.type_code < next.type_code;",
+        "return true;",
+    ),
+    change(
+        "forest",
+        "unique keys may be equal",
+        "KeyKind::Unique => lesser < greater,",
+        "KeyKind::Unique => lesser <= greater,",
+    ),
+    change(
+        "forest",
+        "multiple keys must differ",
+        "KeyKind::Multiple => lesser <= greater,",
+        "KeyKind::Multiple => lesser < greater,",
+    ),
+    change(
+        "forest",
+        "the parent's type not tested",
+        "if open.type_code != above { return None; }",
+        "",
+    ),
+    // The position.
+    change(
+        "position",
+        "a hold in a gap accepted",
+        "&& (hold == 0 || matches!(place, Place::On(_)))",
+        "",
+    ),
+    change(
+        "position",
+        "the gap behind the parent's run refused",
+        "|| *path == forest.after_run(above)",
+        "",
+    ),
+    change(
+        "position",
+        "the parentage not tested on a cell",
+        "Place::On(path) => path.starts_with(above),",
+        "Place::On(_) => true,",
+    ),
+    change(
+        "position",
+        "the parentage of a cell must be above it",
+        "Place::On(path) => path.starts_with(above),",
+        "Place::On(path) => is_beneath(path, above),",
+    ),
+    change("position", "the last byte not tested", "&& zero == 0", ""),
+    change(
+        "position",
+        "an absent parentage may have a number",
+        "(0, 0) => None,",
+        "(0, _) => None,",
+    ),
+    change(
+        "position",
+        "the gap behind the last cell refused",
+        "0 if cell == forest.count() => Some(Place::Before(None)),",
+        "0 if cell == forest.count() && cell == 0 => Some(Place::Before(None)),",
+    ),
+    // Lists.
+    change(
+        "catalogue",
+        "a type counts as beneath itself",
+        "lower != upper && self.of(lower)",
+        "self.of(lower)",
+    ),
+    change(
+        "arguments",
+        "bytes compared with their sign",
+        "test.operator.accepts(field.cmp(test.value))",
+        "let signed = |bytes: &[u8]| bytes.iter().map(|&byte| byte as i8).collect::<Vec<_>>();
+         test.operator.accepts(signed(field).cmp(&signed(test.value)))",
+    ),
+    change(
+        "arguments",
+        "the field stands right of the operator",
+        "field.cmp(test.value)",
+        "test.value.cmp(field)",
+    ),
+    change(
+        "arguments",
+        "at most is less than",
+        "Operator::LessOrEqual => order != Ordering::Greater,",
+        "Operator::LessOrEqual => order == Ordering::Less,",
+    ),
+    change(
+        "arguments",
+        "a field of another type accepted",
+        ".filter(|field| field.type_code == type_code)",
+        ".filter(|field| field.bytes.end <= catalogue.of(type_code).length)",
+    ),
+    change(
+        "arguments",
+        "only the last argument is tested",
+        "&& branch.iter().all(",
+        "&& branch[branch.len() - 1..].iter().all(",
+    ),
+    // Along the position.
+    change(
+        "calls",
+        "implied levels taken from the start of the table",
+        "let kept = self.kept(place, levels);",
+        "let kept = Path::new();",
+    ),
+    change(
+        "calls",
+        "the last implied level not kept",
+        ".map_or(0, |last| last + 1)",
+        ".unwrap_or(0)",
+    ),
+    change(
+        "calls",
+        "the whole stretch kept",
+        "path[..kept].to_vec()",
+        "path[..if kept > 0 { stretch } else { 0 }].to_vec()",
+    ),
+    change(
+        "calls",
+        "a second try from the start",
+        "self.seek(kept, rest)",
+        "self.seek(kept, rest).or_else(|| self.seek(Path::new(), levels))",
+    ),
+    change(
+        "arguments",
+        "a level named without a test counts as implied",
+        "self.argument.is_none() }",
+        "self.argument.is_none_or(|argument| argument.test.is_none()) }",
+    ),
+    // Gets.
+    change(
+        "calls",
+        "GNP running on behind its parent",
+        "if above.is_some_and(|above| !is_beneath(&path, above)) { return None; }",
+        "",
+    ),
+    change(
+        "calls",
+        "GN from a gap passes over the cell behind it",
+        "Place::Before(path) => path.clone(),",
+        "Place::Before(path) => path.as_ref().and_then(|path| self.forest.next(path)),",
+    ),
+    change(
+        "calls",
+        "GA and GK swapped",
+        "Status::GA } else if found.len() == path.len() && from.type_code != to.type_code { Status::GK }",
+        "Status::GK } else if found.len() == path.len() && from.type_code != to.type_code { Status::GA }",
+    ),
+    change(
+        "calls",
+        "GA and GK with a list too",
+        "if scope != Scope::Unique && list.is_empty()",
+        "if scope != Scope::Unique",
+    ),
+    change(
+        "calls",
+        "GA and GK for GN only",
+        "if scope != Scope::Unique && list.is_empty()",
+        "if scope == Scope::Next && list.is_empty()",
+    ),
+    change(
+        "calls",
+        "GB for GNP",
+        "let at_end = scope == Scope::Next &&",
+        "let at_end = scope != Scope::Unique &&",
+    ),
+    change(
+        "calls",
+        "GE instead of GB",
+        "let at_end = scope == Scope::Next && list.is_empty();",
+        "let at_end = false;",
+    ),
+    change(
+        "calls",
+        "a hold that survives a miss",
+        "subject: None, removed: 0, position: position.without_hold(),",
+        "subject: None, removed: 0, position,",
+    ),
+    change(
+        "calls",
+        "GHN sets no hold",
+        "5 => get(Scope::Next, true),",
+        "5 => get(Scope::Next, false),",
+    ),
+    change(
+        "calls",
+        "GNP sets the parentage",
+        "let parentage = if scope == Scope::NextWithinParent {",
+        "let parentage = if false {",
+    ),
+    change(
+        "calls",
+        "GN leaves the parentage",
+        "let parentage = if scope == Scope::NextWithinParent {",
+        "let parentage = if scope != Scope::Unique {",
+    ),
+    change(
+        "lib",
+        "the rest of the area cleared",
+        "let mut bytes = slice.to_vec();",
+        "let mut bytes = vec![0; slice.len()];",
+    ),
+    // ISRT, REPL, DLET.
+    change(
+        "forest",
+        "a multiple key put before its equals",
+        "other.key(catalogue) > new.key(catalogue)",
+        "other.key(catalogue) >= new.key(catalogue)",
+    ),
+    change(
+        "forest",
+        "an unkeyed segment put first",
+        "catalogue.of(new.type_code).kind != KeyKind::None &&",
+        "catalogue.of(new.type_code).kind == KeyKind::None ||",
+    ),
+    change(
+        "forest",
+        "a new segment put behind groups of higher code",
+        "return other.type_code > new.type_code;",
+        "return false;",
+    ),
+    change(
+        "calls",
+        "ISRT keeps the hold",
+        "place: Place::On(path), hold: false,",
+        "place: Place::On(path), hold: position.hold,",
+    ),
+    change(
+        "calls",
+        "ISRT drops the parentage",
+        "position: Position { parentage: position.parentage.filter(|above| is_beneath(&path, above)),",
+        "position: Position { parentage: None,",
+    ),
+    change(
+        "calls",
+        "ISRT sets the parentage as GU does",
+        "position: Position { parentage: position.parentage.filter(|above| is_beneath(&path, above)),",
+        "position: Position { parentage: Some(path.clone()),",
+    ),
+    change(
+        "calls",
+        "REPL keeps the hold",
+        "subject: Some(self.subject(&path)), removed: 0, position: position.without_hold(),",
+        "subject: Some(self.subject(&path)), removed: 0, position,",
+    ),
+    change(
+        "calls",
+        "the place after DLET on the cell behind the run",
+        "place: Place::Before(self.forest.at_or_after(&path)),",
+        "place: self.forest.at_or_after(&path).map_or(Place::Before(None), Place::On),",
+    ),
+    change(
+        "calls",
+        "DLET drops every parentage",
+        "place: Place::Before(self.forest.at_or_after(&path)),
+         parentage: position.parentage.filter(|above| is_beneath(&path, above)),",
+        "place: Place::Before(self.forest.at_or_after(&path)), parentage: None,",
+    ),
+    change(
+        "calls",
+        "removed counts children only",
+        "let removed = self.forest.remove(&path).size();",
+        "let removed = self.forest.remove(&path).size() - 1;",
+    ),
+    change(
+        "calls",
+        "the level counted from 0",
+        "level: path.len(),",
+        "level: path.len() - 1,",
+    ),
+    // Reports.
+    change(
+        "lib",
+        "a report refuses an exact out",
+        "if bytes.len() > out.len()",
+        "if bytes.len() >= out.len()",
+    ),
+    change(
+        "reports",
+        "the nested report forgets its first segment",
+        "let outer = database.get(position, Scope::Next, false, upper);",
+        "let outer = database.get(position, Scope::Next, false, upper);
+         if outer.subject.is_some() && outer.position.place == Place::On(vec![0]) { position = outer.position; continue; }",
+    ),
+];
