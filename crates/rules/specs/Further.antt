@@ -9,7 +9,7 @@ use Rattle.terms.specs.declared.Place.the-variants.{On}
 use Rattle.terms.specs.declared.Parentage.the-variants.{Of}
 use Rattle.terms.specs.declared.Position.{Position}
 use Rattle.terms.specs.declared.Status.{Status}
-use Rattle.terms.specs.declared.Status.the-variants.{Blank, GK, GE, CX, TX, DJ, FX}
+use Rattle.terms.specs.declared.Status.the-variants.{Blank, GK, GE, CX, TX, AC, DJ, II, FX}
 use Rattle.terms.specs.Names.{cell}
 use Rattle.terms.specs.Moves.{fresh}
 use Rattle.terms.specs.Statuses.{number}
@@ -95,6 +95,10 @@ further =
     ∷ record { call = 4; list = noteList; area = area; says = gives Blank ∷ on 1 ∷ held true ∷ [] }
     ∷ record { call = 9; list = []; area = []; says = gives Blank ∷ leaves 11 ∷ held false ∷ [] }
     ∷ record { call = 7; list = noteList; area = 0x7A ∷ 0 ∷ 0 ∷ []; says = gives Blank ∷ on 11 ∷ leaves 12 ∷ holds 11 4 (0x7A ∷ []) ∷ [] } ∷ [])
+    -- II comes before FX: a taken key in a full table
+    ∷ calls catalogue full fresh (record { call = 7; list = 1 ∷ 0 ∷ []; area = 0x30 ∷ 0x37 ∷ 0x42 ∷ []; says = gives II ∷ leaves 12 ∷ [] } ∷ [])
+    -- list faults come before AB: a type that is none, with no area
+    ∷ calls catalogue table fresh (record { call = 2; list = 9 ∷ 0 ∷ []; area = []; says = gives AC ∷ [] } ∷ [])
     -- a multiple key goes behind its equals
     ∷ calls multiple twoSegments fresh (
     record { call = 7; list = 1 ∷ 0 ∷ []; area = 0x61 ∷ 0x32 ∷ []; says = gives Blank ∷ on 1 ∷ leaves 3 ∷ holds 0 1 (0x61 ∷ 0x31 ∷ []) ∷ holds 1 1 (0x61 ∷ 0x32 ∷ []) ∷ [] } ∷ [])
