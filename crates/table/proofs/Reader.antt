@@ -48,9 +48,6 @@ module _ (cat : Bytes) (c d : Segment) where
   ]
 
 module _ (cat : Bytes) (cs : List Segment) where
-  back : (i k j : ℕ) → i < j → j ≤ i + suc k → j + (suc k - (j - i)) ≡ i + suc k
-  back i k j l h = omega arith
-
   -- the twin-group reader: no cell left, a cell that is no twin, a twin
   pub group-empty : (v i left : ℕ) (q : Option ℕ) → left ≡ 0 → Ends (afterGroup cat cs v q i left) i left i
   unfolding afterGroup
@@ -66,22 +63,26 @@ module _ (cat : Bytes) (cs : List Segment) where
       let a : i + suc k - i ≡ suc k = omega arith in
       record { low = omega arith; high = omega arith; rest = rw (Groups.group-out (typ cat cs) (fit cat cs) (keyOk cat cs) v q i (range (suc i) k) e, a) }
 
-  pub group-go : (v i left j r : ℕ) (q : Option ℕ) → (left ≡ 0 → ⊥) → isTwin cat cs v q i ≡ true → Ends (afterRow cat cs (typ cat cs i) (i + 1) (left - 1)) (i + 1) (left - 1) j
-      → Ends (afterGroup cat cs v (some i) j (left - (j - i))) j (left - (j - i)) r → Ends (afterGroup cat cs v q i left) i left r
+  -- a step of the loop to `end`: one twin read, and what is left behind its segment
+  pub group-step : (v i end j : ℕ) (q : Option ℕ) (L : List ℕ) → i < end → isTwin cat cs v q i ≡ true → Ends (afterRow cat cs (typ cat cs i) (i + 1) (end - i - 1)) (i + 1) (end - i - 1) j
+      → afterGroup cat cs v q i (end - i) ≡ L → afterGroup cat cs v (some i) j (end - j) ≡ L
   unfolding afterGroup afterRow isTwin
-  group-go v i zero j r q n e a b = absurd (n refl)
-  group-go v i (suc k) j r q n e a b =
+  group-step v i end j q L l e a g =
+      let k : ℕ = end - suc i in
+      let m₀ : end - i ≡ suc k = omega arith in
       let m₁ : i + 1 ≡ suc i = omega arith in
-      let m₂ : suc k - 1 ≡ k = omega arith in
-      let m₃ : suc i + k - j ≡ suc k - (j - i) = omega (arith, a .low, a .high) in
-      let m₄ : j + (suc k - (j - i)) ≡ i + suc k = back i k j (omega (arith, a .low)) (omega (arith, a .high)) in
-      let h : afterRow cat cs (typ cat cs i) (suc i) k ≡ range j (suc k - (j - i)) = rw (m₁, m₂, m₃) at (a .rest) in
-      let f : afterGroup cat cs v (some i) j (suc k - (j - i)) ≡ range r (i + suc k - r) = rw m₄ at (b .rest) in
-      record {
-        low = omega (arith, a .low, b .low);
-        high = omega (arith, a .low, a .high, b .high);
-        rest = Groups.group-in (typ cat cs) (fit cat cs) (keyOk cat cs) v q i (range (suc i) k) e ∙ ap (Groups.group (typ cat cs) (fit cat cs) (keyOk cat cs) v (some i)) h ∙ f;
-      }
+      let m₂ : end - i - 1 ≡ k = omega arith in
+      let m₃ : suc i + k - j ≡ end - j = omega arith in
+      let h : afterRow cat cs (typ cat cs i) (suc i) k ≡ range j (end - j) = rw (m₁, m₂, m₃) at (a .rest) in
+      let f : afterGroup cat cs v q i (suc k) ≡ L = rw m₀ at g in
+      sym (Groups.group-in (typ cat cs) (fit cat cs) (keyOk cat cs) v q i (range (suc i) k) e ∙ ap (Groups.group (typ cat cs) (fit cat cs) (keyOk cat cs) v (some i)) h) ∙ f
+
+  -- where the loop ends: at a cell that is no twin, and at `end`
+  pub group-ends : (v i left j : ℕ) (q : Option ℕ) → i ≤ j → j ≤ i + left → Ends (afterGroup cat cs v q j (i + left - j)) j (i + left - j) j
+      → afterGroup cat cs v q j (i + left - j) ≡ afterGroup cat cs v none i left → Ends (afterGroup cat cs v none i left) i left j
+  group-ends v i left j q l h a g =
+      let m : j + (i + left - j) - j ≡ i + left - j = omega arith in
+      record { low = l; high = h; rest = sym g ∙ (rw m at (a .rest)) }
 
   -- a twin has the type of its group
   pub twin-type : (v : TypeCode) (q : Option ℕ) (i : ℕ) → isTwin cat cs (v .0) q i ≡ true → segment cs i .code ≡ v

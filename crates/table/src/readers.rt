@@ -11,6 +11,7 @@ use terms::Order;
 use terms::TypeCode;
 ghost use mathlib.Core.Path.{_≡_};
 ghost use mathlib.Core.Bool.{true};
+ghost use mathlib.Core.Option.{none};
 ghost use Prim.Native.Nat.{_+_, _-_, _≤_, _<_};
 ghost use Rattle.rules.specs.Catalogue.{goodCatalogue};
 ghost use Rattle.rules.specs.Cells.{segment, goodListing};
@@ -48,28 +49,25 @@ fn twin(
     }
 }
 
-// "a group of twins is a row of segments of one type": where the twins of type v end, of the `left` cells from i on.
-fn group(
-    cat: &[u8],
-    tab: &[u8],
-    size: usize,
-    v: TypeCode,
-    first: bool,
-    last: usize,
-    i: usize,
-    left: usize,
-) -> usize
-    requires { ⌜ Known (now cat) (now tab) size v × Behind (listing (now cat) (now tab)) v first last × (i + left ≤ count (now tab)) ⌝ }
-    ensures { λ r. ⌜ Ends (afterGroup (now (cat .entry)) (listing (now (cat .entry)) (now (tab .entry))) (v .0) (prior first last) i left) i left r ⌝ }
+// "a group of twins is a row of segments of one type": where the twins of type v end, of the `left` cells from i on. The twins are read in a loop, so
+// that a call stands only for a level.
+fn group(cat: &[u8], tab: &[u8], size: usize, v: TypeCode, i: usize, left: usize) -> usize
+    requires { ⌜ Known (now cat) (now tab) size v × (i + left ≤ count (now tab)) ⌝ }
+    ensures { λ r. ⌜ Ends (afterGroup (now (cat .entry)) (listing (now (cat .entry)) (now (tab .entry))) (v .0) none i left) i left r ⌝ }
 {
-    if left == 0 {
-        return i;
+    let end = i + left;
+    let mut first = true;
+    let mut last = i;
+    let mut j = i;
+    while j < end {
+        if !twin(cat, tab, size, v, first, last, j) {
+            return j;
+        }
+        first = false;
+        last = j;
+        j = segment(cat, tab, size, j, end - j);
     }
-    if !twin(cat, tab, size, v, first, last, i) {
-        return i;
-    }
-    let j = segment(cat, tab, size, i, left);
-    group(cat, tab, size, v, false, i, j, left - (j - i))
+    j
 }
 
 // "a segment is its cell followed by its groups of child types in ascending code": where the segment of cell i ends.
@@ -90,7 +88,7 @@ fn segment(cat: &[u8], tab: &[u8], size: usize, i: usize, left: usize) -> usize
             return j;
         }
         if q == p {
-            j = group(cat, tab, size, TypeCode(v), true, i, j, end - j);
+            j = group(cat, tab, size, TypeCode(v), j, end - j);
         }
     }
     j
@@ -102,5 +100,5 @@ pub fn is_listing(cat: &[u8], tab: &[u8], size: usize) -> bool
     ensures { λ r. ⌜ r ≡ goodListing (now (cat .entry)) (listing (now (cat .entry)) (now (tab .entry))) ⌝ }
 {
     let n = count(tab);
-    group(cat, tab, size, TypeCode(1), true, 0, 0, n) == n
+    group(cat, tab, size, TypeCode(1), 0, n) == n
 }

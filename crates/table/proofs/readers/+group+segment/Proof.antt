@@ -1,5 +1,6 @@
 use mathlib.Core.Path.{_≡_, refl, ap, sym, _∙_}
 use mathlib.Core.Bool.{true}
+use mathlib.Core.Option.{none}
 use Prim.Native.Nat.{ℕ, _<_, _+_, _*_, _-_, _≤_}
 use native.Mathlib.Omega.{arith}
 use Rattle.terms.specs.declared.TypeCode.{TypeCode}
@@ -8,12 +9,12 @@ use Rattle.rules.specs.Catalogue.{isType}
 use Rattle.rules.specs.Cells.{segment}
 use Rattle.rules.specs.Table.{listing}
 use Rattle.rules.proofs.Cells.{listing-length}
-use Rattle.table.specs.Reader.{prior, afterRow, afterTypes}
+use Rattle.table.specs.Reader.{Behind, prior, afterGroup, afterRow, afterTypes}
 use Rattle.catalogue.proofs.Chains.{clash}
 use Rattle.catalogue.proofs.Hierarchy.{type-range, range-type, no-later-child}
 use Rattle.catalogue.proofs.Tests.{told-no, told-yes}
 use Rattle.rules.proofs.Catalogue.{par}
-use Rattle.table.proofs.Reader.{group-empty, group-stop, group-go, twin-type, types-first, types-pass, types-group, types-done}
+use Rattle.table.proofs.Reader.{group-empty, group-stop, group-step, group-ends, twin-type, types-first, types-pass, types-group, types-done}
 use borrow.Fn.Kinds.{In}
 use borrow.Fn.PlainCycle.{Measures, is, falls, and}
 use Rattle.table.proofs.readers.group.Reads as group
@@ -30,7 +31,7 @@ use Rattle.table.proofs.readers.+group+segment.{statement}
 use Rattle.table.proofs.readers.+group+segment.Tie.{close}
 
 abbrev μ-group : Measures 2 group-kinds.ps ℕ
-μ-group κs a = 2 * (a .1 .1 .1 .1 .1 .1 .1 .0) + 1
+μ-group κs a = 2 * (a .1 .1 .1 .1 .1 .0) + 1
 
 abbrev μ-segment : Measures 2 segment-kinds.ps ℕ
 μ-segment κs a = 2 * (a .1 .1 .1 .1 .0)
@@ -47,6 +48,12 @@ segment-at t = and 2 segment-kinds.ps (is 2 segment-kinds.ps μ-segment t) segme
 abbrev segment-below : ℕ → In 2 segment-kinds.ps
 segment-below t = and 2 segment-kinds.ps (falls 2 segment-kinds.ps _<_ μ-segment t) segment.Pre
 
+abbrev group-Inv-loop : group-lts.InvT-loop
+group-Inv-loop cat tab size v i left end first₀ last₀ j₀ first last j = (i ≤ j) × (j ≤ end) × Behind (listing cat tab) v first last × (afterGroup cat (listing cat tab) (v .0) (prior first last) j (end - j) ≡ afterGroup cat (listing cat tab) (v .0) none i left)
+
+abbrev group-μ-loop : group-lts.MeasureT-loop
+group-μ-loop cat tab size v i left end first₀ last₀ j₀ first last j = end - j
+
 abbrev segment-Inv-loop : segment-lts.InvT-loop
 segment-Inv-loop cat tab size i left p top end j₀ v₀ j v = (i < j) × (j ≤ end) × (p ≤ v) × (v ≤ top) × (afterTypes cat (listing cat tab) p v j (end - j) ≡ afterRow cat (listing cat tab) p (i + 1) (left - 1))
 
@@ -59,19 +66,20 @@ pub +group+segment-spec : {M : Type 1} → statement M
   twin-reads.Learnt,
   segment-below t,
   segment.Post,
-  group-below t,
-  group.Post,
 )
     (group-at t)
     group.Post
-    (λ c. group-empty _ _ _ _ _ _ (c .if1 .taken))
-    (λ c κs. (c .before .before .before .pre .1 .0, c .before .before .before .pre .1 .1, omega arith))
-    (λ c. group-stop _ _ _ _ _ _ (c .before .before .if1 .left) (told-no (c .before .twin .ensures) (c .if2 .taken)))
-    (λ c κs. (omega arith, (record { good = c .before .before .before .before .before .pre .1 .0 .good; sized = c .before .before .before .before .before .pre .1 .0 .sized; known = ap (isType (c .before .before .before .before .before .args .cat .now)) (twin-type (c .before .before .before .before .before .args .cat .now) (listing (c .before .before .before .before .before .args .cat .now) (c .before .before .before .before .before .args .tab .now)) (c .before .before .before .before .before .args .v) (prior (c .before .before .before .before .before .args .first) (c .before .before .before .before .before .args .last)) (c .before .before .before .before .before .args .i) (told-yes (c .before .twin .ensures) (c .if2 .left))) ∙ c .before .before .before .before .before .pre .1 .0 .known }, omega arith, omega arith)))
+    group-Inv-loop
+    group-μ-loop
     (λ c. omega arith)
+    (λ c. (omega arith, omega arith, record { within = λ e. absurd (clash {b = true} refl e); same = λ e. absurd (clash {b = true} refl e) }, let z : c .before .before .args .i + c .before .before .args .left - c .before .before .args .i ≡ c .before .before .args .left = omega arith in ap (afterGroup (c .before .before .args .cat .now) (listing (c .before .before .args .cat .now) (c .before .before .args .tab .now)) (c .before .before .args .v .0) none (c .before .before .args .i)) z))
+    (λ c κs. (c .before .before .before .before .pre .1 .0, c .before .loop .inv .2, omega arith))
+    (λ c. group-ends (c .before .before .before .before .before .before .args .cat .now) (listing (c .before .before .before .before .before .before .args .cat .now) (c .before .before .before .before .before .before .args .tab .now)) (c .before .before .before .before .before .before .args .v .0) (c .before .before .before .before .before .before .args .i) (c .before .before .before .before .before .before .args .left) (c .before .before .before .loop .j) (prior (c .before .before .before .loop .first) (c .before .before .before .loop .last)) (c .before .before .before .loop .inv .0) (c .before .before .before .loop .inv .1) (group-stop (c .before .before .before .before .before .before .args .cat .now) (listing (c .before .before .before .before .before .before .args .cat .now) (c .before .before .before .before .before .before .args .tab .now)) (c .before .before .before .before .before .before .args .v .0) (c .before .before .before .loop .j) _ (prior (c .before .before .before .loop .first) (c .before .before .before .loop .last)) (λ z. omega arith) (told-no (c .before .twin .ensures) (c .if1 .taken))) (c .before .before .before .loop .inv .3))
     (λ c. omega arith)
-    (λ c κs. (omega arith, (c .before .before .before .before .before .before .pre .1 .0, record { within = λ e. omega (arith, listing-length (c .before .before .before .before .before .before .args .cat .now) (c .before .before .before .before .before .before .args .tab .now)); same = λ e. twin-type (c .before .before .before .before .before .before .args .cat .now) (listing (c .before .before .before .before .before .before .args .cat .now) (c .before .before .before .before .before .before .args .tab .now)) (c .before .before .before .before .before .before .args .v) (prior (c .before .before .before .before .before .before .args .first) (c .before .before .before .before .before .before .args .last)) (c .before .before .before .before .before .before .args .i) (told-yes (c .before .before .twin .ensures) (c .before .if2 .left)) }, omega arith)))
-    (λ c. group-go _ _ _ _ _ (c .before .segment .result) (c .group .result) _ (c .before .before .before .before .if1 .left) (told-yes (c .before .before .before .twin .ensures) (c .before .before .if2 .left)) (c .before .segment .ensures) (c .group .ensures)))
+    (λ c κs. (omega arith, (record { good = c .before .before .before .before .before .before .pre .1 .0 .good; sized = c .before .before .before .before .before .before .pre .1 .0 .sized; known = ap (isType (c .before .before .before .before .before .before .args .cat .now)) (twin-type (c .before .before .before .before .before .before .args .cat .now) (listing (c .before .before .before .before .before .before .args .cat .now) (c .before .before .before .before .before .before .args .tab .now)) (c .before .before .before .before .before .before .args .v) (prior (c .before .before .before .loop .first) (c .before .before .before .loop .last)) (c .before .before .before .loop .j) (told-yes (c .before .twin .ensures) (c .if1 .left))) ∙ c .before .before .before .before .before .before .pre .1 .0 .known }, omega arith, omega arith)))
+    (λ c. omega (arith, c .segment .ensures .low))
+    (λ c. (omega (arith, c .segment .ensures .low), omega (arith, c .segment .ensures .high), record { within = λ e. omega (arith, listing-length (c .before .before .before .before .before .before .before .args .cat .now) (c .before .before .before .before .before .before .before .args .tab .now)); same = λ e. twin-type (c .before .before .before .before .before .before .before .args .cat .now) (listing (c .before .before .before .before .before .before .before .args .cat .now) (c .before .before .before .before .before .before .before .args .tab .now)) (c .before .before .before .before .before .before .before .args .v) (prior (c .before .before .before .before .loop .first) (c .before .before .before .before .loop .last)) (c .before .before .before .before .loop .j) (told-yes (c .before .before .twin .ensures) (c .before .if1 .left)) }, group-step (c .before .before .before .before .before .before .before .args .cat .now) (listing (c .before .before .before .before .before .before .before .args .cat .now) (c .before .before .before .before .before .before .before .args .tab .now)) (c .before .before .before .before .before .before .before .args .v .0) (c .before .before .before .before .loop .j) (c .before .before .before .before .before .before .before .args .i + c .before .before .before .before .before .before .before .args .left) (c .segment .result) (prior (c .before .before .before .before .loop .first) (c .before .before .before .before .loop .last)) _ (c .before .before .before .loop-test .taken) (told-yes (c .before .before .twin .ensures) (c .before .if1 .left)) (c .segment .ensures) (c .before .before .before .before .loop .inv .3)))
+    (λ c. group-ends (c .before .before .before .before .args .cat .now) (listing (c .before .before .before .before .args .cat .now) (c .before .before .before .before .args .tab .now)) (c .before .before .before .before .args .v .0) (c .before .before .before .before .args .i) (c .before .before .before .before .args .left) (c .before .loop .j) (prior (c .before .loop .first) (c .before .loop .last)) (c .before .loop .inv .0) (c .before .loop .inv .1) (group-empty (c .before .before .before .before .args .cat .now) (listing (c .before .before .before .before .args .cat .now) (c .before .before .before .before .args .tab .now)) (c .before .before .before .before .args .v .0) (c .before .loop .j) _ (prior (c .before .loop .first) (c .before .loop .last)) (omega arith)) (c .before .loop .inv .3)))
     λ t. segment-lts.spec (
       code-at-reads.Asked,
       code-at-reads.Learnt,
@@ -96,7 +104,7 @@ pub +group+segment-spec : {M : Type 1} → statement M
     (λ c. let below : par (c .before .before .before .before .before .before .before .before .args .cat .now) (c .before .before .before .loop .v + 1) < c .before .before .before .before .before .code-at .result .0 = omega (arith, ap (λ (u : TypeCode). u .0) (c .before .parent .ensures), c .if1 .taken) in
     rw (← c .before .before .before .before .before .code-at .ensures) (types-done (c .before .before .before .before .before .before .before .before .args .cat .now) (listing (c .before .before .before .before .before .before .before .before .args .cat .now) (c .before .before .before .before .before .before .before .before .args .tab .now)) (c .before .before .before .before .before .before .before .before .pre .1 .0 .good) (c .before .before .before .before .before .code-at .result .0) (c .before .before .before .loop .v) (c .before .before .before .before .before .before .before .before .args .i) (c .before .before .before .before .before .before .before .before .args .left) (c .before .before .before .loop .j) (λ w l m. no-later-child (c .before .before .before .before .before .before .before .before .args .cat .now) (c .before .before .before .before .before .before .before .before .pre .1 .0 .good) (c .before .before .before .before .before .code-at .result .0) (c .before .before .before .loop .v + 1) w (omega arith) below (omega arith) m) (omega arith) (omega arith) (c .before .before .before .loop .inv .4)))
     (λ c. omega arith)
-    (λ c κs. (omega arith, (record { good = c .before .before .before .before .before .before .before .before .before .pre .1 .0 .good; sized = c .before .before .before .before .before .before .before .before .before .pre .1 .0 .sized; known = range-type (c .before .before .before .before .before .before .before .before .before .args .cat .now) (code (c .before .before .before .before .loop .v + 1)) (omega arith) (omega (arith, c .before .before .before .before .before .types .ensures)) }, record { within = λ e. absurd (clash {b = true} refl e); same = λ e. absurd (clash {b = true} refl e) }, omega arith)))
+    (λ c κs. (omega arith, (record { good = c .before .before .before .before .before .before .before .before .before .pre .1 .0 .good; sized = c .before .before .before .before .before .before .before .before .before .pre .1 .0 .sized; known = range-type (c .before .before .before .before .before .before .before .before .before .args .cat .now) (code (c .before .before .before .before .loop .v + 1)) (omega arith) (omega (arith, c .before .before .before .before .before .types .ensures)) }, omega arith)))
     (λ c. omega arith)
     (λ c. (omega arith, omega arith, omega arith, omega arith, types-group (c .before .before .before .before .before .before .before .before .before .before .args .cat .now) (listing (c .before .before .before .before .before .before .before .before .before .before .args .cat .now) (c .before .before .before .before .before .before .before .before .before .before .args .tab .now)) (c .before .before .before .before .before .before .before .before .before .before .pre .1 .0 .good) (c .before .before .before .before .before .before .before .code-at .result .0) (c .before .before .before .before .before .loop .v) (c .before .before .before .before .before .loop .j) (c .before .before .before .before .before .before .before .before .before .before .args .i + c .before .before .before .before .before .before .before .before .before .before .args .left) (c .group .result) _ (sym (ap (λ (u : TypeCode). u .0) (c .before .before .before .parent .ensures)) ∙ c .before .if2 .taken) (omega (arith, c .before .before .before .before .before .before .types .ensures)) (omega arith) (c .group .ensures) (c .before .before .before .before .before .loop .inv .4)))
     (λ c. omega arith)

@@ -1,8 +1,5 @@
-use mathlib.Core.Path.{refl}
-use mathlib.Core.Bool.{true}
 use native.Mathlib.Omega.{arith}
 use Rattle.terms.specs.Names.{code}
-use Rattle.catalogue.proofs.Chains.{clash}
 use Rattle.catalogue.proofs.Hierarchy.{header-facts, range-type}
 use Rattle.table.proofs.Top.{listing-read}
 use borrow.Author.Needs.{needs}
@@ -10,4 +7,4 @@ use Rattle.table.proofs.readers.is_listing.Statement.{statement}
 use Rattle.table.proofs.readers.is_listing.Tie as tie
 
 pub is-listing-spec : {M : Type 1} → statement M
-is-listing-spec = tie.close (tie.spec (λ c κs. search needs) (λ c κs. (record { good = c .before .before .before .pre .0; sized = c .before .before .before .pre .1; known = range-type (c .before .before .before .args .cat .now) (code 1) (omega arith) (header-facts (c .before .before .before .args .cat .now) (c .before .before .before .pre .0) .types-least) }, record { within = λ e. absurd (clash {b = true} refl e); same = λ e. absurd (clash {b = true} refl e) }, omega (arith, c .count .ensures .0))) (λ c. listing-read (c .before .before .before .before .args .cat .now) (c .before .before .before .before .args .tab .now) (c .before .count .result) (c .group .result) (c .before .before .before .before .pre .0) (c .before .count .ensures .0) (c .group .ensures)))
+is-listing-spec = tie.close (tie.spec (λ c κs. search needs) (λ c κs. (record { good = c .before .before .before .pre .0; sized = c .before .before .before .pre .1; known = range-type (c .before .before .before .args .cat .now) (code 1) (omega arith) (header-facts (c .before .before .before .args .cat .now) (c .before .before .before .pre .0) .types-least) }, omega (arith, c .count .ensures .0))) (λ c. listing-read (c .before .before .before .before .args .cat .now) (c .before .before .before .before .args .tab .now) (c .before .count .result) (c .group .result) (c .before .before .before .before .pre .0) (c .before .count .ensures .0) (c .group .ensures)))
