@@ -64,7 +64,7 @@ fn after_place(q: Place) -> usize
 }
 
 // GA, GK or blank, of the cell that a get-next found.
-fn level_status(
+pub fn level_status(
     cat: &[u8],
     tab: &[u8],
     size: usize,

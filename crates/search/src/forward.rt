@@ -14,7 +14,7 @@ ghost use Rattle.search.specs.Good.{Good};
 ghost use Rattle.search.specs.Stretch.{levels, stretchBefore};
 
 // The first match from cell `from` on and before cell `to`; k is the stretch of the cell before.
-pub(crate) fn forward(
+pub fn forward(
     cat: &[u8],
     tab: &[u8],
     size: usize,

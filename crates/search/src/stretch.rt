@@ -73,7 +73,7 @@ fn one_more(
 }
 
 // The path from the root to a cell, by climbing.
-pub(crate) fn path_to(
+pub fn path_to(
     cat: &[u8],
     tab: &[u8],
     size: usize,
