@@ -4,3 +4,4 @@ pub mod Walk
 pub mod Above
 pub mod Sound
 pub mod Complete
+pub mod Short

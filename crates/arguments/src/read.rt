@@ -15,7 +15,7 @@ use terms::TypeCode;
 ghost use mathlib.Core.Path.{_≡_};
 ghost use mathlib.Core.List.{[]};
 ghost use Rattle.rules.specs.Arguments.{operatorOf, goodNext, isFieldOf, argumentAt, listRead};
-ghost use Rattle.arguments.specs.Sound.{statusOf};
+ghost use Rattle.arguments.specs.Sound.{rest, statusOf};
 
 // "1 =, 2 ≠, 3 <, 4 ≤, 5 >, 6 ≥". A list with another has answered AJ before this is asked.
 pub fn operator_of(b: u8) -> Operator
@@ -110,11 +110,11 @@ fn status_of(read: ArgumentRead) -> Status
     }
 }
 
-// "the first fault answers"; Blank, if there is none.
-pub fn fault(cat: &[u8], list: &[u8]) -> Status
-    ensures { λ r. ⌜ r ≡ listRead (now (cat .entry)) (now (list .entry)) .fault ⌝ }
+// The first fault of a list that is read on behind an argument of this type; Blank, if there is none.
+pub fn fault_behind(cat: &[u8], list: &[u8], last: TypeCode) -> Status
+    ensures { λ r. ⌜ r ≡ rest (now (cat .entry)) (now (list .entry)) last 0 .fault ⌝ }
 {
-    let mut before = TypeCode(0);
+    let mut before = last;
     let mut at = 0;
     while at < list.len() {
         let read = read_argument(cat, list, before, at);
@@ -125,4 +125,11 @@ pub fn fault(cat: &[u8], list: &[u8]) -> Status
         at = a.next;
     }
     Status::Blank
+}
+
+// "the first fault answers"; Blank, if there is none.
+pub fn fault(cat: &[u8], list: &[u8]) -> Status
+    ensures { λ r. ⌜ r ≡ listRead (now (cat .entry)) (now (list .entry)) .fault ⌝ }
+{
+    fault_behind(cat, list, TypeCode(0))
 }

@@ -25,7 +25,7 @@ use Rattle.rules.specs.Block.{Bytes, byte}
 use Rattle.rules.specs.Catalogue.{fieldLength}
 use Rattle.rules.specs.Arguments.{ListRead, operatorOf, goodNext, isFieldOf, argumentAt, listRead}
 use Rattle.arguments.specs.Sound.{rest, qualificationAt, nextAt, untested}
-use Rattle.arguments.proofs.Rest.{added, Sound, sound, faulty, read, rest-whole, rest-end, step, step-rest, step-fault, got-rest}
+use Rattle.arguments.proofs.Rest.{added, Sound, sound, faulty, read, rest-whole, rest-end, rest-fault, step, step-rest, step-fault, got-rest}
 use Rattle.arguments.proofs.Above.{next-type}
 
 -- an argument, k bytes further on
@@ -201,3 +201,64 @@ parts cat one two h e f =
           ∙ ap (λ (ar : List Argument). rest cat one (code 0) 0 .arguments ++ ar) ((rw z at (q .1)) ∙ ap (λ (r : ListRead). map (moved (length one)) (r .arguments)) w)
           ∙ ap (λ (r : ListRead). r .arguments ++ map (moved (length one)) (listRead cat two .arguments)) (rest-whole cat one);
     }
+
+-- the first fault of a list in two parts, whose first has none: that of the second, read on behind the first
+module _ (cat one two : Bytes) where
+  -- what is sound in the first part is read the same in the whole list
+  same-answer : (before : TypeCode) (at : ℕ) → at < length one → Sound cat one before at → argumentAt cat (one ++ two) before at ≡ argumentAt cat one before at
+  unfolding argumentAt goodNext isFieldOf qualificationAt
+  same-answer before at h s =
+      let n : length (one ++ two) ≡ length one + length two = length-append one two in
+      let b₀ : byte (one ++ two) at ≡ byte one at = List·getD-append one two 0 at h in
+      let b₁ : byte (one ++ two) (at + 1) ≡ byte one (at + 1) = List·getD-append one two 0 (at + 1) (s .room .operator) in
+      let l₁ = lt-leb (length one + length two) (at + 1) (omega (arith, s .room .operator)) in
+      let m₁ = lt-leb (length one) (at + 1) (s .room .operator) in
+      elim (is (eqb (byte one (at + 1)) 0)) [
+        | on e ↦ rw (n, b₀, b₁, l₁, m₁, e)
+        | off e ↦
+            let r = s .room .number (eqb-false (byte one (at + 1)) 0 e) in
+            let b₂ : byte (one ++ two) (at + 2) ≡ byte one (at + 2) = List·getD-append one two 0 (at + 2) r in
+            let w : ℕ = fieldLength cat (field (byte one (at + 2))) in
+            let v : at + 3 + w ≤ length one = (rw e at (s .test)) .within in
+            rw (n, b₀, b₁, b₂, l₁, m₁, e, lt-leb (length one + length two) (at + 2) (omega arith), lt-leb (length one) (at + 2) r, le-ltb (length one + length two) (at + 3 + w) (omega arith), le-ltb (length one) (at + 3 + w) v)
+      ]
+
+  front-fault : (n : ℕ) (before : TypeCode) (at : ℕ) → length one ≤ at + n → at ≤ length one → rest cat one before at .fault ≡ Blank
+      → rest cat (one ++ two) before at .fault ≡ rest cat (one ++ two) (behind before (rest cat one before at .arguments)) (length one) .fault
+  front-fault zero before at l m e = let z : at ≡ length one = omega arith in rw (rest-end cat one before at (omega arith), ← z)
+  front-fault (suc n) before at l m e = elim (side at (length one)) [
+    | outside h ↦ (let z : at ≡ length one = omega arith in rw (rest-end cat one before at h, ← z))
+    | inside h ↦
+        let s = step cat one before at h e in
+        let a : Argument = untested cat one at in
+        let b : at < length (one ++ two) = rw length-append (omega arith) in
+        let x : rest cat one before at ≡ added a (rest cat one (a .code) (a .next)) = step-rest cat one before at h e in
+        let y : rest cat (one ++ two) (a .code) (a .next) .fault ≡ rest cat (one ++ two) before at .fault = got-rest cat (one ++ two) before at b refl (same-answer before at h s ∙ s .answer) in
+        let i = front-fault n (a .code) (a .next) (omega (arith, s .onward)) (next-within cat one before at s) (sym (ap (λ (r : ListRead). r .fault) x) ∙ e) in
+        sym y ∙ i ∙ ap (λ (r : ListRead). rest cat (one ++ two) (behind before (r .arguments)) (length one) .fault) (sym x)
+  ]
+
+  back-fault : (n : ℕ) (before : TypeCode) (at : ℕ) → length two ≤ at + n → rest cat (one ++ two) before (length one + at) .fault ≡ rest cat two before at .fault
+  back-fault zero before at l = rw (rest-end cat two before at (omega arith), rest-end cat (one ++ two) before (length one + at) (rw length-append (omega arith)))
+  back-fault (suc n) before at l = elim (side at (length two)) [
+    | outside h ↦ rw (rest-end cat two before at h, rest-end cat (one ++ two) before (length one + at) (rw length-append (omega arith)))
+    | inside h ↦
+        let b : length one + at < length (one ++ two) = rw length-append (omega arith) in
+        elim (read cat two before at) [
+          | faulty s f e ↦ rw (rest-fault cat two before at s h e, rest-fault cat (one ++ two) before (length one + at) s b (shift cat one two before at ∙ ap (movedRead (length one)) e))
+          | sound g ↦
+              let a : Argument = untested cat two at in
+              let x : rest cat two (a .code) (a .next) .fault ≡ rest cat two before at .fault = got-rest cat two before at h refl (g .answer) in
+              let y : rest cat (one ++ two) (a .code) (length one + a .next) .fault ≡ rest cat (one ++ two) before (length one + at) .fault =
+              got-rest cat (one ++ two) before (length one + at) b refl (shift cat one two before at ∙ ap (movedRead (length one)) (g .answer)) in
+              sym y ∙ back-fault n (a .code) (a .next) (omega (arith, g .onward)) ∙ x
+        ]
+  ]
+
+  pub joined-fault : listRead cat one .fault ≡ Blank → listRead cat (one ++ two) .fault ≡ rest cat two (behind (code 0) (listRead cat one .arguments)) 0 .fault
+  joined-fault e =
+      let z : length one + 0 ≡ length one = omega arith in
+      let p = front-fault (length one) (code 0) 0 (omega arith) (omega arith) (ap (λ (r : ListRead). r .fault) (rest-whole cat one) ∙ e) in
+      sym (ap (λ (r : ListRead). r .fault) (rest-whole cat (one ++ two))) ∙ p
+      ∙ (rw z at (back-fault (length two) (behind (code 0) (rest cat one (code 0) 0 .arguments)) 0 (omega arith)))
+      ∙ ap (λ (r : ListRead). rest cat two (behind (code 0) (r .arguments)) 0 .fault) (rest-whole cat one)

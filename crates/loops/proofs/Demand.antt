@@ -35,7 +35,7 @@ use Rattle.loops.proofs.Matches.{levels-some, matches-meets, get-levels
 use Rattle.loops.proofs.Gets.{Fit, Under, start-fit, good-within, good-listing, gn-seeks, gnp-seeks}
 
 -- the test of a list
-abbrev test : Bytes → Bytes → Bytes → ℕ → Bool
+abbrev pub test : Bytes → Bytes → Bytes → ℕ → Bool
 test cat tab list = matches cat (listing cat tab) (getLevels cat list (listRead cat list .arguments))
 
 some-missed : (ls : List Level) → 0 < length ls → missStatus ls ≡ GE
@@ -57,14 +57,14 @@ more-missed [] l = absurd (omega arith)
 more-missed (x ∷ xs) l = refl
 
 module _ (cat tab area : Bytes) where
-  abbrev n : ℕ
+  abbrev pub n : ℕ
   n = length (listing cat tab)
 
   whole : n - 0 ≡ count tab
   whole = omega (arith, listing-length cat tab)
 
   -- the cells that match are those that are picked
-  hits-picked : (list : Bytes) → Accepted cat tab list area → hits (test cat tab list) 0 n ≡ picked cat tab list
+  pub hits-picked : (list : Bytes) → Accepted cat tab list area → hits (test cat tab list) 0 n ≡ picked cat tab list
   unfolding picked
   hits-picked list A =
       let ar : List Argument = listRead cat list .arguments in
@@ -101,7 +101,7 @@ module _ (cat tab area : Bytes) where
     second-read = parts cat one two (C .second) (C .between) (A .read) .second
 
     -- the tests of the two lists, and of the joined one
-    nests : Nests n (endAt cat (listing cat tab)) (test cat tab one) (test cat tab two) (test cat tab (one ++ two))
+    pub nests : Nests n (endAt cat (listing cat tab)) (test cat tab one) (test cat tab two) (test cat tab (one ++ two))
     nests =
         let p = parts cat one two (C .second) (C .between) (A .read) in
         let s₁ : SoundList cat one = record { catalogue = g; read = C .between } in

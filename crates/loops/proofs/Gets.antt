@@ -56,11 +56,11 @@ module _ (cat : Bytes) (cs : List Segment) (ls : List Level) where
   seek-at (suc d) i j k q l s h =
       seek-next cat cs ls i k (omega arith) (h i (omega arith) (omega arith)) ∙ seek-at d (suc i) j (k - 1) (omega arith) (omega arith) s (λ m a b. h m (omega arith) b)
 
-  first-nothing : (i e : ℕ) → Without (matches cat cs ls) i e → firstMatch cat cs ls i e ≡ Nothing
+  pub first-nothing : (i e : ℕ) → Without (matches cat cs ls) i e → firstMatch cat cs ls i e ≡ Nothing
   unfolding firstMatch
   first-nothing i e h = seek-nothing (e - i) i (λ m a b. h m a (omega arith))
 
-  first-at : (i j e : ℕ) → i ≤ j → j < e → matches cat cs ls j ≡ true → Without (matches cat cs ls) i j → firstMatch cat cs ls i e ≡ At (cell j)
+  pub first-at : (i j e : ℕ) → i ≤ j → j < e → matches cat cs ls j ≡ true → Without (matches cat cs ls) i j → firstMatch cat cs ls i e ≡ At (cell j)
   unfolding firstMatch
   first-at i j e a b s h = seek-at (j - i) i j (e - i) (omega arith) (omega arith) s h
 

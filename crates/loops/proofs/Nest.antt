@@ -38,11 +38,11 @@ module _ (get₁ get₂ : State → Outcome) (m k : ℕ) (s : State) where
 
 module _ (n : ℕ) (end : ℕ → ℕ) (outer inner joined : ℕ → Bool) (N : Nests n end outer inner joined) where
   -- no run of an outer cell before e reaches over e
-  abbrev Closed : ℕ → Type 0
+  abbrev pub Closed : ℕ → Type 0
   Closed e = (p : ℕ) → p < e → outer p ≡ true → end p ≤ e
 
   -- from there up to the next outer cell, that cell too, nothing passes the joined test
-  none-joined : (e j : ℕ) → Closed e → Without outer e j → (k : ℕ) → k < n → e ≤ k → k ≤ j → joined k ≡ false
+  pub none-joined : (e j : ℕ) → Closed e → Without outer e j → (k : ℕ) → k < n → e ≤ k → k ≤ j → joined k ≡ false
   none-joined e j c h k l x y = elim (is (joined k)) [
     | off z ↦ z
     | on z ↦
@@ -53,14 +53,14 @@ module _ (n : ℕ) (end : ℕ → ℕ) (outer inner joined : ℕ → Bool) (N : 
         ])
   ]
 
-  none-under : (i j : ℕ) → i < n → outer i ≡ true → i < j → j < end i → outer j ≡ false
+  pub none-under : (i j : ℕ) → i < n → outer i ≡ true → i < j → j < end i → outer j ≡ false
   none-under i j l s x y = elim (is (outer j)) [
     | off z ↦ z
     | on z ↦ absurd (N .apart i j (omega (arith, N .among i l)) s z x y)
   ]
 
   -- the run of the next outer cell closes again
-  closed-next : (e i : ℕ) → Closed e → e ≤ i → i < n → outer i ≡ true → Without outer e i → Closed (end i)
+  pub closed-next : (e i : ℕ) → Closed e → e ≤ i → i < n → outer i ≡ true → Without outer e i → Closed (end i)
   closed-next e i w u l s g p x y = elim (side p e) [
     | inside a ↦ omega (arith, w p a y, N .later i l)
     | outside a ↦ elim (side p i) [
@@ -73,7 +73,7 @@ module _ (n : ℕ) (end : ℕ → ℕ) (outer inner joined : ℕ → Bool) (N : 
   ]
 
   -- what passes the joined test from e on is what passes it in the run of the next outer cell i, and from there on
-  joined-run : (e i : ℕ) → Closed e → e ≤ i → i < n → Without outer e i → hits joined e n ≡ hits joined (suc i) (end i) ++ hits joined (end i) n
+  pub joined-run : (e i : ℕ) → Closed e → e ≤ i → i < n → Without outer e i → hits joined e n ≡ hits joined (suc i) (end i) ++ hits joined (end i) n
   joined-run e i w u l g =
       let a : i < end i = N .later i l in
       let b : end i ≤ n = N .among i l in

@@ -16,6 +16,8 @@ use Rattle.terms.specs.Moves.{placeNumber}
 use Rattle.rules.specs.Block.{Bytes, byte, word}
 use Rattle.rules.specs.Position.{positionOf}
 use Rattle.rules.specs.Outcome.{Outcome, outcome, soundOutcome, blockAfter}
+use Rattle.reports.specs.declared.Report.{Report}
+use Rattle.reports.specs.Report.{report}
 
 -- status, type, level and length, a byte each, the first lowest; removed above them
 unfoldable pub packed : Answer → ℕ
@@ -71,3 +73,19 @@ pub record Writable (block : Bytes) (p : Position) : Type 0 where
 pub record Fitting (block : Bytes) (a : Answer) : Type 0 where
   pub removed : a .removed < 65536
   pub position : number (a .status) < 20 → Writable block (a .position)
+
+-- a report: its status, and the number of cells it shows
+unfoldable pub packedReport : Report → ℕ
+packedReport r = number (r .status) + 4294967296 * r .hits
+
+-- all that a report leaves
+pub record Shown : Type 0 where
+  pub result : ℕ
+  pub out : Bytes
+
+abbrev pub shown : ℕ → Bytes → Shown
+shown result out = record { result = result; out = out }
+
+-- the promise of the three
+unfoldable pub reportFace : Bytes → Bytes → Bytes → Bytes → Bytes → Shown
+reportFace cat tab one two out = shown (packedReport (report cat tab one two out .answer)) (report cat tab one two out .out)

@@ -1,6 +1,7 @@
 // The position in its block of 8 bytes, and an answer in one number.
 use blocks::byte_at;
 use blocks::word_at;
+use reports::Report;
 use terms::Answer;
 use terms::CellNumber;
 use terms::Parentage;
@@ -11,7 +12,7 @@ ghost use Prim.Native.Nat.{_<_};
 ghost use Rattle.terms.specs.Choice.{pick};
 ghost use Rattle.rules.specs.Position.{goodBlock, positionOf, positionBytes};
 ghost use Rattle.rules.specs.Outcome.{blockAfter};
-ghost use Rattle.umbristal.specs.Face.{packed, blockPlace, blockParentage, placeKind, parentageKind, parentageNumber, Writable, Fitting};
+ghost use Rattle.umbristal.specs.Face.{packed, packedReport, blockPlace, blockParentage, placeKind, parentageKind, parentageNumber, Writable, Fitting};
 
 fn good_block(block: &[u8]) -> bool
     ensures { λ r. ⌜ r ≡ goodBlock (now (block .entry)) ⌝ }
@@ -162,4 +163,15 @@ pub(crate) fn leave(block: &mut [u8], a: Answer) -> u64
     let p = a.position;
     put_position(block, p);
     packed(a)
+}
+
+// The status of a report is the lowest byte; the number of cells stands where `removed` does.
+pub(crate) fn packed_report(r: Report) -> u64
+    requires { ⌜ r .hits < 65536 ⌝ }
+    ensures { λ p. ⌜ p ≡ packedReport r ⌝ }
+{
+    let s = r.status;
+    let status = long(s.number());
+    let hits = r.hits as u64;
+    status + 4294967296 * hits
 }

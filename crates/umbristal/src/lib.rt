@@ -1,12 +1,13 @@
 // What programs in other languages link: the checks, the maker and the calls, over slices that the caller lends.
 mod lent;
 
+use crate::lent::packed_report;
 ghost use mathlib.Core.Path.{_≡_};
 ghost use Rattle.terms.specs.Statuses.{number};
 ghost use Rattle.rules.specs.Position.{positionOf};
 ghost use Rattle.rules.specs.Outcome.{checkCatalogue, checkTable, makeStatus, madeTable};
 ghost use Rattle.answers.specs.Ready.{SoundFor};
-ghost use Rattle.umbristal.specs.Face.{left, face, soundFace};
+ghost use Rattle.umbristal.specs.Face.{left, face, soundFace, shown, reportFace};
 
 // "The check of a catalogue answers 0 or CX"
 #[no_mangle]
@@ -67,4 +68,46 @@ pub extern "C" fn umbristal_call_sound(
     let p = lent::position_of(pos);
     let a = dli::call_sound(cat, tab, p, number, list, area);
     lent::leave(pos, a)
+}
+
+// The report by GN on the first list, with GNP on the second under each cell found: the numbers of the cells shown, 2 bytes each, high first.
+#[no_mangle]
+pub extern "C" fn umbristal_report_nested(
+    cat: &[u8],
+    tab: &[u8],
+    one: &[u8],
+    two: &[u8],
+    out: &mut [u8],
+) -> u64
+    ensures { λ r. ⌜ shown r (now (out .exit)) ≡ reportFace (now (cat .entry)) (now (tab .entry)) (now (one .entry)) (now (two .entry)) (now (out .entry)) ⌝ }
+{
+    packed_report(reports::nested(cat, tab, one, two, out))
+}
+
+// The same report by GN alone, on the two lists joined.
+#[no_mangle]
+pub extern "C" fn umbristal_report_joined(
+    cat: &[u8],
+    tab: &[u8],
+    one: &[u8],
+    two: &[u8],
+    out: &mut [u8],
+) -> u64
+    ensures { λ r. ⌜ shown r (now (out .exit)) ≡ reportFace (now (cat .entry)) (now (tab .entry)) (now (one .entry)) (now (two .entry)) (now (out .entry)) ⌝ }
+{
+    packed_report(reports::joined(cat, tab, one, two, out))
+}
+
+// The same report by reading every cell.
+#[no_mangle]
+pub extern "C" fn umbristal_report_plain(
+    cat: &[u8],
+    tab: &[u8],
+    one: &[u8],
+    two: &[u8],
+    out: &mut [u8],
+) -> u64
+    ensures { λ r. ⌜ shown r (now (out .exit)) ≡ reportFace (now (cat .entry)) (now (tab .entry)) (now (one .entry)) (now (two .entry)) (now (out .entry)) ⌝ }
+{
+    packed_report(reports::plain(cat, tab, one, two, out))
 }

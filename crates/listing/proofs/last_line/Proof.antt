@@ -1,5 +1,4 @@
 use native.Mathlib.Omega.{arith}
-use mathlib.Core.Path.{ap, _∙_}
 use Rattle.rules.specs.Listing.{lastLine}
 use Rattle.listing.proofs.Written.{wrote-then}
 use borrow.Author.Needs.{needs}

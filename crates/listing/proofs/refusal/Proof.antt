@@ -1,4 +1,3 @@
-use native.Mathlib.Omega.{arith}
 use Rattle.listing.proofs.Lines.{refused-first, refused-long, refused-table}
 use borrow.Author.Needs.{needs}
 use Rattle.listing.proofs.refusal.Statement.{statement}

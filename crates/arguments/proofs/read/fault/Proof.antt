@@ -1,32 +1,10 @@
-use mathlib.Core.Path.{_≡_, ap, sym, _∙_}
-use Prim.Native.Nat.{_-_}
-use native.Mathlib.Omega.{arith}
-use lib.ListN.{length}
+use mathlib.Core.Path.{ap, _∙_}
 use borrow.Author.Needs.{needs}
-use Rattle.rules.specs.Arguments.{ListRead, listRead}
-use Rattle.arguments.specs.Sound.{rest}
-use Rattle.arguments.proofs.Rest.{rest-whole, rest-end, got-rest, got-onward, got-fault}
+use Rattle.rules.specs.Arguments.{ListRead}
+use Rattle.arguments.proofs.Rest.{rest-whole}
+use borrow.Author.Needs.{needs}
 use Rattle.arguments.proofs.read.fault.Statement.{statement}
 use Rattle.arguments.proofs.read.fault.Tie as tie
 
-abbrev Inv-loop : tie.InvT-loop
-Inv-loop cat list before₀ at₀ before at = rest cat list before at .fault ≡ listRead cat list .fault
-
-abbrev μ-loop : tie.MeasureT-loop
-μ-loop cat list before₀ at₀ before at = length list - at
-
 pub fault-spec : {M : Type 1} → statement M
-fault-spec =
-    tie.close
-    (tie.spec
-    Inv-loop
-    μ-loop
-    (λ c. ap (λ (l : ListRead). l .fault) (rest-whole (c .before .before .args .cat .now) (c .before .before .args .list .now)))
-    (λ c κs. search needs)
-    (λ c. search needs)
-    (λ c. search needs)
-    (λ c κs. search needs)
-    (λ c. got-fault (c .before .before .before .before .before .before .before .before .args .cat .now) (c .before .before .before .before .before .before .before .before .args .list .now) (c .before .before .before .before .before .loop .before) (c .before .before .before .before .before .loop .at) (c .before .before .before .before .loop-test .taken) (c .before .before .before .read-argument .ensures) (c .before .enum-told .given .1) (c .status-of .ensures) ∙ c .before .before .before .before .before .loop .inv)
-    (λ c. omega (arith, got-onward (c .before .before .before .before .before .before .before .before .before .args .cat .now) (c .before .before .before .before .before .before .before .before .before .args .list .now) (c .before .before .before .before .before .before .loop .before) (c .before .before .before .before .before .before .loop .at) (c .before .before .before .before .before .loop-test .taken) (c .before .before .before .before .read-argument .ensures) (c .before .before .read .given .1)))
-    (λ c. got-rest (c .before .before .before .before .before .before .before .before .before .args .cat .now) (c .before .before .before .before .before .before .before .before .before .args .list .now) (c .before .before .before .before .before .before .loop .before) (c .before .before .before .before .before .before .loop .at) (c .before .before .before .before .before .loop-test .taken) (c .before .before .before .before .read-argument .ensures) (c .before .before .read .given .1) ∙ c .before .before .before .before .before .before .loop .inv)
-    (λ c. sym (ap (λ (l : ListRead). l .fault) (rest-end (c .before .before .before .before .args .cat .now) (c .before .before .before .before .args .list .now) (c .before .loop .before) (c .before .loop .at) (c .loop-test .left))) ∙ c .before .loop .inv))
+fault-spec = tie.close (tie.spec (λ c κs. search needs) (λ c. c .fault-behind .ensures ∙ ap (λ (l : ListRead). l .fault) (rest-whole _ _)))

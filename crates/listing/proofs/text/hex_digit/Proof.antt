@@ -1,6 +1,4 @@
 use borrow.Author.Tests.{lt-ltb, le-ltb}
-use Rattle.terms.specs.Choice.{pick}
-use mathlib.Core.Path.{_≡_, sym}
 use Rattle.rules.specs.Listing.{hexDigit}
 use borrow.Author.Needs.{needs}
 use Rattle.listing.proofs.text.hex_digit.Statement.{statement}

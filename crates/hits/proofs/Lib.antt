@@ -1,0 +1,5 @@
+pub mod Steps
+pub mod Written
+pub mod Way
+pub mod Tested
+pub mod Outer
