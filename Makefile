@@ -1,5 +1,5 @@
-# make run: the main job on the shipped example. make test: the gate.
-.PHONY: run test soak fmt clean
+# make run: the main job on the shipped example. make test: the gate. make bench: what a call costs, into docs/.
+.PHONY: run test soak bench fmt clean
 
 run:
 	@tools/run-example
@@ -9,6 +9,9 @@ test:
 
 soak:
 	@tools/soak
+
+bench:
+	@cargo run --offline --release --quiet --manifest-path rust/Cargo.toml --package bench -- docs
 
 fmt:
 	rt fmt

@@ -1,10 +1,10 @@
-/* Umbristal: a hierarchical store that speaks DL/I. What C links: the checks, the maker of empty tables, and the nine calls.
+/* Umbristal: a hierarchical store that speaks DL/I. What C links: the checks, the maker of empty tables, the nine calls and the reports.
  *
  * Every slice is lent as a pointer and its length, in bytes. For each call the caller sees to it that
  *   - each pointer is not null and has as many bytes behind it as its length says; a length of 0 is fine (with any pointer but null);
  *   - the slices of one call do not overlap.
- * Nothing else is asked, and what the bytes are does not matter: on any bytes, umbristal_call and the checks end with a status
- * of the table below. The one exception is umbristal_call_sound, which says below what it asks.
+ * Nothing else is asked, and what the bytes are does not matter: on any bytes, each function ends with a status of the table below.
+ * The one exception is umbristal_call_sound, which says below what it asks.
  * No function keeps a pointer, allocates, or holds anything between two calls; several threads may call with blocks of their own. */
 #ifndef UMBRISTAL_H
 #define UMBRISTAL_H
@@ -32,7 +32,7 @@ enum umbristal_status {
     UMBRISTAL_AJ = 25,   /* list: operator, field number or value missing or wrong; or a list where none may be */
     UMBRISTAL_AK = 26,   /* list: a field that is none, or of another type */
     UMBRISTAL_AH = 27,   /* ISRT with an empty list */
-    UMBRISTAL_AB = 28,   /* area too short */
+    UMBRISTAL_AB = 28,   /* area too short; of a report: out too short */
     UMBRISTAL_DJ = 29,   /* REPL or DLET without hold */
     UMBRISTAL_DA = 30,   /* REPL changes a key byte */
     UMBRISTAL_II = 31,   /* ISRT: a twin has this unique key */
@@ -88,6 +88,24 @@ static inline uint8_t umbristal_type(uint64_t result) { return (uint8_t)(result 
 static inline uint8_t umbristal_level(uint64_t result) { return (uint8_t)(result >> 16); }
 static inline uint8_t umbristal_length(uint64_t result) { return (uint8_t)(result >> 24); }
 static inline uint32_t umbristal_removed(uint64_t result) { return (uint32_t)(result >> 32); }
+
+/* The reports: every segment that matches list 1 and list 2 as one list, so those beneath a segment that matches list 1. Three ways to
+ * the same answer, byte for byte: nested (GN with list 1, and for each segment got GNP with list 2), joined (GN with both lists as one)
+ * and plain (every cell tested). Each hit's cell number goes to the front of `out`, 2 bytes, high byte first, in cell order; the bytes
+ * behind the hits stay.
+ * Catalogue, table and lists may be anything; they are only read. Refused are, in this order: a bad catalogue (CX), a bad table (TX), the
+ * first fault of list 1 read by itself (AC, AJ, AK), an empty list 1 or list 2 (AC), the first fault of list 2 read on behind list 1, whose
+ * first type must lie beneath list 1's last (AC, AJ, AK), and an out shorter than 2 bytes a hit (AB). A refusal writes nothing and says
+ * 0 hits. An out of 2 bytes for each segment of the table is always long enough. */
+uint64_t umbristal_report_nested(const uint8_t *cat, size_t cat_len, const uint8_t *tab, size_t tab_len, const uint8_t *list1,
+                                 size_t list1_len, const uint8_t *list2, size_t list2_len, uint8_t *out, size_t out_len);
+uint64_t umbristal_report_joined(const uint8_t *cat, size_t cat_len, const uint8_t *tab, size_t tab_len, const uint8_t *list1,
+                                 size_t list1_len, const uint8_t *list2, size_t list2_len, uint8_t *out, size_t out_len);
+uint64_t umbristal_report_plain(const uint8_t *cat, size_t cat_len, const uint8_t *tab, size_t tab_len, const uint8_t *list1,
+                                size_t list1_len, const uint8_t *list2, size_t list2_len, uint8_t *out, size_t out_len);
+
+/* How many segments a report shows; umbristal_status above reads its status. */
+static inline uint32_t umbristal_hits(uint64_t result) { return (uint32_t)(result >> 32); }
 
 /* The parts of a position's block. */
 static inline int umbristal_on_cell(const uint8_t *pos) { return pos[0] == 1; }

@@ -1,5 +1,5 @@
-/* walk CAT.HDC TAB.HDT: checks the two blocks, walks the segments with GN and an empty list, inserts a try under the step that the
- * position is on, and shows what it got. The files are read, never written: the insert happens in memory.
+/* walk CAT.HDC TAB.HDT: checks the two blocks, walks the segments with GN and an empty list, shows two reports of tries, inserts a try
+ * under the step that the position is on, and deletes that step. The files are read, never written: the insert happens in memory.
  *
  *   tools/host-archive umbristal libumbristal.a
  *   gcc -Wall -Wextra -Werror -Iinclude -o walk examples/c/walk.c libumbristal.a
@@ -9,7 +9,7 @@
 
 #include "umbristal.h"
 
-enum { LONGEST_CATALOGUE = 520, LONGEST_TABLE = 65536, AREA = 120 };
+enum { LONGEST_CATALOGUE = 520, LONGEST_TABLE = 65536, MOST_CELLS = 4096, AREA = 120 };
 
 static const char *letters(uint8_t status)
 {
@@ -79,6 +79,22 @@ static uint8_t walk(const uint8_t *cat, size_t cat_len, uint8_t *tab, size_t tab
     }
 }
 
+typedef uint64_t report(const uint8_t *cat, size_t cat_len, const uint8_t *tab, size_t tab_len, const uint8_t *list1, size_t list1_len,
+                        const uint8_t *list2, size_t list2_len, uint8_t *out, size_t out_len);
+
+/* The tries "P.." (type 3, field 3) of unit "07" (type 1, field 1), by one of the reports: status and cell numbers. */
+static void show_report(const char *name, report *way, const uint8_t *cat, size_t cat_len, const uint8_t *tab, size_t tab_len)
+{
+    static uint8_t out[2 * MOST_CELLS];
+    const uint8_t unit_07[] = { 1, 1, 1, '0', '7' };
+    const uint8_t try_p[] = { 3, 1, 3, 'P' };
+    uint64_t r = way(cat, cat_len, tab, tab_len, unit_07, sizeof unit_07, try_p, sizeof try_p, out, sizeof out);
+    printf("%s: %s", name, letters(umbristal_status(r)));
+    for (unsigned i = 0; i < umbristal_hits(r); i++)
+        printf(" %u", (unsigned)out[2 * i] << 8 | out[2 * i + 1]);
+    printf("\n");
+}
+
 int main(int argc, char **argv)
 {
     static uint8_t cat[LONGEST_CATALOGUE + 1], tab[LONGEST_TABLE + 1];
@@ -95,6 +111,8 @@ int main(int argc, char **argv)
     if (checked != UMBRISTAL_BLANK)
         return 1;
     walk(cat, cat_len, tab, tab_len);
+    show_report("nested", umbristal_report_nested, cat, cat_len, tab, tab_len);
+    show_report("joined", umbristal_report_joined, cat, cat_len, tab, tab_len);
 
     /* From a fresh position: the step with key "14" (type 2, operator =, field 2), then a try "S3" (type 3) beneath it. From here on
      * the sound call will do: the table was checked, the position is fresh, and only calls change them. */

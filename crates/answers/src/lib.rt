@@ -1,6 +1,7 @@
 // What a call answers where it changes nothing, and what it tells of a segment.
-use catalogue::entries::data_length;
-use catalogue::lineage::level;
+use entries::data_length;
+use lineage::level;
+use statuses::number;
 use terms::Answer;
 use terms::Position;
 use terms::Status;
@@ -34,7 +35,7 @@ pub fn missed(s: Status, p: Position) -> Answer
 pub fn stopped(s: Status, p: Position) -> Answer
     ensures { λ r. ⌜ r ≡ stoppedAnswer s p ⌝ }
 {
-    if 20 <= s.number() {
+    if 20 <= number(s) {
         return bare(s, p);
     }
     missed(s, p)

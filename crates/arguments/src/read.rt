@@ -1,10 +1,9 @@
 // "The list is read from the left, one argument at a time, and the first fault answers."
 use blocks::wide;
-use catalogue::entries::field_length;
-use catalogue::entries::field_type;
-use catalogue::entries::fields;
-use catalogue::lineage::is_beneath;
-use catalogue::lineage::is_type;
+use entry_bytes::fields;
+use fields::field_length;
+use fields::field_type;
+use lineage::is_beneath;
 use terms::Argument;
 use terms::ArgumentRead;
 use terms::FieldNumber;
@@ -12,6 +11,7 @@ use terms::Operator;
 use terms::Qualification;
 use terms::Status;
 use terms::TypeCode;
+use type_range::is_type;
 ghost use mathlib.Core.Path.{_≡_};
 ghost use mathlib.Core.List.{[]};
 ghost use Rattle.rules.specs.Arguments.{operatorOf, goodNext, isFieldOf, argumentAt, listRead};

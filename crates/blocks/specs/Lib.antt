@@ -1,1 +1,1 @@
--- Nothing beyond what `rules` says of blocks and of the order of values.
+-- Nothing beyond what `rules` says of blocks.

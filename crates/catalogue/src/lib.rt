@@ -1,5 +1,2 @@
-// "The catalogue": what the block says of a type and of a field, how the types lie one beneath another, and its check.
-// Every lookup takes any slice: past the end of the block there is nothing, which reads as 0.
+// "The catalogue": its check. What the block says of a type and of a field is in `entries`, how the types lie one beneath another in `lineage`.
 pub mod check;
-pub mod entries;
-pub mod lineage;

@@ -9,7 +9,7 @@ use native.Mathlib.Omega.{arith}
 use lib.Dec.{leb, eqb}
 use lib.ListN.{length, take, drop}
 use lib.Seq.{take-take, drop-drop}
-use borrow.Author.Tests.{leb-true, eqb-true}
+use borrow.Author.Tests.{lt-ltb, le-ltb, le-leb, lt-leb, leb-true, eqb-true}
 use Rattle.terms.specs.declared.TypeCode.{TypeCode}
 use Rattle.terms.specs.declared.CellNumber.{CellNumber}
 use Rattle.terms.specs.declared.Found.the-variants.{At, Nothing}
@@ -25,7 +25,8 @@ use Rattle.rules.specs.Cells.{Segment, segment, segmentOf, key, keyOrder, level
 use Rattle.rules.specs.Order.{order}
 use Rattle.rules.specs.Table.{count, cellSize, cellStart, room, typeAt, segmentAt, listing, padded, goodRoom, goodTable}
 use Rattle.rules.proofs.Cells.{listing-at, listing-length}
-use Rattle.cells.specs.Lent.{Sized, Alike, nearest, endFrom, climbed, parentAt}
+use Rattle.cells.specs.Lent.{Sized, Alike, Inside, behind, nearest, endFrom, climbed, parentAt}
+use Rattle.cells.specs.Sound.{Sound}
 use Rattle.cells.proofs.Entries.{key-in, length-in, largest-some, largest-few}
 
 module _ (cat tab : Bytes) (i : ℕ) (l : i < count tab) where
@@ -73,6 +74,23 @@ module _ {cat tab : Bytes} {size : ℕ} (s : Sized cat tab size) (i : ℕ) where
       let m : i * size ≤ 4096 * 121 = mul-le-mul {n₂ = 4096} (omega (arith, s .few)) (s .narrow) in
       omega arith
 
+-- the same of so many cells as lie within the slice
+module _ {tab : Bytes} {size n : ℕ} (s : Inside tab size n) (i : ℕ) where
+  pub inside-in : i < n → 8 + i * size < length tab
+  inside-in l =
+      let m : (i + 1) * size ≤ n * size = mul-le-mul-right size (omega arith) in
+      omega (arith, add-mul i 1 size, s .within, s .some)
+
+  pub inside-small : i < n → i * size ≤ 495616
+  inside-small l =
+      let m : i * size ≤ 4096 * 121 = mul-le-mul {n₂ = 4096} (omega (arith, s .few)) (s .narrow) in
+      omega arith
+
+  pub inside-less : i ≤ n → Inside tab size i
+  inside-less l =
+      let m : i * size ≤ n * size = mul-le-mul-right size l in
+      record { few = omega (arith, s .few); some = s .some; narrow = s .narrow; within = omega (arith, s .within) }
+
 module _ {cat tab : Bytes} {size : ℕ} (s : Sized cat tab size) (i : ℕ) (l : i < count tab) where
   -- the first byte of a cell is its type
   pub code-of : code (byte tab (8 + i * size)) ≡ segment (listing cat tab) i .code
@@ -118,26 +136,95 @@ module _ {cat tab : Bytes} {size i j : ℕ} (s : Sized cat tab size) (a : Alike 
       let y : 8 + j * size + start + long - (8 + j * size + start) ≡ long = omega arith in
       rw (x, y, p, q, e, ← key-of s i first-in (a .good) (a .known), ← key-of s j second-in (a .good) (rw (a .same) (a .known)), a .same)
 
--- the end of a run, one cell after the other; `here` is what the code has read as the level of cell i
-module _ (cat : Bytes) (cs : List Segment) (lev i : ℕ) where
-  pub end-none : (left : ℕ) → left ≡ 0 → i ≡ endFrom cat cs lev i left
+module _ (lev : ℕ → ℕ) where
+  pub under-few : (n s k : ℕ) → under lev n (range s k) ≤ k
+  unfolding under
+  under-few n s zero = omega arith
+  under-few n s (suc k) = elim (side n (lev s)) [
+    | inside l ↦ omega (arith, under-in lev n s (range (suc s) k) l, under-few n (suc s) k)
+    | outside l ↦ omega (arith, under-out lev n s (range (suc s) k) l)
+  ]
+
+-- the end of a run, one cell after the other; u is what the code has read as the code of cell i
+module _ (tab : Bytes) (size t last i : ℕ) where
+  abbrev inner : ℕ → ℕ
+  inner = behind tab size t last
+
+  pub end-none : (n : ℕ) → n ≡ 0 → i ≡ endFrom tab size t last i n
   unfolding endFrom under
   end-none zero e = omega arith
   end-none (suc n) e = absurd (omega arith)
 
-  pub end-here : (left here : ℕ) → here ≡ levelAt cat cs i → here ≤ lev → i ≡ endFrom cat cs lev i left
+  -- cell i is behind t and up to last, or it is not
+  pub behind-in : (u : ℕ) → u ≡ byte tab (8 + i * size) → t < u → u ≤ last → inner i ≡ 1
+  behind-in u e a b = rw (← e, lt-ltb t u a, le-leb u last b)
+
+  pub behind-low : (u : ℕ) → u ≡ byte tab (8 + i * size) → u ≤ t → inner i ≡ 0
+  behind-low u e a = rw (← e, le-ltb t u a)
+
+  pub behind-high : (u : ℕ) → u ≡ byte tab (8 + i * size) → last < u → inner i ≡ 0
+  behind-high u e a = elim (side t u) [
+    | inside l ↦ rw (← e, lt-ltb t u l, lt-leb u last a)
+    | outside l ↦ rw (← e, le-ltb t u l)
+  ]
+
+  pub end-here : (n : ℕ) → inner i ≡ 0 → i ≡ endFrom tab size t last i n
   unfolding endFrom under
-  end-here zero here e h = omega arith
-  end-here (suc n) here e h = omega (arith, under-out (levelAt cat cs) lev i (range (suc i) n) (omega arith))
+  end-here zero e = omega arith
+  end-here (suc n) e = omega (arith, under-out inner 0 i (range (suc i) n) (omega arith))
 
-  pub end-more : (left here : ℕ) → (left ≡ 0 → ⊥) → here ≡ levelAt cat cs i → lev < here → endFrom cat cs lev (i + 1) (left - 1) ≡ endFrom cat cs lev i left
+  pub end-more : (to : ℕ) → i < to → inner i ≡ 1 → endFrom tab size t last (i + 1) (to - (i + 1)) ≡ endFrom tab size t last i (to - i)
   unfolding endFrom
-  end-more zero here n e h = absurd (n refl)
-  end-more (suc k) here n e h =
+  end-more to h e =
+      let k : ℕ = to - suc i in
       let a : i + 1 ≡ suc i = omega arith in
-      let b : suc k - 1 ≡ k = omega arith in
-      rw (a, b, under-in (levelAt cat cs) lev i (range (suc i) k) (omega arith)) (omega arith)
+      let b : to - i ≡ suc (to - suc i) = omega arith in
+      rw (a, b, under-in inner 0 i (range (suc i) (to - suc i)) (omega arith)) (omega arith)
 
+-- the first m of n cells: where they are all passed the others decide, and where they are not they decide alone
+module _ (tab : Bytes) (size t last : ℕ) where
+  abbrev within-last : ℕ → ℕ
+  within-last = behind tab size t last
+
+  under-past : (m n i : ℕ) → m ≤ n → under within-last 0 (range i m) ≡ m → m + under within-last 0 (range (i + m) (n - m)) ≡ under within-last 0 (range i n)
+  unfolding under
+  under-past zero n i l e =
+      let a : i + 0 ≡ i = omega arith in
+      let b : n - 0 ≡ n = omega arith in
+      rw (a, b) (omega arith)
+  under-past (suc m) zero i l e = absurd (omega arith)
+  under-past (suc m) (suc n) i l e = elim (side 0 (within-last i)) [
+    | inside h ↦
+        let f : suc (under within-last 0 (range (suc i) m)) ≡ suc m = sym (under-in within-last 0 i (range (suc i) m) h) ∙ e in
+        let a : i + suc m ≡ suc i + m = omega arith in
+        let b : suc n - suc m ≡ n - m = omega arith in
+        rw (a, b, under-in within-last 0 i (range (suc i) n) h) (omega (arith, under-past m n (suc i) (omega arith) (omega arith)))
+    | outside h ↦ absurd (omega (arith, under-out within-last 0 i (range (suc i) m) h))
+  ]
+
+  under-short : (m n i : ℕ) → m ≤ n → under within-last 0 (range i m) < m → under within-last 0 (range i m) ≡ under within-last 0 (range i n)
+  unfolding under
+  under-short zero n i l e = absurd (omega arith)
+  under-short (suc m) zero i l e = absurd (omega arith)
+  under-short (suc m) (suc n) i l e = elim (side 0 (within-last i)) [
+    | inside h ↦
+        let f : suc (under within-last 0 (range (suc i) m)) < suc m = rw (under-in within-last 0 i (range (suc i) m) h) at e in
+        rw (under-in within-last 0 i (range (suc i) m) h, under-in within-last 0 i (range (suc i) n) h) (ap suc (under-short m n (suc i) (omega arith) (omega arith)))
+    | outside h ↦ rw (under-out within-last 0 i (range (suc i) m) h, under-out within-last 0 i (range (suc i) n) h)
+  ]
+
+  pub end-whole : (n i r : ℕ) → r ≡ endFrom tab size t last i (i + n - i) → r ≡ endFrom tab size t last i n
+  end-whole n i r e = let z : i + n - i ≡ n = omega arith in rw z at e
+
+  pub end-past : (m n i r : ℕ) → m ≤ n → r ≡ endFrom tab size t last i m → i + m ≤ r → endFrom tab size t last (i + m) (n - m) ≡ endFrom tab size t last i n
+  unfolding endFrom
+  end-past m n i r l e h = omega (arith, under-past m n i l (omega (arith, under-few within-last 0 i m)))
+
+  pub end-short : (m n i r : ℕ) → m ≤ n → r ≡ endFrom tab size t last i m → r < i + m → r ≡ endFrom tab size t last i n
+  unfolding endFrom
+  end-short m n i r l e h = omega (arith, under-short m n i l (omega arith))
+
+module _ (cat : Bytes) (cs : List Segment) (lev i : ℕ) where
   -- climbing to a parent, one cell after the other
   pub climb-none : i ≡ 0 → Nothing ≡ climbed cat cs lev i
   unfolding climbed back
@@ -156,14 +243,6 @@ module _ (cat : Bytes) (cs : List Segment) (lev i : ℕ) where
       sym (ap (λ (k : ℕ). nearest (back (levelAt cat cs) lev (downTo k))) a ∙ ap nearest (back-out (levelAt cat cs) lev (i - 1) (downTo (i - 1)) (omega arith)))
 
 module _ (lev : ℕ → ℕ) where
-  under-few : (n s k : ℕ) → under lev n (range s k) ≤ k
-  unfolding under
-  under-few n s zero = omega arith
-  under-few n s (suc k) = elim (side n (lev s)) [
-    | inside l ↦ omega (arith, under-in lev n s (range (suc s) k) l, under-few n (suc s) k)
-    | outside l ↦ omega (arith, under-out lev n s (range (suc s) k) l)
-  ]
-
   nearest-before : (p n i : ℕ) → nearest (back lev n (downTo i)) ≡ At (cell p) → (p < i) × (lev p < n)
   unfolding back
   nearest-before p n zero e = absurd (let z : _≡_ {A = ℕ} 0 1 = cc in omega arith)
@@ -179,14 +258,7 @@ module _ (lev : ℕ → ℕ) where
   ]
 
 module _ (cat : Bytes) (cs : List Segment) (i : ℕ) where
-  -- from the next cell on, at the level of cell i, that is the end of its run
-  pub end-run : (here n : ℕ) → here ≡ levelAt cat cs i → n ≡ length cs → endFrom cat cs here (i + 1) (n - (i + 1)) ≡ endAt cat cs i
-  unfolding endFrom endAt runAt
-  end-run here n e f =
-      let a : i + 1 ≡ suc i = omega arith in
-      rw (e, f, a) (omega arith)
-
-  -- and from cell i back, that is its parent
+  -- from cell i back, that is its parent
   pub climb-parent : (here : ℕ) → here ≡ levelAt cat cs i → climbed cat cs here i ≡ parentAt cat cs i
   unfolding climbed parentAt
   climb-parent here e = rw e
@@ -204,6 +276,9 @@ module _ (cat : Bytes) (cs : List Segment) (i : ℕ) where
   pub parent-before : (p : ℕ) → parentAt cat cs i ≡ At (cell p) → (p < i) × (levelAt cat cs p < levelAt cat cs i)
   unfolding parentAt
   parent-before p e = nearest-before (levelAt cat cs) p (levelAt cat cs i) i e
+
+pub inside-sized : {cat tab : Bytes} {size : ℕ} → Sized cat tab size → Inside tab size (count tab)
+inside-sized s = record { few = s .few; some = omega (arith, s .some); narrow = s .narrow; within = s .within }
 
 -- what a good table says of its room: "the slice is exactly 8 + M·C bytes", "M from 0 to 4,096", "byte 5 the cell size C", "n is at most M"
 pub record Housed (cat tab : Bytes) : Type 0 where
@@ -243,3 +318,6 @@ good-sized cat tab g h =
       few = omega (arith, o .few, o .most);
       within = omega (arith, o .whole);
     }
+
+pub good-sound : (cat tab : Bytes) → goodCatalogue cat ≡ true → goodTable cat tab ≡ true → Sound cat tab (cellSize cat)
+good-sound cat tab g h = record { catalogue = g; table = h; sized = good-sized cat tab g h }

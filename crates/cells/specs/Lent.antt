@@ -1,18 +1,20 @@
 -- What a lookup by cell number asks of the lent blocks, and the parent of a cell. Assumes nothing: these are definitions.
 use mathlib.Core.Path.{_≡_}
-use mathlib.Core.Bool.{true}
+use mathlib.Core.Bool.{true, false, _&&_}
 use mathlib.Core.List.{List, [], _∷_}
 use Prim.Native.Nat.{ℕ, _+_, _*_, _≤_, _<_}
+use lib.Dec.{ltb, leb}
 use lib.ListN.{length}
 use Rattle.terms.specs.declared.Found.{Found}
 use Rattle.terms.specs.declared.Found.the-variants.{At, Nothing}
-use Rattle.terms.specs.Names.{cell}
+use Rattle.terms.specs.Choice.{pick}
+use Rattle.terms.specs.Names.{code, cell}
 use Rattle.forest.specs.Rows.{back}
 use Rattle.forest.specs.Runs.{under}
 use Rattle.forest.specs.Numbers.{range, downTo, ancestors}
-use Rattle.rules.specs.Block.{Bytes}
+use Rattle.rules.specs.Block.{Bytes, byte}
 use Rattle.rules.specs.Table.{count, cellSize}
-use Rattle.rules.specs.Catalogue.{isType, goodCatalogue}
+use Rattle.rules.specs.Catalogue.{types, isType, typeBeneath, goodCatalogue}
 use Rattle.rules.specs.Cells.{Segment, segment, levelAt}
 
 -- the first n cells of the table, each of this size, lie within the slice
@@ -39,9 +41,27 @@ pub record Alike (cat : Bytes) (cs : List Segment) (i j : ℕ) : Type 0 where
   pub known : isType cat (segment cs i .code) ≡ true
   pub same : segment cs j .code ≡ segment cs i .code
 
--- the first of the n cells from i on of a level that is at most the given one, or the cell past them
-unfoldable pub endFrom : Bytes → List Segment → ℕ → ℕ → ℕ → ℕ
-endFrom cat cs lev i n = i + under (levelAt cat cs) lev (range i n)
+-- n cells of this size lie within the slice
+pub record Inside (tab : Bytes) (size n : ℕ) : Type 0 where
+  pub few : n ≤ 4096
+  pub some : 1 ≤ size
+  pub narrow : size ≤ 121
+  pub within : 8 + n * size ≤ length tab
+
+-- 1 for a cell whose code lies behind t and is at most `last`, and 0 for another
+abbrev pub behind : Bytes → ℕ → ℕ → ℕ → ℕ → ℕ
+behind tab size t last i = pick (ltb t (byte tab (8 + i * size)) && leb (byte tab (8 + i * size)) last) 1 0
+
+-- the first of the n cells from i on whose code does not lie there, or the cell past them
+unfoldable pub endFrom : Bytes → ℕ → ℕ → ℕ → ℕ → ℕ → ℕ
+endFrom tab size t last i n = i + under (behind tab size t last) 0 (range i n)
+
+-- the types beneath type t have the codes from t on, without t, up to `last`
+pub record LastBeneath (cat : Bytes) (t last : ℕ) : Type 0 where
+  pub least : t ≤ last
+  pub most : last ≤ types cat
+  pub inner : (v : ℕ) → t < v → v ≤ last → typeBeneath cat (code v) (code t) ≡ true
+  pub outer : (v : ℕ) → last < v → v ≤ types cat → typeBeneath cat (code v) (code t) ≡ false
 
 -- the nearest of the cells before i whose level is smaller
 unfoldable pub climbed : Bytes → List Segment → ℕ → ℕ → Found

@@ -21,7 +21,7 @@ use Rattle.rules.specs.Position.{goodPlace, goodParentage, goodHold, goodPositi
 use Rattle.rules.specs.Calls.{After, bare, refused, answerOf, changed, replaced, replacement, replace, deleted, delete}
 use Rattle.rules.specs.Outcome.{landed}
 use Rattle.rules.proofs.Cells.{listing-length}
-use Rattle.catalogue.proofs.Chains.{clash}
+use Rattle.lineage.proofs.Chains.{clash}
 use Rattle.cells.proofs.Laws.{end-after, end-within}
 use Rattle.update.specs.Edits.{withData, withoutCells, Replaceable, Removable}
 use Rattle.answers.specs.Ready.{Held, made}

@@ -27,7 +27,7 @@ use Rattle.rules.specs.Matching.{satisfies, matches, seek, firstMatch, kept, so
 use Rattle.rules.specs.Position.{goodPlace}
 use Rattle.rules.proofs.Cells.{listing-length}
 use Rattle.rules.proofs.Search.{seek-none, seek-here, seek-next}
-use Rattle.catalogue.proofs.Hierarchy.{type-range, parent-least, lineage-up, beneath-later}
+use Rattle.lineage.proofs.Hierarchy.{type-range, parent-least, lineage-up, beneath-later}
 use Rattle.arguments.specs.Sound.{SoundList}
 use Rattle.arguments.proofs.Sound.{last-asks}
 use Rattle.arguments.proofs.Complete.{complete-length}

@@ -3,9 +3,9 @@ use answers::bare;
 use answers::missed;
 use answers::told;
 use arguments::lookup::last_of;
-use catalogue::entries::parent;
 use cells::lookup::count;
-use cells::runs::run_end;
+use entries::parent;
+use runs::run_end;
 use search::along::along;
 use terms::Answer;
 use terms::CellNumber;
@@ -24,14 +24,14 @@ ghost use Rattle.rules.specs.Table.{count, room, listing};
 ghost use Rattle.rules.specs.Arguments.{listRead, lastArgument, parentLevels};
 ghost use Rattle.rules.specs.Calls.{isOneOf, insert};
 ghost use Rattle.rules.specs.Outcome.{landed};
-ghost use Rattle.cells.specs.Lent.{Sized};
+ghost use Rattle.cells.specs.Sound.{Sound};
 ghost use Rattle.twins.specs.Among.{New, Beneath};
 ghost use Rattle.answers.specs.Ready.{Ready, made};
 ghost use Rattle.changes.specs.Among.{insertedAmong};
 
 // Whether the parentage is cell p or an ancestor of it: then what is put in beneath p is beneath the parentage.
 fn is_one_of_row(cat: &[u8], tab: &[u8], size: usize, p: CellNumber, parentage: Parentage) -> bool
-    requires { ⌜ Sized (now cat) (now tab) size × (p .0 < count (now tab)) ⌝ }
+    requires { ⌜ Sound (now cat) (now tab) size × (p .0 < count (now tab)) ⌝ }
     ensures { λ r. ⌜ r ≡ isOneOf (rowAt (now (cat .entry)) (listing (now (cat .entry)) (now (tab .entry))) (p .0)) parentage ⌝ }
 {
     let Parentage::Of(q) = parentage else {

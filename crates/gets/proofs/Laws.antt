@@ -20,24 +20,26 @@ use Rattle.terms.specs.declared.Answer.{Answer}
 use Rattle.terms.specs.declared.Found.{Found}
 use Rattle.terms.specs.declared.Found.the-variants.{At, Nothing}
 use Rattle.terms.specs.Choice.{pick}
-use Rattle.terms.specs.Names.{sameType}
+use Rattle.terms.specs.Names.{code, cell, sameType}
 use Rattle.terms.specs.Moves.{afterPlace, isAbsent, movedOnto}
 use Rattle.rules.specs.Block.{Bytes}
-use Rattle.rules.specs.Catalogue.{lengthOf, isType, level}
+use Rattle.rules.specs.Catalogue.{types, parentOf, lengthOf, isType, level}
 use Rattle.rules.specs.Cells.{Segment, segment, long as segmentLong, levelAt, endAt}
 use Rattle.rules.specs.Table.{count, listing}
 use Rattle.rules.specs.Arguments.{Level, ListRead, listRead, lastArgument, complete, getLevels}
 use Rattle.rules.specs.Matching.{firstMatch, along}
 use Rattle.rules.specs.Calls.{bare, afterMiss, answerOf, missStatus, levelStatus, getUnique, getNext, getNextWithin}
-use Rattle.catalogue.proofs.Hierarchy.{type-range, cell-holds, level-least}
+use Rattle.rules.proofs.Cells.{listing-length}
+use Rattle.lineage.proofs.Hierarchy.{type-range, cell-holds, level-child, level-least}
 use Rattle.cells.specs.Sound.{Sound}
 use Rattle.cells.proofs.Laws.{type-of, bytes-of}
+use Rattle.cells.proofs.Ancestry.{sound-listing, own-type}
 use Rattle.arguments.specs.Sound.{SoundList}
 use Rattle.arguments.proofs.Sound.{list-empty, last-asks}
 use Rattle.arguments.proofs.Complete.{complete-length}
 use Rattle.image.proofs.Bytes.{table-known}
 use Rattle.search.specs.Good.{Good}
-use Rattle.search.proofs.Laws.{known-last}
+use Rattle.search.proofs.Laws.{first-none, all-match, known-last}
 use Rattle.search.proofs.Levels.{get-levels}
 use Rattle.answers.specs.Told.{told}
 use Rattle.answers.specs.Ready.{Ready, left, gotAt, missedStatus}
@@ -85,8 +87,8 @@ module _ {cat tab : Bytes} {size : ℕ} {pos : Position} {list : Bytes} (r : Rea
     known = rw e (known-last cat list sound-list);
   }
 
-  levels-same : (t : TypeCode) → t ≡ last → complete cat list (listRead cat list .arguments) t ≡ ls
-  levels-same t e = rw e (sym (get-levels cat list (listRead cat list .arguments)))
+  levels-of : (t : TypeCode) → t ≡ last → complete cat list (listRead cat list .arguments) t ≡ ls
+  levels-of t e = rw e (sym (get-levels cat list (listRead cat list .arguments)))
 
   levels-none : length list ≡ 0 → ls ≡ []
   levels-none e = ap (λ (l : ListRead). getLevels cat list (l .arguments)) (list-empty cat list e)
@@ -149,10 +151,54 @@ module _ {cat tab : Bytes} {size : ℕ} {pos : Position} {list : Bytes} (r : Rea
         pub status-other : (t .0 ≡ u .0 → ⊥) → GK ≡ levelStatus cat cs ls (pos .place) i
         status-other z = rw (level-same, ne-eqb (t .0) (u .0) z)
 
+    -- the same from the codes: t is the type of cell i, which was found, and u that of the place
+    module _ (q : CellNumber) (t u : TypeCode) (e : length list ≡ 0) (f : pos .place ≡ On q) (l : i < count tab) (m : q .0 < count tab) (x : t ≡ segment cs i .code) (y : u ≡ segment cs (q .0) .code) where
+      found-type : (1 ≤ t .0) × (t .0 ≤ types cat)
+      found-type = rw x (own-type cat cs (r .sound .catalogue) (sound-listing (r .sound)) i (omega (arith, listing-length cat tab)))
+
+      place-type : (1 ≤ u .0) × (u .0 ≤ types cat)
+      place-type = rw y (own-type cat cs (r .sound .catalogue) (sound-listing (r .sound)) (q .0) (omega (arith, listing-length cat tab)))
+
+      found-level : level cat t ≡ levelAt cat cs i
+      unfolding levelAt
+      found-level = ap (level cat) x
+
+      place-level : level cat u ≡ levelAt cat cs (q .0)
+      unfolding levelAt
+      place-level = ap (level cat) y
+
+      pub codes-same : t .0 ≡ u .0 → Blank ≡ levelStatus cat cs ls (pos .place) i
+      codes-same z = status-twin q (level cat u) (level cat t) e f place-level found-level (ap (λ (v : ℕ). level cat (code v)) z) t u x y z
+
+      module _ (p : TypeCode) (g : p ≡ parentOf cat t) where
+        above-found : level cat t ≡ suc (level cat p)
+        above-found = level-child cat (r .sound .catalogue) t (found-type .0) (found-type .1) ∙ ap (λ (v : TypeCode). suc (level cat v)) (sym g)
+
+        pub codes-child : p .0 ≡ u .0 → Blank ≡ levelStatus cat cs ls (pos .place) i
+        codes-child z =
+            let h : level cat p ≡ level cat u = ap (λ (v : ℕ). level cat (code v)) z in
+            status-more q (level cat u) (level cat t) e f place-level found-level (omega (arith, above-found))
+
+        pub codes-sibling : (o : TypeCode) → o ≡ parentOf cat u → (t .0 ≡ u .0 → ⊥) → p .0 ≡ o .0 → GK ≡ levelStatus cat cs ls (pos .place) i
+        codes-sibling o k n z =
+            let a : level cat u ≡ suc (level cat o) = level-child cat (r .sound .catalogue) u (place-type .0) (place-type .1) ∙ ap (λ (v : TypeCode). suc (level cat v)) (sym k) in
+            let b : level cat p ≡ level cat o = ap (λ (v : ℕ). level cat (code v)) z in
+            status-other q (level cat u) (level cat t) e f place-level found-level (omega (arith, above-found)) t u x y n
+
+      module _ (was here : ℕ) (v : was ≡ level cat u) (w : here ≡ level cat t) where
+        pub levels-less : here < was → GA ≡ levelStatus cat cs ls (pos .place) i
+        levels-less h = status-less q was here e f (v ∙ place-level) (w ∙ found-level) h
+
+        pub levels-more : was < here → Blank ≡ levelStatus cat cs ls (pos .place) i
+        levels-more h = status-more q was here e f (v ∙ place-level) (w ∙ found-level) h
+
+        pub levels-same : (t .0 ≡ u .0 → ⊥) → was ≤ here → here ≤ was → GK ≡ levelStatus cat cs ls (pos .place) i
+        levels-same n a b = status-other q was here e f (v ∙ place-level) (w ∙ found-level) (omega arith) t u x y n
+
   module _ (area : Bytes) (hold : Bool) (t : TypeCode) (found : Found) (te : t ≡ last) where
     module _ (e : found ≡ along cat cs (complete cat list (listRead cat list .arguments) t) (pos .place)) where
       along-is : along cat cs ls (pos .place) ≡ found
-      along-is = ap (λ (l : List Level). along cat cs l (pos .place)) (sym (levels-same t te)) ∙ sym e
+      along-is = ap (λ (l : List Level). along cat cs l (pos .place)) (sym (levels-of t te)) ∙ sym e
 
       pub unique-found : (c : CellNumber) → found ≡ At c → gotAt cat cs Blank (Of c) hold (c .0) area ≡ getUnique cat cs pos area hold ls
       unfolding getUnique
@@ -164,7 +210,7 @@ module _ {cat tab : Bytes} {size : ℕ} {pos : Position} {list : Bytes} (r : Rea
 
     module _ (from : ℕ) (fe : from ≡ afterPlace (pos .place)) (to : ℕ) (e : found ≡ firstMatch cat cs (complete cat list (listRead cat list .arguments) t) from to) where
       first-is : firstMatch cat cs ls (afterPlace (pos .place)) to ≡ found
-      first-is = ap (λ (l : List Level). firstMatch cat cs l (afterPlace (pos .place)) to) (sym (levels-same t te)) ∙ ap (λ (n : ℕ). firstMatch cat cs (complete cat list (listRead cat list .arguments) t) n to) (sym fe) ∙ sym e
+      first-is = ap (λ (l : List Level). firstMatch cat cs l (afterPlace (pos .place)) to) (sym (levels-of t te)) ∙ ap (λ (n : ℕ). firstMatch cat cs (complete cat list (listRead cat list .arguments) t) n to) (sym fe) ∙ sym e
 
       pub next-found : (c : CellNumber) (s : Status) → to ≡ length cs → found ≡ At c → s ≡ levelStatus cat cs ls (pos .place) (c .0)
           → gotAt cat cs s (Of c) hold (c .0) area ≡ getNext cat cs pos area hold ls
@@ -183,6 +229,26 @@ module _ {cat tab : Bytes} {size : ℕ} {pos : Position} {list : Bytes} (r : Rea
       pub within-missed : (p : CellNumber) → pos .parentage ≡ Of p → to ≡ endAt cat cs (p .0) → found ≡ Nothing → left (bare GE (afterMiss GE pos)) area ≡ getNextWithin cat cs pos area hold ls
       unfolding getNextWithin
       within-missed p x n f = rw (x, ← n, first-is ∙ f)
+
+-- with an empty list the cell after the place is the match
+module _ {cat tab : Bytes} {size : ℕ} {pos : Position} {list : Bytes} (r : Ready cat tab size pos list) (area : Bytes) (hold : Bool) (none : length list ≡ 0) (i : ℕ) (at : i ≡ afterPlace (pos .place)) (n : ℕ) (to : n ≡ count tab) where
+  abbrev lastCode : TypeCode
+  lastCode = lastArgument (listRead cat list .arguments) .code
+
+  no-code : lastCode .0 ≡ 0
+  no-code = ap (λ (l : ListRead). lastArgument (l .arguments) .code .0) (list-empty cat list none)
+
+  to-end : n ≡ length (listing cat tab)
+  to-end = to ∙ sym (listing-length cat tab)
+
+  pub cell-found : (s : Status) → i < n → s ≡ levelStatus cat (listing cat tab) (getLevels cat list (listRead cat list .arguments)) (pos .place) i
+      → gotAt cat (listing cat tab) s (Of (cell i)) hold i area ≡ getNext cat (listing cat tab) pos area hold (getLevels cat list (listRead cat list .arguments))
+  cell-found s l e =
+      next-found r area hold lastCode (At (cell i)) refl i at n (all-match (search-good r lastCode refl) i n no-code l) (cell i) s to-end refl e
+
+  pub cell-missed : n ≤ i → left (bare GB (afterMiss GB pos)) area ≡ getNext cat (listing cat tab) pos area hold (getLevels cat list (listRead cat list .arguments))
+  cell-missed l =
+      next-missed r area hold lastCode Nothing refl i at n (first-none cat (listing cat tab) (complete cat list (listRead cat list .arguments) lastCode) i n l) GB to-end refl (sym (ap (λ (b : Bool). pick b GB GE) (eq-eqb (length list) 0 none)))
 
 pub absent-not : (pos : Position) → pos .parentage ≡ Absent → isAbsent (pos .parentage) ≡ false → ⊥
 absent-not pos e h = let z : true ≡ false = rw e at h in let y : _≡_ {A = ℕ} 1 0 = ap (λ (b : Bool). pick b 1 0) z in omega arith

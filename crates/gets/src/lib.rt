@@ -3,11 +3,12 @@ use answers::missed;
 use answers::told;
 use arguments::lookup::last_of;
 use blocks::wide;
-use catalogue::entries::data_length;
 use cells::lookup::code_at;
 use cells::lookup::count;
-use cells::lookup::level_at;
-use cells::runs::run_end;
+use entries::data_length;
+use entries::parent;
+use lineage::level;
+use runs::run_end;
 use search::along::along;
 use search::forward::first_match;
 use terms::Answer;
@@ -63,7 +64,8 @@ fn after_place(q: Place) -> usize
     }
 }
 
-// GA, GK or blank, of the cell that a get-next found.
+// GA, GK or blank, of the cell that a get-next found. Twins, a first child and a child of the same parent are seen from the codes; only else are
+// levels counted.
 pub fn level_status(
     cat: &[u8],
     tab: &[u8],
@@ -82,15 +84,24 @@ pub fn level_status(
     let Place::On(q) = place else {
         return Status::Blank;
     };
-    let was = level_at(cat, tab, size, q);
-    let now = level_at(cat, tab, size, c);
+    let u = code_at(cat, tab, size, q);
+    let t = code_at(cat, tab, size, c);
+    if t.0 == u.0 {
+        return Status::Blank;
+    }
+    let above = parent(cat, t).0;
+    if above == u.0 {
+        return Status::Blank;
+    }
+    if above == parent(cat, u).0 {
+        return Status::GK;
+    }
+    let was = level(cat, u);
+    let now = level(cat, t);
     if now < was {
         return Status::GA;
     }
     if was < now {
-        return Status::Blank;
-    }
-    if code_at(cat, tab, size, c).0 == code_at(cat, tab, size, q).0 {
         return Status::Blank;
     }
     Status::GK
@@ -156,6 +167,30 @@ pub fn get_next(
     let Found::At(c) = first_match(cat, tab, size, list, t, from, count(tab)) else {
         return missed(miss_status(list), pos);
     };
+    let s = level_status(cat, tab, size, pos, list, c);
+    got(cat, tab, size, c, s, Parentage::Of(c), hold, pos, area)
+}
+
+// The same with an empty list, which matches every cell: there is nothing to search. It stands apart so that the face can take it in whole, for
+// this is the call that a reading of the whole table makes.
+pub fn get_next_cell(
+    cat: &[u8],
+    tab: &[u8],
+    size: usize,
+    pos: Position,
+    list: &[u8],
+    area: &mut [u8],
+    hold: bool,
+) -> Answer
+    requires { ⌜ Ready (now cat) (now tab) size pos (now list) × (size ≤ suc (length (now area))) × (length (now list) ≡ 0) ⌝ }
+    ensures { λ r. ⌜ left r (now (area .exit)) ≡ getNext (now (cat .entry)) (listing (now (cat .entry)) (now (tab .entry))) pos (now (area .entry)) hold (getLevels (now (cat .entry)) (now (list .entry)) (listRead (now (cat .entry)) (now (list .entry)) .arguments)) ⌝ }
+{
+    let place = pos.place;
+    let i = after_place(place);
+    if count(tab) <= i {
+        return missed(Status::GB, pos);
+    }
+    let c = CellNumber(i);
     let s = level_status(cat, tab, size, pos, list, c);
     got(cat, tab, size, c, s, Parentage::Of(c), hold, pos, area)
 }

@@ -13,7 +13,7 @@ use Rattle.rules.specs.Block.{Bytes}
 use Rattle.rules.specs.Cells.{Segment, endAt}
 use Rattle.rules.specs.Table.{count, cellSize, listing}
 use Rattle.rules.proofs.Cells.{listing-length}
-use Rattle.catalogue.proofs.Hierarchy.{cell-most}
+use Rattle.lineage.proofs.Hierarchy.{cell-most}
 use Rattle.reader.specs.declared.Read.{Read}
 use Rattle.reader.specs.declared.Read.the-variants.{Got, Done}
 use Rattle.reader.specs.Stepped.{stepped}

@@ -5,7 +5,7 @@ use arguments::lookup::last_of;
 use arguments::lookup::wanted;
 use cells::lookup::code_at;
 use cells::lookup::count;
-use cells::runs::parent_of;
+use runs::parent_of;
 use search::agree::satisfies;
 use terms::CellNumber;
 use terms::Found;

@@ -1,8 +1,8 @@
 // Get-next alone.
 use crate::shown::put_hit;
 use arguments::lookup::last_of;
-use catalogue::lineage::level;
 use cells::lookup::count;
+use lineage::level;
 use reader::Read;
 use reader::read_next;
 use search::stretch::path_to;

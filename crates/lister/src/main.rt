@@ -4,6 +4,7 @@ use libc::STDOUT_FILENO;
 use listing::last_line;
 use listing::next_line;
 use listing::refusal;
+use statuses::number;
 use terms::Position;
 ghost use Prim.Native.Nat.{_≤_};
 ghost use lib.ListN.{length};
@@ -25,7 +26,7 @@ fn load(path: &[u8], buf: &mut [u8]) -> usize
 fn list(cat: &[u8], tab: &[u8]) {
     let mut out = [0u8; 262];
     let s = refusal(cat, tab);
-    if s.number() != 0 {
+    if number(s) != 0 {
         let end = last_line(&mut out, s);
         io::write_all(STDOUT_FILENO, &out[..end]);
         return;

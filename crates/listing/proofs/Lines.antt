@@ -37,7 +37,7 @@ use Rattle.image.proofs.Lists.{bytes-zeros}
 use Rattle.model.specs.Kept.{Kept}
 use Rattle.model.proofs.Kept.{tables-stay-good}
 use Rattle.model.proofs.Session.{sound-same}
-use Rattle.catalogue.proofs.Hierarchy.{cell-most}
+use Rattle.lineage.proofs.Hierarchy.{cell-most}
 use Rattle.arguments.proofs.Sound.{list-empty}
 use Rattle.cells.specs.Sound.{Sound}
 use Rattle.cells.proofs.Laws.{bytes-of, cell-in}

@@ -11,6 +11,7 @@ use cells::lookup::code_at;
 use cells::lookup::count;
 use reader::Read;
 use reader::read_next;
+use statuses::number;
 use terms::Answer;
 use terms::CellNumber;
 use terms::Parentage;
@@ -71,7 +72,7 @@ pub fn refusal(cat: &[u8], tab: &[u8]) -> Status
     ensures { λ r. ⌜ r ≡ refusal (now (cat .entry)) (now (tab .entry)) ⌝ }
 {
     let s = catalogue::check::check(cat);
-    if s.number() != 0 {
+    if number(s) != 0 {
         return s;
     }
     if 65536 < tab.len() {

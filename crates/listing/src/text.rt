@@ -1,4 +1,5 @@
 // Text written into a buffer: each function writes from a place on, and answers the place behind what it wrote.
+use statuses::letters;
 use terms::Status;
 ghost use mathlib.Core.Path.{_≡_};
 ghost use mathlib.Core.List.{[], _∷_};
@@ -21,7 +22,7 @@ pub(crate) fn put_letters(out: &mut [u8], at: usize, s: Status) -> usize
     requires { ⌜ at + 2 ≤ length (now out) ⌝ }
     ensures { λ r. ⌜ Wrote at (letters s) (now (out .entry)) r (now (out .exit)) × (r ≡ at + 2) ⌝ }
 {
-    let two = s.letters();
+    let two = letters(s);
     let next = put_byte(out, at, two[0]);
     put_byte(out, next, two[1])
 }

@@ -21,7 +21,7 @@ use Rattle.rules.specs.Catalogue.{fieldLength, isType, typeBeneath, goodCatalog
 use Rattle.rules.specs.Cells.{Segment}
 use Rattle.rules.specs.Arguments.{implied, goodNext, meant, askedOf, lastArgument}
 use Rattle.rules.specs.Matching.{satisfies}
-use Rattle.catalogue.proofs.Hierarchy.{beneath-trans}
+use Rattle.lineage.proofs.Hierarchy.{beneath-trans}
 use Rattle.arguments.specs.Sound.{GoodQualification, Downward}
 use Rattle.arguments.proofs.Above.{type-first, type-last, next-type, next-beneath, beneath-below}
 use Rattle.loops.specs.Reading.{heeds}

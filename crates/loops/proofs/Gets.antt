@@ -35,7 +35,7 @@ use Rattle.rules.specs.Calls.{answerOf, missed, over, missStatus, levelStatus, 
 use Rattle.rules.specs.Outcome.{Outcome, unsound, misused, unless, afterSound, afterCall, landed, outcomeOf, outcome}
 use Rattle.rules.proofs.Search.{seek-none, seek-here, seek-next}
 use Rattle.rules.proofs.Cells.{listing-length, row-run}
-use Rattle.catalogue.proofs.Hierarchy.{type-range, cell-holds}
+use Rattle.lineage.proofs.Hierarchy.{type-range, cell-holds}
 use Rattle.cells.proofs.Laws.{bytes-of, cell-in, good-sized, end-after, end-within}
 use Rattle.loops.specs.Loops.{State, promised, start, handedOn, sight}
 use Rattle.loops.specs.Demand3.{seenAt}

@@ -19,7 +19,7 @@ use Rattle.rules.specs.Cells.{Segment, segment, levelAt, runAt, endAt, rowAt, g
 use Rattle.rules.specs.Arguments.{Asked, Level, askedOf, complete, lastArgument, getLevels}
 use Rattle.rules.specs.Matching.{satisfies, agrees, pathTo, agree, matches}
 use Rattle.rules.proofs.Every.{every-in, every-out}
-use Rattle.catalogue.proofs.Hierarchy.{type-range, lineage-up, level-least}
+use Rattle.lineage.proofs.Hierarchy.{type-range, lineage-up, level-least}
 use Rattle.arguments.specs.Sound.{Downward}
 use Rattle.arguments.proofs.Complete.{complete-length}
 use Rattle.cells.proofs.Laws.{end-after, end-within}

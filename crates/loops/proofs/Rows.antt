@@ -20,7 +20,7 @@ use Rattle.rules.specs.Catalogue.{parentOf, isType, lineage, goodCatalogue}
 use Rattle.rules.specs.Cells.{Segment, segment, typeNumber, isChild, siblings, segmentLevel, goodListing, levelAt, runAt, endAt, rowAt}
 use Rattle.rules.specs.Tree.{dataPart, segments}
 use Rattle.rules.proofs.Tree.{segments-cells}
-use Rattle.catalogue.proofs.Hierarchy.{type-range, parent-before, lineage-up}
+use Rattle.lineage.proofs.Hierarchy.{type-range, parent-before, lineage-up}
 use Rattle.loops.proofs.Asked.{All}
 
 all-append : {X : Type 0} (P : X → Type 0) (xs ys : List X) → All P xs → All P ys → All P (xs ++ ys)

@@ -1,7 +1,7 @@
 // The check of a position against the cells of a table: "Anything else is a bad position."
 // What the calls make of a position are the methods of terms::Position.
 use cells::lookup::count;
-use cells::runs::run_end;
+use runs::run_end;
 use terms::CellNumber;
 use terms::Parentage;
 use terms::Place;
@@ -10,7 +10,7 @@ ghost use mathlib.Core.Path.{_≡_};
 ghost use mathlib.Core.Bool.{true, _&&_};
 ghost use Rattle.rules.specs.Position.{goodPlace, goodParentage, goodHold, goodPosition};
 ghost use Rattle.rules.specs.Table.{listing};
-ghost use Rattle.cells.specs.Lent.{Sized};
+ghost use Rattle.cells.specs.Sound.{Sound};
 
 // "The place is either on a cell i < n or in the gap before cell i, i ≤ n."
 fn good_place(cat: &[u8], tab: &[u8], q: Place) -> bool
@@ -34,7 +34,7 @@ fn good_hold(cat: &[u8], tab: &[u8], q: Place, hold: bool) -> bool
 
 // "On cell i, p is i or an ancestor of it": i lies in p's run. "In gap i, p < i and i is at most the end of p's run."
 fn good_parentage(cat: &[u8], tab: &[u8], size: usize, q: Place, p: Parentage) -> bool
-    requires { ⌜ Sized (now cat) (now tab) size × (goodPlace (now cat) (listing (now cat) (now tab)) q ≡ true) ⌝ }
+    requires { ⌜ Sound (now cat) (now tab) size × (goodPlace (now cat) (listing (now cat) (now tab)) q ≡ true) ⌝ }
     ensures { λ r. ⌜ r ≡ goodParentage (now (cat .entry)) (listing (now (cat .entry)) (now (tab .entry))) q p ⌝ }
 {
     let Parentage::Of(a) = p else {
@@ -56,9 +56,9 @@ fn good_parentage(cat: &[u8], tab: &[u8], size: usize, q: Place, p: Parentage) -
     }
 }
 
-// The check, on blocks that hold as many cells as they say. Numbers of any size are refused.
+// The check, on a catalogue and a table that are good. Numbers of any size are refused.
 pub fn is_good_on(cat: &[u8], tab: &[u8], size: usize, p: Position) -> bool
-    requires { ⌜ Sized (now cat) (now tab) size ⌝ }
+    requires { ⌜ Sound (now cat) (now tab) size ⌝ }
     ensures { λ r. ⌜ r ≡ goodPosition (now (cat .entry)) (listing (now (cat .entry)) (now (tab .entry))) p ⌝ }
 {
     let place = p.place;

@@ -146,7 +146,7 @@ pub fn misused_sound(
         return Status::AD;
     }
     let f = fault(cat, list);
-    if f.number() != 0 {
+    if statuses::number(f) != 0 {
         return f;
     }
     if number < 7 {

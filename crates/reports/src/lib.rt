@@ -10,6 +10,7 @@ use cells::lookup::count;
 use hits::nesting::nested_sound;
 use hits::plainly::plain_sound;
 use hits::single::joined_sound;
+use statuses::number;
 use terms::Status;
 ghost use mathlib.Core.Path.{_≡_};
 ghost use mathlib.Core.List.{_++_};
@@ -97,7 +98,7 @@ fn report_by(way: Way, cat: &[u8], tab: &[u8], one: &[u8], two: &[u8], out: &mut
     ensures { λ r. ⌜ reported r (now (out .exit)) ≡ report (now (cat .entry)) (now (tab .entry)) (now (one .entry)) (now (two .entry)) (now (out .entry)) ⌝ }
 {
     let s = refusal(cat, tab, one, two);
-    if s.number() != 0 {
+    if number(s) != 0 {
         return shows_nothing(s);
     }
     let mut list = [0u8; 1845];

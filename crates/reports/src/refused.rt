@@ -2,6 +2,7 @@
 use arguments::lookup::last_of;
 use arguments::read::fault;
 use arguments::read::fault_behind;
+use statuses::number;
 use table::check::check;
 use terms::Status;
 ghost use mathlib.Core.Path.{_≡_};
@@ -15,7 +16,7 @@ fn lists_fault(cat: &[u8], one: &[u8], two: &[u8]) -> Status
     ensures { λ r. ⌜ r ≡ listsFault (now (cat .entry)) (now (one .entry)) (now (two .entry)) ⌝ }
 {
     let f = fault(cat, one);
-    if f.number() != 0 {
+    if number(f) != 0 {
         return f;
     }
     if one.len() == 0 {
@@ -31,7 +32,7 @@ pub(crate) fn refusal(cat: &[u8], tab: &[u8], one: &[u8], two: &[u8]) -> Status
     ensures { λ r. ⌜ r ≡ refusal (now (cat .entry)) (now (tab .entry)) (now (one .entry)) (now (two .entry)) ⌝ }
 {
     let s = check(cat, tab);
-    if s.number() != 0 {
+    if number(s) != 0 {
         return s;
     }
     lists_fault(cat, one, two)

@@ -13,3 +13,4 @@ pub mod Tree
 pub mod Computed
 pub mod Bench
 pub mod Further
+pub mod Catalogues

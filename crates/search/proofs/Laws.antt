@@ -34,8 +34,10 @@ use Rattle.rules.specs.Position.{goodPlace}
 use Rattle.rules.proofs.Catalogue.{par, good-lower}
 use Rattle.rules.proofs.Cells.{listing-length}
 use Rattle.rules.proofs.Search.{seek-none, seek-here, seek-next}
+use Rattle.lineage.proofs.Hierarchy.{parent-least, parent-before, level-child, level-least}
 use Rattle.cells.specs.Lent.{nearest, parentAt}
 use Rattle.cells.proofs.Laws.{end-within}
+use Rattle.cells.proofs.Ancestry.{own-type}
 use Rattle.search.specs.declared.Reached.{Reached}
 use Rattle.search.specs.Stretch.{levels, agreesAlone, stretch, stretchBefore, Carried}
 use Rattle.search.specs.Good.{Good, Testable, reached, Above}
@@ -187,6 +189,18 @@ module _ {cat tab list : Bytes} {size : ℕ} {t : TypeCode} (g : Good cat tab li
 
     pub stretch-off : Carried cat cs ls i k → l - 1 ≤ k → agreesAlone cat list t (segment cs i) ≡ false → l - 1 ≡ stretch cat cs ls i
     stretch-off c x a = ap (λ (n : ℕ). n - 1) e ∙ next-off cat cs ls (count tab) steps i k h c (omega arith) (agrees-cell ∙ a)
+
+  -- a cell of another type than the root's lies beneath a root: with nothing carried its stretch is nothing
+  pub stretch-none : (i k : ℕ) (u : TypeCode) → i < count tab → Carried cat cs ls i k → k ≡ 0 → u ≡ segment cs i .code → (u .0 ≡ 1 → ⊥) → 0 ≡ stretch cat cs ls i
+  unfolding levelAt
+  stretch-none i k u h c z e n =
+      let o = own-type cat cs (g .catalogue) good-cells i (omega (arith, listing-length cat tab)) in
+      let m : u .0 ≡ segment cs i .code .0 = ap (λ (x : TypeCode). x .0) e in
+      let v : TypeCode = segment cs i .code in
+      let p : 1 ≤ parentOf cat v .0 = parent-least cat (g .catalogue) v (omega (arith, o .0)) (o .1) in
+      let b : parentOf cat v .0 < v .0 = parent-before cat (g .catalogue) v (o .0) (o .1) in
+      let l : 2 ≤ lev i = omega (arith, level-child cat (g .catalogue) v (o .0) (o .1), level-least cat (g .catalogue) (parentOf cat v) p (omega (arith, o .1))) in
+      sym z ∙ stretch-short i k (lev i) h refl c (omega arith)
 
   -- one cell more on a path
   module _ (i l long : ℕ) (r : Reached) (h : i < count tab) (a : Above cat cs ls i r) (e : l ≡ lev i) (f : long ≡ stretch cat cs ls i) where

@@ -1,12 +1,13 @@
 // "agrees in type and satisfies": one segment against what the list asks of its type.
 use arguments::Wanted;
 use arguments::lookup::wanted;
-use blocks::order_of;
 use blocks::wide;
-use catalogue::entries::field_length;
-use catalogue::entries::field_start;
-use catalogue::lineage::is_above;
 use cells::lookup::code_at;
+use fields::field_length;
+use fields::field_start;
+use lineage::is_above;
+use operators::holds;
+use slices::order_of;
 use terms::CellNumber;
 use terms::FieldNumber;
 use terms::Operator;
@@ -42,7 +43,7 @@ fn passes(
     let a = 8 + i * size + wide(field_start(cat, f));
     let x = a + long;
     let y = v + long;
-    o.holds(order_of(&tab[a..x], &list[v..y]))
+    holds(o, order_of(&tab[a..x], &list[v..y]))
 }
 
 // Whether a segment satisfies what an argument asks.

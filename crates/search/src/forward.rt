@@ -1,8 +1,8 @@
 // The pass forward: "first match after the place", "beneath p".
 use crate::stretch::path_to;
-use crate::stretch::stretched;
-use catalogue::lineage::level;
+use crate::stretch::stretched_at;
 use cells::lookup::level_at;
+use lineage::level;
 use terms::CellNumber;
 use terms::Found;
 use terms::TypeCode;
@@ -32,10 +32,9 @@ pub fn forward(
     let mut i = from;
     while i < to {
         let c = CellNumber(i);
-        let l = level_at(cat, tab, size, c);
-        long = stretched(cat, tab, size, list, t, long, l, c);
-        if l == last {
-            if long == last {
+        long = stretched_at(cat, tab, size, list, t, long, c);
+        if long == last {
+            if level_at(cat, tab, size, c) == last {
                 return Found::At(c);
             }
         }

@@ -1,2 +1,1 @@
-pub mod Frame
-pub mod Reader
+-- Nothing beyond what `rules` and `room` say of a table.

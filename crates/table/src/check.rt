@@ -1,22 +1,22 @@
 // The check of a table: the header first, so that a bad block costs little, then the bytes that no segment uses, then the listing.
-use crate::padding::all_free;
-use crate::padding::all_padded;
-use crate::readers::is_listing;
-use crate::room::good_room;
-use crate::room::room;
 use blocks::byte_at;
 use blocks::is_marked;
 use blocks::wide;
 use catalogue::check::is_good;
 use cells::lookup::cell_size;
 use cells::lookup::count;
+use padding::all_free;
+use padding::all_padded;
+use readers::is_listing;
+use room::good_room;
+use room::room;
 use terms::Status;
 ghost use mathlib.Core.Path.{_≡_};
 ghost use mathlib.Core.Bool.{true};
 ghost use Rattle.rules.specs.Catalogue.{goodCatalogue};
 ghost use Rattle.rules.specs.Table.{goodTable};
 ghost use Rattle.rules.specs.Outcome.{checkTable};
-ghost use Rattle.table.specs.Frame.{goodFrame};
+ghost use Rattle.room.specs.Frame.{goodFrame};
 
 // "byte 5 the cell size C", "n is at most M"
 fn good_frame(cat: &[u8], tab: &[u8]) -> bool

@@ -1,6 +1,2 @@
-// "The table": its check, and the maker of empty tables.
+// "The table": its check.
 pub mod check;
-pub mod make;
-mod padding;
-mod readers;
-pub mod room;

@@ -1,7 +1,5 @@
-// The words of document 01 as types. What can be done with one of them alone stands beside it, in the file of its name.
-pub mod operators;
+// The words of document 01 as types. What the calls make of a position stands beside it.
 pub mod positions;
-pub mod statuses;
 
 // Numbers that are each counted on their own: no lookup takes one for another.
 pub struct TypeCode(pub u8);

@@ -1,12 +1,14 @@
 // Where a new segment goes among its twins, and whether its unique key is taken.
 // The new segment is of type t, with the area's first L bytes.
-use blocks::order_of;
 use blocks::wide;
-use catalogue::entries::key_kind;
-use catalogue::entries::key_length;
-use catalogue::entries::key_start;
-use catalogue::lineage::level;
 use cells::lookup::code_at;
+use entries::key_kind;
+use entries::key_length;
+use entries::key_start;
+use lineage::level;
+use operators::is_equal;
+use operators::is_smaller;
+use slices::order_of;
 use terms::CellNumber;
 use terms::Order;
 use terms::TypeCode;
@@ -94,10 +96,10 @@ fn pass_row(
     let mut taken = false;
     while at < to {
         let o = stands_to(cat, tab, size, depth, t, area, CellNumber(at));
-        if o.is_smaller() {
+        if is_smaller(o) {
             return Spot { at, taken };
         }
-        if o.is_equal() {
+        if is_equal(o) {
             taken = true;
         }
         at += 1;

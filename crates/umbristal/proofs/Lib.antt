@@ -1,3 +1,4 @@
 pub mod Block
 pub mod Fitting
 pub mod Reports
+pub mod Reading

@@ -1,7 +1,8 @@
 -- What a call leaves to a caller who lends the position as a block and takes the answer as one number. Assumes nothing: these are definitions.
 use mathlib.Core.Path.{_≡_}
-use Prim.Native.Nat.{ℕ, _+_, _*_, _<_}
-use lib.Dec.{eqb}
+use mathlib.Core.Bool.{Bool, _&&_}
+use Prim.Native.Nat.{ℕ, _+_, _-_, _*_, _<_}
+use lib.Dec.{leb, eqb}
 use lib.ListN.{length}
 use Rattle.terms.specs.declared.Place.{Place}
 use Rattle.terms.specs.declared.Place.the-variants.{On, Before}
@@ -42,6 +43,10 @@ face cat tab block c list area = leftOf block (outcome cat tab (positionOf block
 
 unfoldable pub soundFace : Bytes → Bytes → Bytes → ℕ → Bytes → Bytes → Left
 soundFace cat tab block c list area = leftOf block (soundOutcome cat tab (positionOf block) c list area)
+
+-- GN with an empty list and an area that is long enough: on sound blocks no refusal is left
+unfoldable pub isStep : Bytes → ℕ → Bytes → Bytes → Bool
+isStep tab c list area = eqb c 2 && eqb (length list) 0 && leb (byte tab 5 - 1) (length area)
 
 -- the parts of a position's block, as they are read
 abbrev pub blockPlace : Bytes → Place

@@ -2,6 +2,7 @@
 use blocks::byte_at;
 use blocks::word_at;
 use reports::Report;
+use statuses::number;
 use terms::Answer;
 use terms::CellNumber;
 use terms::Parentage;
@@ -143,7 +144,7 @@ fn packed(a: Answer) -> u64
     ensures { λ r. ⌜ r ≡ packed a ⌝ }
 {
     let s = a.status;
-    let status = long(s.number());
+    let status = long(number(s));
     let code = long(a.code.0);
     let level = long(a.level);
     let length = long(a.length);
@@ -157,7 +158,7 @@ pub(crate) fn leave(block: &mut [u8], a: Answer) -> u64
     ensures { λ r. ⌜ (r ≡ packed a) × (now (block .exit) ≡ blockAfter (now (block .entry)) a) ⌝ }
 {
     let s = a.status;
-    if 20 <= s.number() {
+    if 20 <= number(s) {
         return packed(a);
     }
     let p = a.position;
@@ -171,7 +172,7 @@ pub(crate) fn packed_report(r: Report) -> u64
     ensures { λ p. ⌜ p ≡ packedReport r ⌝ }
 {
     let s = r.status;
-    let status = long(s.number());
+    let status = long(number(s));
     let hits = r.hits as u64;
     status + 4294967296 * hits
 }

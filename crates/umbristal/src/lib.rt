@@ -2,19 +2,24 @@
 mod lent;
 
 use crate::lent::packed_report;
+use blocks::wide;
 ghost use mathlib.Core.Path.{_≡_};
+ghost use mathlib.Core.Bool.{true};
+ghost use Prim.Native.Nat.{_<_, _≤_};
+ghost use lib.ListN.{length};
+ghost use Rattle.rules.specs.Block.{byte};
 ghost use Rattle.terms.specs.Statuses.{number};
 ghost use Rattle.rules.specs.Position.{positionOf};
 ghost use Rattle.rules.specs.Outcome.{checkCatalogue, checkTable, makeStatus, madeTable};
 ghost use Rattle.answers.specs.Ready.{SoundFor};
-ghost use Rattle.umbristal.specs.Face.{left, face, soundFace, shown, reportFace};
+ghost use Rattle.umbristal.specs.Face.{left, face, soundFace, isStep, shown, reportFace};
 
 // "The check of a catalogue answers 0 or CX"
 #[no_mangle]
 pub extern "C" fn umbristal_catalogue_check(cat: &[u8]) -> u8
     ensures { λ r. ⌜ r ≡ number (checkCatalogue (now (cat .entry))) ⌝ }
 {
-    catalogue::check::check(cat).number()
+    statuses::number(catalogue::check::check(cat))
 }
 
 // "that of a table CX, TX or 0"
@@ -22,7 +27,7 @@ pub extern "C" fn umbristal_catalogue_check(cat: &[u8]) -> u8
 pub extern "C" fn umbristal_table_check(cat: &[u8], tab: &[u8]) -> u8
     ensures { λ r. ⌜ r ≡ number (checkTable (now (cat .entry)) (now (tab .entry))) ⌝ }
 {
-    table::check::check(cat, tab).number()
+    statuses::number(table::check::check(cat, tab))
 }
 
 // "The maker of empty tables answers CX, or TX when the slice length fits no M, and then writes nothing; else header and zeros."
@@ -30,7 +35,7 @@ pub extern "C" fn umbristal_table_check(cat: &[u8], tab: &[u8]) -> u8
 pub extern "C" fn umbristal_table_make(cat: &[u8], tab: &mut [u8]) -> u8
     ensures { λ r. ⌜ (r ≡ number (makeStatus (now (cat .entry)) (now (tab .entry)))) × (now (tab .exit) ≡ madeTable (now (cat .entry)) (now (tab .entry))) ⌝ }
 {
-    table::make::make(cat, tab).number()
+    statuses::number(maker::make(cat, tab))
 }
 
 // The call of this number, on anything at all. The position is lent as a block of 8 bytes; the answer's other parts come back in one number.
@@ -51,6 +56,32 @@ pub extern "C" fn umbristal_call(
     lent::leave(pos, a)
 }
 
+// Whether nothing is left to refuse, and nothing to search.
+fn is_step(tab: &[u8], number: u8, list: &[u8], area: &[u8]) -> bool
+    requires { ⌜ (5 < length (now tab)) × (1 ≤ byte (now tab) 5) ⌝ }
+    ensures { λ r. ⌜ r ≡ isStep (now (tab .entry)) number (now (list .entry)) (now (area .entry)) ⌝ }
+{
+    if number != 2 {
+        return false;
+    }
+    if list.len() != 0 {
+        return false;
+    }
+    wide(tab[5]) - 1 <= area.len()
+}
+
+// One step of a reading of the whole table. The calls would answer the same; here no block is handed on, and that is most of what a step costs.
+fn step(cat: &[u8], tab: &[u8], pos: &mut [u8], list: &[u8], area: &mut [u8]) -> u64
+    requires { ⌜ SoundFor (now cat) (now tab) (positionOf (now pos)) × (isStep (now tab) 2 (now list) (now area) ≡ true) ⌝ }
+    ensures { λ r. ⌜ left r (now (tab .entry)) (now (pos .exit)) (now (area .exit))
+        ≡ soundFace (now (cat .entry)) (now (tab .entry)) (now (pos .entry)) 2 (now (list .entry)) (now (area .entry)) ⌝ }
+{
+    let size = wide(tab[5]);
+    let p = lent::position_of(pos);
+    let a = gets::get_next_cell(cat, tab, size, p, list, area, false);
+    lent::leave(pos, a)
+}
+
 // The same on blocks and a position that a check has accepted and only calls have changed since: nothing of them is tested again.
 #[no_mangle]
 pub extern "C" fn umbristal_call_sound(
@@ -65,6 +96,9 @@ pub extern "C" fn umbristal_call_sound(
     ensures { λ r. ⌜ left r (now (tab .exit)) (now (pos .exit)) (now (area .exit))
         ≡ soundFace (now (cat .entry)) (now (tab .entry)) (now (pos .entry)) number (now (list .entry)) (now (area .entry)) ⌝ }
 {
+    if is_step(tab, number, list, area) {
+        return step(cat, tab, pos, list, area);
+    }
     let p = lent::position_of(pos);
     let a = dli::call_sound(cat, tab, p, number, list, area);
     lent::leave(pos, a)

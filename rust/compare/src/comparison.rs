@@ -199,16 +199,14 @@ impl<'s> Comparison<'s> {
         self.step += 1;
         let report = |store: &dyn Store, way: Way| {
             let mut lent = Margined::new(out);
-            let packed = store.report(way, catalogue, table, list1, list2, lent.lend())?;
-            Some((packed, lent.take()))
+            let packed = store.report(way, catalogue, table, list1, list2, lent.lend());
+            (packed, lent.take())
         };
-        let expected = report(self.judge, Way::Plain).expect("the judge has reports");
+        let expected = report(self.judge, Way::Plain);
         for way in Way::ALL {
             self.tally.count(Row::Report(way), expected.0 as u8);
             for (store, whose) in [(self.judge, "judge"), (self.store, "store")] {
-                let Some(actual) = report(store, way) else {
-                    continue;
-                };
+                let actual = report(store, way);
                 if actual != expected {
                     let what = format!("{way:?} report of the {whose}");
                     let inputs = [

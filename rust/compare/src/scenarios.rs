@@ -246,8 +246,10 @@ fn damaged(dice: &mut Dice, comparison: &mut Comparison) -> Played {
             list: &list,
             area: &area,
         })?;
-        let room = dice.bytes(40);
-        comparison.reports(&catalogue, &table, &[1, 0], &list, &room)?;
+        let length = dice.below(40);
+        let room = dice.bytes(length);
+        let (list1, list2) = pair_of_lists(dice, &base);
+        comparison.reports(&catalogue, &table, &list1, &list2, &room)?;
     }
     Ok(())
 }
@@ -313,29 +315,46 @@ fn cuts(dice: &mut Dice, comparison: &mut Comparison) -> Played {
     Ok(())
 }
 
-/// The three reports on random pairs of lists, with an out that is exact, long or too short.
+/// The three reports on random pairs of lists, with an out that is long, exact, too short or none at all.
 fn reports(dice: &mut Dice, comparison: &mut Comparison) -> Played {
     let base = Base::draw(dice, Size::Any);
     for _ in 0..15 {
-        let words = several_words(dice, &base);
-        let seam = dice.between(1, words.len().max(2) - 1).min(words.len());
-        let mut list1 = drawing::list_of(&words[..seam]);
-        let mut list2 = drawing::list_of(&words[seam..]);
-        if dice.percent(10) {
-            list1 = drawing::faulty_list(dice, &base);
-        }
-        if dice.percent(10) {
-            list2 = drawing::faulty_list(dice, &base);
-        }
+        let (list1, list2) = pair_of_lists(dice, &base);
         let ample = vec![0xEE; 2 * base.count() + 3];
         let packed = comparison.reports(&base.catalogue, &base.table, &list1, &list2, &ample)?;
         let hits = (packed >> 32) as usize;
-        for room in [2 * hits, (2 * hits).saturating_sub(1)] {
+        for room in [2 * hits, (2 * hits).saturating_sub(1), 0] {
             let out = vec![0xEE; room];
             comparison.reports(&base.catalogue, &base.table, &list1, &list2, &out)?;
         }
     }
     Ok(())
+}
+
+/// Two lists for a report. Mostly the second goes on beneath the first; each is empty, faulty, cut or of
+/// another branch at times, so that every refusal is met beside every other.
+fn pair_of_lists(dice: &mut Dice, base: &Base) -> (Vec<u8>, Vec<u8>) {
+    let words = several_words(dice, base);
+    let seam = dice.between(1, words.len().max(2) - 1).min(words.len());
+    let list1 = drawing::list_of(&words[..seam]);
+    let list2 = drawing::list_of(&words[seam..]);
+    if dice.percent(8) {
+        // The bytes of a sound pair, with the seam at any byte.
+        let joined = [list1, list2].concat();
+        let (front, behind) = joined.split_at(dice.below(joined.len() + 1));
+        return (front.to_vec(), behind.to_vec());
+    }
+    (spoilt(dice, base, list1), spoilt(dice, base, list2))
+}
+
+/// The list as it is, mostly.
+fn spoilt(dice: &mut Dice, base: &Base, list: Vec<u8>) -> Vec<u8> {
+    match dice.weighted(&[80, 10, 5, 5]) {
+        0 => list,
+        1 => drawing::faulty_list(dice, base),
+        2 => drawing::list_of(&drawing::words(dice, base)),
+        _ => Vec::new(),
+    }
 }
 
 /// A list with two arguments or more, if a few tries give one: a pair of lists needs them.

@@ -34,7 +34,7 @@ pub trait Store {
         area: &mut [u8],
     ) -> u64;
 
-    /// The status in the low half, how many in the high half; none where the store has no reports.
+    /// The status in the low half, how many hits in the high half.
     fn report(
         &self,
         way: Way,
@@ -43,7 +43,7 @@ pub trait Store {
         list1: &[u8],
         list2: &[u8],
         out: &mut [u8],
-    ) -> Option<u64>;
+    ) -> u64;
 }
 
 pub type Call = fn(&[u8], &mut [u8], &mut [u8], u8, &[u8], &mut [u8]) -> u64;
@@ -109,7 +109,7 @@ impl Store for Functions {
         list1: &[u8],
         list2: &[u8],
         out: &mut [u8],
-    ) -> Option<u64> {
-        Some((self.report)(way, catalogue, table, list1, list2, out))
+    ) -> u64 {
+        (self.report)(way, catalogue, table, list1, list2, out)
     }
 }

@@ -530,4 +530,54 @@ pub const CHANGES: &[Change] = &[
         "let outer = database.get(position, Scope::Next, false, upper);
          if outer.subject.is_some() && outer.position.place == Place::On(vec![0]) { position = outer.position; continue; }",
     ),
+    change(
+        "reports",
+        "the nested report runs on into the next parent's dependents",
+        "position = gather( database, outer.position, Scope::NextWithinParent, lower, &mut hits, );",
+        "position = gather( database, outer.position, Scope::Next, lower, &mut hits, );",
+    ),
+    change(
+        "reports",
+        "the joined report forgets list 1",
+        "Way::Joined => joined_hits(&database, &arguments),",
+        "Way::Joined => joined_hits(&database, lower),",
+    ),
+    change(
+        "reports",
+        "list 2 need not lie beneath list 1",
+        "read_list_beneath(catalogue, Some(last.type_code), list2)",
+        "read_list_beneath(catalogue, None, list2)",
+    ),
+    change(
+        "reports",
+        "a report's list 1 is made up for by list 2",
+        "let mut arguments = read_list(&database.catalogue, list1)?;",
+        "let both = [list1, list2].concat(); read_list(&database.catalogue, &both)?;
+         let mut arguments = read_list(&database.catalogue, list1)?;",
+    ),
+    change(
+        "reports",
+        "an empty list 2 seen before the faults of list 1",
+        "let mut arguments = read_list(&database.catalogue, list1)?;",
+        "if list2.is_empty() { return Err(Status::AC); }
+         let mut arguments = read_list(&database.catalogue, list1)?;",
+    ),
+    change(
+        "reports",
+        "an empty list 1 seen after the faults of list 2",
+        "let Some(last) = upper.last() else {",
+        "let Some(last) = upper.last() else { read_list(catalogue, list2)?;",
+    ),
+    change(
+        "reports",
+        "a report with an empty list 2 shows list 1",
+        "if list2.is_empty() { return Err(Status::AC); }",
+        "",
+    ),
+    change(
+        "lib",
+        "a report's cell numbers low byte first",
+        ".flat_map(|&cell| (cell as u16).to_be_bytes())",
+        ".flat_map(|&cell| (cell as u16).to_le_bytes())",
+    ),
 ];

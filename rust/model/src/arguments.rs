@@ -45,11 +45,6 @@ pub struct Argument<'a> {
 }
 
 impl Argument<'_> {
-    /// How many bytes of the list it takes: type and operator, and field number and value if it has a test.
-    pub fn byte_count(&self) -> usize {
-        2 + self.test.as_ref().map_or(0, |test| 1 + test.value.len())
-    }
-
     /// Whether a segment of the argument's type satisfies it.
     fn satisfied_by(&self, segment: &Segment) -> bool {
         self.test.as_ref().is_none_or(|test| {
@@ -61,11 +56,20 @@ impl Argument<'_> {
 
 /// Reads a list from the left; the first fault answers.
 pub fn read_list<'a>(catalogue: &Catalogue, list: &'a [u8]) -> Result<Vec<Argument<'a>>, Status> {
+    read_list_beneath(catalogue, None, list)
+}
+
+/// Reads a list whose first type must lie beneath the given one, if there is one.
+pub fn read_list_beneath<'a>(
+    catalogue: &Catalogue,
+    outermost: Option<TypeCode>,
+    list: &'a [u8],
+) -> Result<Vec<Argument<'a>>, Status> {
     let mut rest = list;
     let mut arguments: Vec<Argument<'a>> = Vec::new();
     while !rest.is_empty() {
-        let above = arguments.last().map(|argument| argument.type_code);
-        arguments.push(read_argument(catalogue, above, &mut rest)?);
+        let before = arguments.last().map(|argument| argument.type_code);
+        arguments.push(read_argument(catalogue, before.or(outermost), &mut rest)?);
     }
     Ok(arguments)
 }

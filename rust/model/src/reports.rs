@@ -1,7 +1,8 @@
 //! Three ways to report the segments beneath one list that match another; they must agree.
 
-use super::arguments::{matches, read_list, Argument};
+use super::arguments::{matches, read_list, read_list_beneath, Argument};
 use super::calls::{Database, Scope};
+use super::catalogue::Catalogue;
 use super::forest::Segment;
 use super::position::{Place, Position};
 use super::status::Status;
@@ -30,9 +31,9 @@ pub fn hits(
     list2: &[u8],
 ) -> Result<Vec<usize>, Status> {
     let database = Database::read(catalogue, table)?;
-    let joined = [list1, list2].concat();
-    let arguments = read_list(&database.catalogue, &joined)?;
-    let outer = outer_count(&arguments, list1, list2)?;
+    let mut arguments = read_list(&database.catalogue, list1)?;
+    let outer = arguments.len();
+    arguments.extend(read_lower(&database.catalogue, &arguments, list2)?);
     let (upper, lower) = arguments.split_at(outer);
     Ok(match way {
         Way::Nested => nested(&database, upper, lower),
@@ -41,20 +42,19 @@ pub fn hits(
     })
 }
 
-/// How many of the joined arguments are list 1's. List 2 starts beneath list 1 only where both have an
-/// argument and the seam lies between two of them; otherwise the answer is AC.
-fn outer_count(arguments: &[Argument], list1: &[u8], list2: &[u8]) -> Result<usize, Status> {
-    if list1.is_empty() || list2.is_empty() {
+/// List 2, read on behind list 1: neither may be empty, and its first type lies beneath list 1's last.
+fn read_lower<'a>(
+    catalogue: &Catalogue,
+    upper: &[Argument],
+    list2: &'a [u8],
+) -> Result<Vec<Argument<'a>>, Status> {
+    let Some(last) = upper.last() else {
+        return Err(Status::AC);
+    };
+    if list2.is_empty() {
         return Err(Status::AC);
     }
-    let mut read = 0;
-    for (index, argument) in arguments.iter().enumerate() {
-        if read == list1.len() {
-            return Ok(index);
-        }
-        read += argument.byte_count();
-    }
-    Err(Status::AC)
+    read_list_beneath(catalogue, Some(last.type_code), list2)
 }
 
 fn nested(database: &Database, upper: &[Argument], lower: &[Argument]) -> Vec<usize> {

@@ -1,5 +1,4 @@
 //! The store against the judge, on a fixed seed.
-#![cfg(umbristal_archive)]
 
 use compare::MODEL;
 use store::Archive;

@@ -24,7 +24,7 @@ get-next-within-spec =
     (λ c. absurd (absent-not (c .before .before .before .before .before .before .before .args .pos) (c .before .enum-told .given .1) (c .before .before .before .before .before .before .before .pre .2)))
     (λ c κs. search needs)
     (λ c κs. omega (arith, after-in (c .before .before .before .before .before .before .before .before .before .args .cat .now) (c .before .before .before .before .before .before .before .before .before .args .tab .now) (c .before .before .before .before .before .before .before .before .before .args .pos) (c .before .before .before .before .before .before .before .before .before .pre .0 .position), c .before .before .before .before .before .before .before .before .before .pre .0 .sound .sized .few))
-    (λ c κs. (c .before .before .before .before .before .before .before .before .before .before .pre .0 .sound .sized, parent-in (c .before .before .before .before .before .before .before .before .before .before .args .cat .now) (c .before .before .before .before .before .before .before .before .before .before .args .tab .now) (c .before .before .before .before .before .before .before .before .before .before .args .pos) (c .before .before .before .before .before .before .before .before .before .before .pre .0 .position) (c .before .before .before .before .parentage .given .0 .0) (c .before .before .before .before .parentage .given .1)))
+    (λ c κs. (c .before .before .before .before .before .before .before .before .before .before .pre .0 .sound, parent-in (c .before .before .before .before .before .before .before .before .before .before .args .cat .now) (c .before .before .before .before .before .before .before .before .before .before .args .tab .now) (c .before .before .before .before .before .before .before .before .before .before .args .pos) (c .before .before .before .before .before .before .before .before .before .before .pre .0 .position) (c .before .before .before .before .parentage .given .0 .0) (c .before .before .before .before .parentage .given .1)))
     (λ c κs. (search-good (c .before .before .before .before .before .before .before .before .before .before .before .pre .0) (c .before .before .before .last-of .result .code) (ap (λ (a : Argument). a .code) (c .before .before .before .last-of .ensures)), omega (arith, c .run-end .ensures, listing-length (c .before .before .before .before .before .before .before .before .before .before .before .args .cat .now) (c .before .before .before .before .before .before .before .before .before .before .before .args .tab .now), end-within (c .before .before .before .before .before .before .before .before .before .before .before .args .cat .now) (listing (c .before .before .before .before .before .before .before .before .before .before .before .args .cat .now) (c .before .before .before .before .before .before .before .before .before .before .before .args .tab .now)) (c .before .before .before .before .before .parentage .given .0 .0 .0) (omega (arith, listing-length (c .before .before .before .before .before .before .before .before .before .before .before .args .cat .now) (c .before .before .before .before .before .before .before .before .before .before .before .args .tab .now), parent-in (c .before .before .before .before .before .before .before .before .before .before .before .args .cat .now) (c .before .before .before .before .before .before .before .before .before .before .before .args .tab .now) (c .before .before .before .before .before .before .before .before .before .before .before .args .pos) (c .before .before .before .before .before .before .before .before .before .before .before .pre .0 .position) (c .before .before .before .before .before .parentage .given .0 .0) (c .before .before .before .before .before .parentage .given .1))))))
     (λ c. search needs)
     (λ c. search needs)

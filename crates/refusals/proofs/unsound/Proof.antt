@@ -2,8 +2,8 @@ use mathlib.Core.Path.{_≡_, sym, _∙_}
 use Prim.Native.Nat.{ℕ}
 use borrow.Author.Tests.{not-true, not-false}
 use Rattle.rules.specs.Outcome.{unsound}
-use Rattle.cells.specs.Lent.{Sized}
-use Rattle.cells.proofs.Laws.{good-sized}
+use Rattle.cells.specs.Sound.{Sound}
+use Rattle.cells.proofs.Laws.{good-sound}
 use borrow.Author.Needs.{needs}
 use Rattle.refusals.proofs.unsound.Statement.{statement}
 use Rattle.refusals.proofs.unsound.Tie as tie
@@ -18,6 +18,6 @@ unsound-spec =
     (λ c κs. sym (c .before .is-good .ensures) ∙ not-false _ (c .if1 .left))
     (λ c. simp (sym (c .before .before .before .is-good .ensures) ∙ not-false _ (c .before .before .if1 .left), sym (c .before .is-good-on .ensures) ∙ not-true _ (c .if2 .taken)))
     (λ c κs. search needs)
-    (λ c κs. rw (c .cell-size .ensures .0) (good-sized (c .before .before .before .before .before .before .before .args .cat .now) (c .before .before .before .before .before .before .before .args .tab .now) (sym (c .before .before .before .before .is-good .ensures) ∙ not-false _ (c .before .before .before .if1 .left)) (sym (c .before .before .is-good-on .ensures) ∙ not-false _ (c .before .if2 .left))))
+    (λ c κs. rw (c .cell-size .ensures .0) (good-sound (c .before .before .before .before .before .before .before .args .cat .now) (c .before .before .before .before .before .before .before .args .tab .now) (sym (c .before .before .before .before .is-good .ensures) ∙ not-false _ (c .before .before .before .if1 .left)) (sym (c .before .before .is-good-on .ensures) ∙ not-false _ (c .before .if2 .left))))
     (λ c. simp (sym (c .before .before .before .before .before .before .is-good .ensures) ∙ not-false _ (c .before .before .before .before .before .if1 .left), sym (c .before .before .before .before .is-good-on .ensures) ∙ not-false _ (c .before .before .before .if2 .left), sym (c .before .is-good-on2 .ensures) ∙ not-true _ (c .if3 .taken)))
     (λ c. simp (sym (c .before .before .before .before .before .before .is-good .ensures) ∙ not-false _ (c .before .before .before .before .before .if1 .left), sym (c .before .before .before .before .is-good-on .ensures) ∙ not-false _ (c .before .before .before .if2 .left), sym (c .before .is-good-on2 .ensures) ∙ not-false _ (c .if3 .left))))

@@ -42,14 +42,19 @@ fn reports_refuse() {
     for way in Way::ALL {
         let short = report(way, b"\x01\x00", b"\x02\x00", 5);
         assert_eq!(short, (28, 0, vec![7; 5]));
-        let status = |list1: &[u8], list2: &[u8]| report(way, list1, list2, 99).0;
+        let status = |list1: &[u8], list2: &[u8]| report(way, list1, list2, 0).0;
         assert_eq!(status(b"\x02\x00", b"\x01\x00"), 24);
+        assert_eq!(status(b"\x02\x00", b"\x02\x00"), 24);
         assert_eq!(status(b"\x01\x00", b"\x02"), 25);
         assert_eq!(status(b"\x01\x09", b"\x02\x00"), 25);
         assert_eq!(status(b"\x01\x00", b"\x02\x01\x03P"), 26);
-        assert_eq!(status(b"", b"\x02\x00"), 24);
+        // A fault of list 1 comes before an empty list, and that before a fault of list 2.
+        assert_eq!(status(b"\x01\x01\x02", b""), 26);
+        assert_eq!(status(b"", b"\x02\x09"), 24);
         assert_eq!(status(b"\x02\x00", b""), 24);
-        assert_eq!(status(b"\x01", b"\x00\x02\x00"), 24);
+        // List 1 is read by itself: what is cut short is not made up for by list 2.
+        assert_eq!(status(b"\x01", b"\x00\x02\x00"), 25);
+        assert_eq!(status(b"\x01\x01\x010", b"7\x02\x00"), 25);
         let no_table = model::report(way, &bench_catalogue(), &[], b"", b"", &[]);
         assert_eq!(no_table.status, 21);
         assert_eq!(model::report(way, &[], &[], b"", b"", &[]).status, 20);

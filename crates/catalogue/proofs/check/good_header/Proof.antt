@@ -1,7 +1,7 @@
 use mathlib.Core.Path.{sym, _∙_}
 use borrow.Author.Tests.{le-leb, lt-leb, eq-eqb, ne-eqb}
 use Rattle.rules.specs.Catalogue.{goodHeader}
-use Rattle.catalogue.proofs.Tests.{told-no, told-yes}
+use Rattle.blocks.proofs.Tests.{told-no, told-yes}
 use borrow.Author.Needs.{needs}
 use Rattle.catalogue.proofs.check.good_header.Statement.{statement}
 use Rattle.catalogue.proofs.check.good_header.Tie as tie

@@ -5,7 +5,8 @@ use borrow.Author.Needs.{needs}
 use Rattle.forest.specs.Numbers.{range}
 use Rattle.rules.specs.Block.{every}
 use Rattle.rules.specs.Catalogue.{types, goodType}
-use Rattle.catalogue.proofs.Tests.{told-no, told-yes, every-next, every-stop, every-done}
+use Rattle.blocks.proofs.Tests.{told-no, told-yes}
+use Rattle.catalogue.proofs.Tests.{every-next, every-stop, every-done}
 use Rattle.catalogue.proofs.check.good_types.Statement.{statement}
 use Rattle.catalogue.proofs.check.good_types.Tie as tie
 

@@ -1,5 +1,5 @@
 use Rattle.rules.specs.Catalogue.{goodCatalogue}
-use Rattle.catalogue.proofs.Tests.{told-no, told-yes}
+use Rattle.blocks.proofs.Tests.{told-no, told-yes}
 use borrow.Author.Needs.{needs}
 use Rattle.catalogue.proofs.check.is_good.Statement.{statement}
 use Rattle.catalogue.proofs.check.is_good.Tie as tie

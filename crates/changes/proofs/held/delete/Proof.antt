@@ -13,7 +13,7 @@ delete-spec =
     (tie.spec
     (λ c κs. search needs)
     (λ c κs. (c .before .before .before .before .pre .sound .sized, held-cell (c .before .before .before .before .pre) (c .before .cell .ensures)))
-    (λ c κs. (c .before .before .before .before .before .before .pre .sound .sized, held-cell (c .before .before .before .before .before .before .pre) (c .before .before .before .cell .ensures)))
+    (λ c κs. (c .before .before .before .before .before .before .pre .sound, held-cell (c .before .before .before .before .before .before .pre) (c .before .before .before .cell .ensures)))
     (λ c. omega (arith, run-bounds (c .before .before .before .before .before .before .before .before .before .pre) (c .before .before .before .before .before .before .cell .ensures) (c .before .before .before .before .code-at .ensures) (c .before .before .run-end .ensures) .0))
     (λ c κs. delete-ready (c .before .before .before .before .before .before .before .before .before .before .pre) (c .before .before .before .before .before .before .before .cell .ensures) (c .before .before .before .before .before .code-at .ensures) (c .before .before .before .run-end .ensures))
     (λ c κs. omega (arith, run-bounds (c .before .before .before .before .before .before .before .before .before .before .before .before .before .pre) (c .before .before .before .before .before .before .before .before .before .before .cell .ensures) (c .before .before .before .before .before .before .before .before .code-at .ensures) (c .before .before .before .before .before .before .run-end .ensures)))

@@ -1,6 +1,6 @@
 use mathlib.Core.Path.{ap, _∙_}
 use Rattle.terms.specs.declared.Answer.{Answer}
-use Rattle.catalogue.proofs.Tests.{told-no, told-yes}
+use Rattle.blocks.proofs.Tests.{told-no, told-yes}
 use Rattle.answers.specs.Ready.{made}
 use Rattle.changes.proofs.Changed.{held-cell, replace-differs, replace-ready, replace-done}
 use Rattle.changes.proofs.Told.{told-made}

@@ -29,7 +29,7 @@ nested-sound-spec =
     (λ c. search needs)
     (λ c. c .before .before .before .before .before .loop .inv .room)
     (λ c. outer-done (c .before .before .before .before .before .before .before .before .before .before .before .before .before .before .pre) (c .before .before .before .before .before .loop .inv) _ _ (c .before .before .before .before .before .before .before .before .count .ensures .0) (c .before .before .read-next .ensures) (c .enum-told .given .1))
-    (λ c κs. (c .before .before .before .before .before .before .before .before .before .before .before .before .before .before .before .pre .first .sound .sized, outer-inner (c .before .before .before .before .before .before .before .before .before .before .before .before .before .before .before .pre) (c .before .before .before .before .before .before .loop .inv) _ _ _ _ (c .before .before .before .before .before .before .before .before .before .count .ensures .0) (c .before .before .before .read-next .ensures) (c .before .p .given .1) _ refl .found))
+    (λ c κs. (c .before .before .before .before .before .before .before .before .before .before .before .before .before .before .before .pre .first .sound, outer-inner (c .before .before .before .before .before .before .before .before .before .before .before .before .before .before .before .pre) (c .before .before .before .before .before .before .loop .inv) _ _ _ _ (c .before .before .before .before .before .before .before .before .before .count .ensures .0) (c .before .before .before .read-next .ensures) (c .before .p .given .1) _ refl .found))
     (λ c. omega (arith, outer-inner (c .before .before .before .before .before .before .before .before .before .before .before .before .before .before .before .before .before .pre) (c .before .before .before .before .before .before .before .before .loop .inv) _ _ _ _ (c .before .before .before .before .before .before .before .before .before .before .before .count .ensures .0) (c .before .before .before .before .before .read-next .ensures) (c .before .before .before .p .given .1) _ refl .small))
     (λ c κs. let i = outer-inner (c .before .before .before .before .before .before .before .before .before .before .before .before .before .before .before .before .before .before .pre) (c .before .before .before .before .before .before .before .before .before .loop .inv) _ _ _ _ (c .before .before .before .before .before .before .before .before .before .before .before .before .count .ensures .0) (c .before .before .before .before .before .before .read-next .ensures) (c .before .before .before .before .p .given .1) _ (c .before .before .run-end .ensures) in (c .before .before .before .before .before .before .before .before .before .before .before .before .before .before .before .before .before .before .pre .second, i .run, i .within, i .fewer))
     (λ c. let i = outer-inner (c .before .before .before .before .before .before .before .before .before .before .before .before .before .before .before .before .before .before .before .before .before .pre) (c .before .before .before .before .before .before .before .before .before .before .before .before .loop .inv) _ _ _ _ (c .before .before .before .before .before .before .before .before .before .before .before .before .before .before .before .count .ensures .0) (c .before .before .before .before .before .before .before .before .before .read-next .ensures) (c .before .before .before .before .before .before .before .p .given .1) _ (c .before .before .before .before .before .run-end .ensures) in omega (arith, i .later, c .before .before .read-on .ensures .later, c .before .before .before .before .before .before .before .before .before .before .before .loop-test .taken))

@@ -9,7 +9,7 @@ use Rattle.hits.proofs.Tested.{row-not, row-top, row-up}
 use Rattle.hits.proofs.plainly.row_heeds.Reads as row-heeds
 use Rattle.hits.proofs.plainly.row_heeds.Kinds as row-heeds-kinds
 use Rattle.hits.proofs.plainly.+row_heeds.Lts-row_heeds as row-heeds-lts
-use Rattle.cells.proofs.runs.parent_of.Reads as parent-of-reads
+use Rattle.runs.proofs.parent_of.Reads as parent-of-reads
 use Rattle.hits.proofs.plainly.heeds.Reads as heeds-reads
 use Rattle.hits.proofs.plainly.+row_heeds.{statement}
 use Rattle.hits.proofs.plainly.+row_heeds.Tie.{close}
@@ -36,7 +36,7 @@ pub +row-heeds-spec : {M : Type 1} → statement M
     row-heeds.Post
     (λ c κs. let s = c .before .before .before in (s .pre .1 .0, s .pre .1 .1))
     (λ c. let s = c .before .before .before .before .before in row-not (s .pre .1 .0) (s .args .c .0) _ (c .before .heeds .ensures) (c .if1 .taken))
-    (λ c κs. let s = c .before .before .before .before .before in (s .pre .1 .0 .sound .sized, s .pre .1 .1))
+    (λ c κs. let s = c .before .before .before .before .before in (s .pre .1 .0 .sound, s .pre .1 .1))
     (λ c. search needs)
     (λ c. search needs)
     (λ c. let s = c .before .before .before .before .before .before .before .before in row-top (s .pre .1 .0) (s .args .c .0) _ (c .before .before .before .before .heeds .ensures) (c .before .before .before .if1 .left) (sym (c .enum-told .given .1) ∙ c .before .before .parent-of .ensures))

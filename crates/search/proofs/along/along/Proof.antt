@@ -18,7 +18,7 @@ along-spec =
     (λ c κs. let s = c .before .before .before .before .before .before .before in (s .pre .0 .sized, kept-place (s .pre .0) (s .args .place) _ (s .pre .1) (sym (c .before .c .given .1) ∙ c .before .before .before .kept .ensures) .0))
     (λ c κs. search needs)
     (λ c. let s = c .before .before .before .before .before .before .before .before .before .before in along-here (s .pre .0) (s .args .place) _ (c .before .before .level-at .result) (sym (c .before .before .before .before .c .given .1) ∙ c .before .before .before .before .before .before .kept .ensures) (c .before .before .level-at .ensures) (c .if1 .taken ∙ c .before .level .ensures))
-    (λ c κs. let s = c .before .before .before .before .before .before .before .before .before .before in (s .pre .0 .sized, kept-place (s .pre .0) (s .args .place) _ (s .pre .1) (sym (c .before .before .before .before .c .given .1) ∙ c .before .before .before .before .before .before .kept .ensures) .0))
+    (λ c κs. let s = c .before .before .before .before .before .before .before .before .before .before in (record { catalogue = s .pre .0 .catalogue; table = s .pre .0 .table; sized = s .pre .0 .sized }, kept-place (s .pre .0) (s .args .place) _ (s .pre .1) (sym (c .before .before .before .before .c .given .1) ∙ c .before .before .before .before .before .before .kept .ensures) .0))
     (λ c. let s = c .before .before .before .before .before .before .before .before .before .before .before in omega (arith, kept-place (s .pre .0) (s .args .place) _ (s .pre .1) (sym (c .before .before .before .before .before .c .given .1) ∙ c .before .before .before .before .before .before .before .kept .ensures) .0, s .pre .0 .sized .few))
     (λ c κs. let s = c .before .before .before .before .before .before .before .before .before .before .before in (let w = kept-place (s .pre .0) (s .args .place) _ (s .pre .1) (sym (c .before .before .before .before .before .c .given .1) ∙ c .before .before .before .before .before .before .before .kept .ensures) in (s .pre .0, kept-list (s .pre .0) _ w, omega (arith, end-in (s .pre .0) _ (w .0), c .run-end .ensures), kept-before (s .pre .0) _ (c .before .before .before .level-at .result) w (c .before .before .before .level-at .ensures))))
     (λ c. let s = c .before .before .before .before .before .before .before .before .before .before .before .before in c .forward .ensures ∙ along-beneath (s .pre .0) (s .args .place) _ (c .before .before .before .before .level-at .result) (sym (c .before .before .before .before .before .before .c .given .1) ∙ c .before .before .before .before .before .before .before .before .kept .ensures) (c .before .before .before .before .level-at .ensures) _ (λ e. c .before .before .if1 .left (e ∙ sym (c .before .before .before .level .ensures))) (c .before .run-end .ensures)))

@@ -8,7 +8,7 @@ use borrow.Fn.PlainCycle.{Measures, is, falls, and}
 use Rattle.search.proofs.stretch.path_to.Reads as path-to
 use Rattle.search.proofs.stretch.path_to.Kinds as path-to-kinds
 use Rattle.search.proofs.stretch.+path_to.Lts-path_to as path-to-lts
-use Rattle.cells.proofs.runs.parent_of.Reads as parent-of-reads
+use Rattle.runs.proofs.parent_of.Reads as parent-of-reads
 use Rattle.search.proofs.stretch.one_more.Reads as one-more-reads
 use Rattle.search.proofs.stretch.+path_to.{statement}
 use Rattle.search.proofs.stretch.+path_to.Tie.{close}
@@ -33,7 +33,7 @@ pub +path-to-spec : {M : Type 1} → statement M
 )
     (path-to-at t)
     path-to.Post
-    (λ c κs. let s = c .before .before .before in (s .pre .1 .0 .sized, s .pre .1 .1))
+    (λ c κs. let s = c .before .before .before in (record { catalogue = s .pre .1 .0 .catalogue; table = s .pre .1 .0 .table; sized = s .pre .1 .0 .sized }, s .pre .1 .1))
     (λ c. search needs)
     (λ c. search needs)
     (λ c κs. let s = c .before .before .before .before .before .before in (s .pre .1 .0, s .pre .1 .1, above-root (s .pre .1 .0) (s .args .c .0) (s .pre .1 .1) (sym (c .enum-told .given .1) ∙ c .before .before .parent-of .ensures)))

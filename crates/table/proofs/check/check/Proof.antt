@@ -1,5 +1,5 @@
 use Rattle.rules.specs.Outcome.{checkTable}
-use Rattle.catalogue.proofs.Tests.{told-no, told-yes}
+use Rattle.blocks.proofs.Tests.{told-no, told-yes}
 use borrow.Author.Needs.{needs}
 use Rattle.table.proofs.check.check.Statement.{statement}
 use Rattle.table.proofs.check.check.Tie as tie

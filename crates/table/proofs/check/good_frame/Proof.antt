@@ -1,7 +1,7 @@
 use mathlib.Core.Path.{sym, _∙_}
 use borrow.Author.Tests.{eq-eqb, ne-eqb}
-use Rattle.table.specs.Frame.{goodFrame}
-use Rattle.catalogue.proofs.Tests.{told-no, told-yes}
+use Rattle.room.specs.Frame.{goodFrame}
+use Rattle.blocks.proofs.Tests.{told-no, told-yes}
 use borrow.Author.Needs.{needs}
 use Rattle.table.proofs.check.good_frame.Statement.{statement}
 use Rattle.table.proofs.check.good_frame.Tie as tie

@@ -1,5 +1,5 @@
-use Rattle.catalogue.proofs.Tests.{told-no, told-yes}
-use Rattle.table.proofs.Frame.{frame-sized, table-frame}
+use Rattle.blocks.proofs.Tests.{told-no, told-yes}
+use Rattle.room.proofs.Frame.{frame-sized, table-frame}
 use borrow.Author.Needs.{needs}
 use Rattle.table.proofs.check.is_good_on.Statement.{statement}
 use Rattle.table.proofs.check.is_good_on.Tie as tie

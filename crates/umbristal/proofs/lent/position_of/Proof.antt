@@ -1,4 +1,4 @@
-use Rattle.catalogue.proofs.Tests.{told-no, told-yes}
+use Rattle.blocks.proofs.Tests.{told-no, told-yes}
 use Rattle.umbristal.proofs.Block.{position-bad, position-good}
 use borrow.Author.Needs.{needs}
 use Rattle.umbristal.proofs.lent.position_of.Statement.{statement}

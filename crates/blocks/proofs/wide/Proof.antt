@@ -1,0 +1,6 @@
+use borrow.Author.Needs.{needs}
+use Rattle.blocks.proofs.wide.Statement.{statement}
+use Rattle.blocks.proofs.wide.Tie as tie
+
+pub wide-spec : {M : Type 1} → statement M
+wide-spec = tie.close (tie.spec (λ c. search needs))

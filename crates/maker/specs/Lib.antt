@@ -1,0 +1,1 @@
+-- Nothing beyond what `rules` and `room` say of a table.

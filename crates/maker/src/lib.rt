@@ -1,0 +1,50 @@
+// The maker of empty tables.
+use catalogue::check::is_good;
+use room::good_room;
+use terms::Status;
+use type_range::largest;
+ghost use mathlib.Core.Path.{_≡_};
+ghost use Prim.Native.Nat.{_≤_};
+ghost use lib.ListN.{length, replicate};
+ghost use Rattle.rules.specs.Outcome.{makeStatus, madeTable};
+ghost use Rattle.room.specs.Frame.{emptied};
+
+fn clear(tail: &mut [u8])
+    ensures { λ _. ⌜ now (tail .exit) ≡ replicate (length (now (tail .entry))) 0 ⌝ }
+{
+    let mut i = 0;
+    while i < tail.len() {
+        tail[i] = 0;
+        i += 1;
+    }
+}
+
+// "header and zeros"
+fn write_empty(tab: &mut [u8], size: u8)
+    requires { ⌜ 8 ≤ length (now tab) ⌝ }
+    ensures { λ _. ⌜ now (tab .exit) ≡ emptied size (now (tab .entry)) ⌝ }
+{
+    tab[0] = 0x48;
+    tab[1] = 0x44;
+    tab[2] = 0x54;
+    tab[3] = 0;
+    tab[4] = 1;
+    tab[5] = size;
+    tab[6] = 0;
+    tab[7] = 0;
+    clear(&mut tab[8..]);
+}
+
+// "The maker of empty tables answers CX, or TX when the slice length fits no M, and then writes nothing; else header and zeros."
+pub fn make(cat: &[u8], tab: &mut [u8]) -> Status
+    ensures { λ r. ⌜ (r ≡ makeStatus (now (cat .entry)) (now (tab .entry))) × (now (tab .exit) ≡ madeTable (now (cat .entry)) (now (tab .entry))) ⌝ }
+{
+    if !is_good(cat) {
+        return Status::CX;
+    }
+    if !good_room(cat, tab) {
+        return Status::TX;
+    }
+    write_empty(tab, 1 + largest(cat));
+    Status::Blank
+}

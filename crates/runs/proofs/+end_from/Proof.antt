@@ -1,0 +1,42 @@
+use Prim.Native.Nat.{_+_}
+use mathlib.Core.Path.{_∙_}
+use native.Mathlib.Omega.{arith}
+use Rattle.cells.proofs.Laws.{inside-less, end-whole, end-past, end-short}
+use Prim.Native.Nat.{ℕ, _<_}
+use borrow.Fn.Kinds.{In}
+use borrow.Fn.PlainCycle.{Measures, is, falls, and}
+use Rattle.runs.proofs.end_from.Reads as end-from
+use Rattle.runs.proofs.end_from.Kinds as end-from-kinds
+use Rattle.runs.proofs.+end_from.Lts-end_from as end-from-lts
+use Rattle.runs.proofs.passed.Reads as passed-reads
+use Rattle.runs.proofs.+end_from.{statement}
+use Rattle.runs.proofs.+end_from.Tie.{close}
+
+abbrev μ-end-from : Measures 1 end-from-kinds.ps ℕ
+μ-end-from κs a = a .1 .1 .1 .1 .1 .0
+
+abbrev end-from-at : ℕ → In 1 end-from-kinds.ps
+end-from-at t = and 1 end-from-kinds.ps (is 1 end-from-kinds.ps μ-end-from t) end-from.Pre
+
+abbrev end-from-below : ℕ → In 1 end-from-kinds.ps
+end-from-below t =
+    and 1 end-from-kinds.ps (falls 1 end-from-kinds.ps _<_ μ-end-from t) end-from.Pre
+
+pub +end-from-spec : {M : Type 1} → statement M
++end-from-spec = close μ-end-from λ t. end-from-lts.spec (
+  passed-reads.Asked,
+  passed-reads.Learnt,
+  end-from-below t,
+  end-from.Post,
+)
+    (end-from-at t)
+    end-from.Post
+    (λ c. omega (arith, c .before .before .pre .1 .few))
+    (λ c κs. (c .before .before .pre .1, omega arith))
+    (λ c. end-whole _ _ _ _ _ _ _ (c .passed .ensures))
+    (λ c. omega (arith, c .before .before .pre .1 .few))
+    (λ c κs. (inside-less (c .before .before .pre .1) (c .before .before .args .i + 256) (omega (arith, c .if1 .left)), omega arith))
+    (λ c. end-short _ _ _ _ 256 _ _ _ (omega (arith, c .before .before .if1 .left)) (end-whole _ _ _ _ 256 _ _ (c .before .passed2 .ensures)) (c .if2 .taken))
+    (λ c. omega (arith, c .before .before .if1 .left))
+    (λ c κs. (omega (arith, c .before .before .if1 .left, c .before .before .before .before .pre .0), inside-less (c .before .before .before .before .pre .1) _ (omega (arith, c .before .before .if1 .left))))
+    (λ c. c .end-from .ensures ∙ end-past _ _ _ _ 256 _ _ _ (omega (arith, c .before .before .before .if1 .left)) (end-whole _ _ _ _ 256 _ _ (c .before .before .passed2 .ensures)) (c .before .if2 .left))

@@ -1,0 +1,1 @@
+-- Nothing beyond what `cells` says of a lent table.

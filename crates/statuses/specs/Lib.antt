@@ -1,0 +1,1 @@
+-- Nothing beyond what `terms` says of a status.

@@ -1,0 +1,48 @@
+//! The hand-written Rust answers as the store does, on damaged blocks too: the checks are the same.
+
+use super::ByHand;
+use crate::calls::{Face, Proved};
+use crate::sample::Sample;
+use face::{Way, FRESH};
+
+#[derive(PartialEq, Eq, Debug)]
+struct Left {
+    got: u64,
+    shown: [u64; 3],
+    bytes: Vec<u8>,
+}
+
+/// All that GN and the reports leave behind.
+fn left<F: Face>(catalogue: &[u8], table: &[u8]) -> Left {
+    let (mut table, mut position) = (table.to_vec(), FRESH.to_vec());
+    let (mut area, mut out) = (vec![9; 120], vec![9; 30]);
+    let got = F::call(catalogue, &mut table, &mut position, 2, &[], &mut area);
+    let shown = [Way::Nested, Way::Joined, Way::Plain].map(|way| {
+        let (list1, list2) = ([1, 1, 4, b'A'], [3, 1, 3, b'P']);
+        F::report(way, catalogue, &table, &list1, &list2, &mut out)
+    });
+    Left {
+        got,
+        shown,
+        bytes: [table, position, area, out].concat(),
+    }
+}
+
+#[test]
+fn as_the_store_on_damaged_blocks() {
+    let sample = Sample::new(20);
+    let blocks = [sample.catalogue, sample.table].concat();
+    let seam = blocks.len() - (8 + (20 + 37) * 24);
+    for byte in 0..blocks.len() {
+        for damage in [1, 2, 3, 0x80] {
+            let mut blocks = blocks.clone();
+            blocks[byte] ^= damage;
+            let (catalogue, table) = blocks.split_at(seam);
+            let (expected, actual) = (
+                left::<Proved>(catalogue, table),
+                left::<ByHand>(catalogue, table),
+            );
+            assert_eq!(actual, expected, "byte {byte}, {damage}");
+        }
+    }
+}

@@ -1,0 +1,282 @@
+//! The work, by DL/I calls: what the store and the hand-written Rust have in common.
+
+use crate::sample::{
+    serial, Sample, Segment, CELL, LENGTH, STATE, STEP, STEP_KEY, TRY, UNIT, UNIT_KEY, VERDICT,
+};
+use crate::work::{Contender, Done, Operation, CHECKED_CALLS};
+use face::{Way, FRESH, POSITION_SIZE};
+use std::hint::black_box;
+
+const GU: u8 = 1;
+const GN: u8 = 2;
+const GHU: u8 = 4;
+const ISRT: u8 = 7;
+const DLET: u8 = 9;
+
+const GB: u8 = 10;
+
+/// The functions of the C face that are measured.
+pub trait Face {
+    const NAME: &'static str;
+
+    fn call(
+        catalogue: &[u8],
+        table: &mut [u8],
+        position: &mut [u8],
+        number: u8,
+        list: &[u8],
+        area: &mut [u8],
+    ) -> u64;
+
+    /// For blocks and a position that calls have accepted.
+    fn call_sound(
+        catalogue: &[u8],
+        table: &mut [u8],
+        position: &mut [u8],
+        number: u8,
+        list: &[u8],
+        area: &mut [u8],
+    ) -> u64;
+
+    fn report(
+        way: Way,
+        catalogue: &[u8],
+        table: &[u8],
+        list1: &[u8],
+        list2: &[u8],
+        out: &mut [u8],
+    ) -> u64;
+}
+
+/// A table under calls.
+pub struct Session<'s, F> {
+    sample: &'s Sample,
+    table: Vec<u8>,
+    newcomer: Segment,
+    out: Vec<u8>,
+    face: std::marker::PhantomData<F>,
+}
+
+impl<'s, F: Face> Session<'s, F> {
+    pub fn new(sample: &'s Sample) -> Session<'s, F> {
+        assert_eq!(face::table_check(&sample.catalogue, &sample.table), 0);
+        Session {
+            sample,
+            table: sample.table.clone(),
+            newcomer: sample.newcomer(),
+            out: vec![0; 2 * sample.segments.len()],
+            face: std::marker::PhantomData,
+        }
+    }
+
+    fn sound(&mut self, position: &mut [u8], number: u8, list: &[u8], area: &mut [u8]) -> u64 {
+        F::call_sound(
+            &self.sample.catalogue,
+            &mut self.table,
+            position,
+            number,
+            list,
+            area,
+        )
+    }
+
+    fn listing(&mut self) -> Done {
+        let mut position = FRESH;
+        let mut area = [0; LENGTH];
+        let mut done = Done { count: 0, sum: 0 };
+        while (self.sound(&mut position, GN, &[], &mut area) as u8) < GB {
+            done.count += 1;
+            done.sum += serial(&area);
+        }
+        done
+    }
+
+    fn checked(&mut self) -> Done {
+        let mut position = FRESH;
+        let mut area = [0; LENGTH];
+        let mut sum = 0;
+        for _ in 0..CHECKED_CALLS {
+            F::call(
+                &self.sample.catalogue,
+                &mut self.table,
+                &mut position,
+                GN,
+                &[],
+                &mut area,
+            );
+            sum += serial(&area);
+        }
+        Done {
+            count: CHECKED_CALLS,
+            sum,
+        }
+    }
+
+    fn unique(&mut self) -> Done {
+        let mut position = FRESH;
+        let mut area = [0; LENGTH];
+        let mut sum = 0;
+        for (unit, step) in &self.sample.probes {
+            let list = by_keys(*unit, *step);
+            self.sound(&mut position, GU, black_box(&list), &mut area);
+            sum += serial(&area);
+        }
+        Done {
+            count: self.sample.probes.len(),
+            sum,
+        }
+    }
+
+    /// The insert leaves the place on the new cell. Its hold is set in the block, which keeps the position
+    /// good, or got by key.
+    fn insert_delete(&mut self, by_key: bool) -> Done {
+        let mut position: [u8; POSITION_SIZE] = FRESH;
+        let mut area = self.newcomer.data;
+        let [u1, u2] = self.newcomer.unit;
+        let [s1, s2] = self.newcomer.step;
+        let insert = [UNIT, 1, UNIT_KEY, u1, u2, STEP, 1, STEP_KEY, s1, s2, TRY, 0];
+        self.sound(&mut position, ISRT, black_box(&insert), &mut area);
+        if by_key {
+            let get = [
+                UNIT, 1, UNIT_KEY, u1, u2, STEP, 1, STEP_KEY, s1, s2, TRY, 1, VERDICT, area[0],
+            ];
+            self.sound(&mut position, GHU, black_box(&get), &mut area);
+        } else {
+            position[6] = 1;
+        }
+        let cell = u64::from(position[1]) << 8 | u64::from(position[2]);
+        let removed = self.sound(&mut position, DLET, &[], &mut area) >> 32;
+        Done {
+            count: removed as usize,
+            sum: cell,
+        }
+    }
+
+    fn report(&mut self, way: Way) -> Done {
+        let packed = F::report(
+            way,
+            &self.sample.catalogue,
+            &self.table,
+            black_box(&[UNIT, 1, STATE, b'A']),
+            black_box(&[TRY, 1, VERDICT, b'P']),
+            &mut self.out,
+        );
+        let count = (packed >> 32) as usize;
+        let cells = self.out[..2 * count].chunks_exact(2);
+        Done {
+            count,
+            sum: cells
+                .map(|cell| u64::from(cell[0]) << 8 | u64::from(cell[1]))
+                .sum(),
+        }
+    }
+}
+
+fn by_keys(unit: [u8; 2], step: [u8; 2]) -> [u8; 10] {
+    let ([u1, u2], [s1, s2]) = (unit, step);
+    [UNIT, 1, UNIT_KEY, u1, u2, STEP, 1, STEP_KEY, s1, s2]
+}
+
+impl<F: Face> Contender for Session<'_, F> {
+    fn name(&self) -> &'static str {
+        F::NAME
+    }
+
+    fn run(&mut self, operation: Operation) -> Option<Done> {
+        Some(match operation {
+            Operation::Listing => self.listing(),
+            Operation::Nested => self.report(Way::Nested),
+            Operation::Joined => self.report(Way::Joined),
+            Operation::Plain => self.report(Way::Plain),
+            Operation::Unique => self.unique(),
+            Operation::InsertDelete => self.insert_delete(false),
+            Operation::InsertGetDelete => self.insert_delete(true),
+            Operation::Checked => self.checked(),
+        })
+    }
+
+    fn is_as_before(&self) -> bool {
+        self.table == self.sample.table
+    }
+}
+
+/// The proved store.
+pub struct Proved;
+
+impl Face for Proved {
+    const NAME: &'static str = "store";
+
+    fn call(
+        catalogue: &[u8],
+        table: &mut [u8],
+        position: &mut [u8],
+        number: u8,
+        list: &[u8],
+        area: &mut [u8],
+    ) -> u64 {
+        face::call(catalogue, table, position, number, list, area)
+    }
+
+    fn call_sound(
+        catalogue: &[u8],
+        table: &mut [u8],
+        position: &mut [u8],
+        number: u8,
+        list: &[u8],
+        area: &mut [u8],
+    ) -> u64 {
+        // SAFETY: a session checks its table when it begins, starts from fresh positions and sets at most a
+        // hold on the cell that the position is on.
+        unsafe { face::call_sound(catalogue, table, position, number, list, area) }
+    }
+
+    fn report(
+        way: Way,
+        catalogue: &[u8],
+        table: &[u8],
+        list1: &[u8],
+        list2: &[u8],
+        out: &mut [u8],
+    ) -> u64 {
+        face::report(way, catalogue, table, list1, list2, out)
+    }
+}
+
+/// Moves the bytes behind the newcomer's place up by a cell and down again: the floor of an insert and a delete.
+pub struct Floor {
+    table: Vec<u8>,
+    start: usize,
+    tail: usize,
+}
+
+impl Floor {
+    pub fn new(sample: &Sample) -> Floor {
+        Floor {
+            table: sample.table.clone(),
+            start: 8 + sample.newcomer_cell() * CELL,
+            tail: sample.tail(),
+        }
+    }
+}
+
+impl Contender for Floor {
+    fn name(&self) -> &'static str {
+        "memmove"
+    }
+
+    fn run(&mut self, operation: Operation) -> Option<Done> {
+        if operation != Operation::InsertDelete {
+            return None;
+        }
+        let (start, tail) = (self.start, self.tail);
+        self.table.copy_within(start..start + tail, start + CELL);
+        black_box(&mut self.table);
+        self.table
+            .copy_within(start + CELL..start + CELL + tail, start);
+        black_box(&mut self.table);
+        Some(Done {
+            count: 1,
+            sum: ((start - 8) / CELL) as u64,
+        })
+    }
+}

@@ -1,0 +1,65 @@
+//! What the blocks say of lengths. Catalogue and table are sound wherever this is asked.
+
+use crate::numbers::{CellNumber, FieldNumber, TypeCode};
+
+/// The most cells a table can have.
+const MOST_CELLS: usize = 4096;
+
+/// Where the cells of a table begin, and the entries of a catalogue.
+const HEADER: usize = 8;
+
+/// The data length of a type, if there is such a type.
+pub(crate) fn data_length(catalogue: &[u8], type_code: TypeCode) -> Option<usize> {
+    let types = catalogue[5];
+    let entry = usize::from(type_code.0) * 8;
+    (1..=types)
+        .contains(&type_code.0)
+        .then(|| usize::from(catalogue[entry + 1]))
+}
+
+/// The length of a field, if there is such a field.
+pub(crate) fn field_length(catalogue: &[u8], field: FieldNumber) -> Option<usize> {
+    let (types, fields) = (catalogue[5], catalogue[6]);
+    let behind_types = HEADER + usize::from(types) * 8;
+    let entry = behind_types + usize::from(field.0.saturating_sub(1)) * 4;
+    (1..=fields)
+        .contains(&field.0)
+        .then(|| usize::from(catalogue[entry + 2]))
+}
+
+/// The longest data length of all types; a cell is one byte longer.
+pub(crate) fn longest(catalogue: &[u8]) -> usize {
+    let lengths = (1..=catalogue[5]).filter_map(|code| data_length(catalogue, TypeCode(code)));
+    lengths.max().unwrap_or(0)
+}
+
+/// How long a table of so many cells is. Beyond the most cells there can be, a length that fits none.
+pub(crate) fn table_length(catalogue: &[u8], cells: usize) -> usize {
+    HEADER + cells.min(MOST_CELLS + 1) * (longest(catalogue) + 1)
+}
+
+/// How many segments a table has.
+pub(crate) fn count(table: &[u8]) -> usize {
+    usize::from(table[6]) << 8 | usize::from(table[7])
+}
+
+/// How many cells a table has, free ones too.
+pub(crate) fn cells(table: &[u8]) -> usize {
+    (table.len() - HEADER) / usize::from(table[5])
+}
+
+/// The type and the data of a segment; nothing for a cell that is free or none.
+pub(crate) fn segment<'t>(
+    catalogue: &[u8],
+    table: &'t [u8],
+    cell: CellNumber,
+) -> Option<(TypeCode, &'t [u8])> {
+    let number = usize::from(cell.0);
+    if number >= count(table) {
+        return None;
+    }
+    let start = HEADER + number * usize::from(table[5]);
+    let type_code = TypeCode(table[start]);
+    let length = data_length(catalogue, type_code)?;
+    Some((type_code, &table[start + 1..=start + length]))
+}

@@ -1,0 +1,115 @@
+//! The cases B1 to B10 of document 01, and those that are run also.
+
+use crate::bench::*;
+use umbristal::{Argument, CellNumber, Got, Op, Place, Status, Store};
+
+fn cell_of(got: Got) -> u16 {
+    got.segment().expect("a segment is found").cell.0
+}
+
+#[test]
+fn b1_the_listing() {
+    let mut store = store();
+    let mut statuses = Vec::new();
+    while let Got::Segment(segment) = store.get_next(&[]).unwrap() {
+        statuses.push((segment.cell.0, segment.status.letters()));
+    }
+    let expected = ["--", "--", "--", "GA", "--", "--", "GA", "GA", "--"];
+    assert_eq!(statuses, (0..).zip(expected).collect::<Vec<_>>());
+    assert_eq!(store.get_next(&[]).unwrap().status(), Status::GB);
+}
+
+#[test]
+fn b2_get_next_by_verdict() {
+    let mut store = store();
+    let list = [Argument::test(TRY, VERDICT, Op::Eq, b"T")];
+    assert_eq!(cell_of(store.get_next(&list).unwrap()), 4);
+    assert_eq!(store.get_next(&list).unwrap(), Got::Nothing(Status::GE));
+    assert_eq!(store.place(), Place::On(CellNumber(4)));
+}
+
+#[test]
+fn b3_get_unique_along_the_position() {
+    let mut store = store();
+    assert_eq!(cell_of(store.get_unique(&[step(b"14")]).unwrap()), 3);
+    store.get_unique(&[unit(b"09")]).unwrap();
+    assert_eq!(cell_of(store.get_unique(&[step(b"14")]).unwrap()), 8);
+}
+
+#[test]
+fn b4_insert_along_the_position() {
+    for (start, becomes) in [(5, 6), (7, 9)] {
+        let mut store = store();
+        while store.place() != Place::On(CellNumber(start)) {
+            store.get_next(&[]).unwrap();
+        }
+        let inserted = store.insert(&[Argument::all(TRY)], b"S3").unwrap();
+        assert_eq!(cell_of(inserted), becomes);
+        assert_eq!(store.count(), 10);
+        let found = store.segment_at(CellNumber(becomes));
+        assert_eq!(found, Some((TRY, &b"S3"[..])));
+    }
+}
+
+#[test]
+fn b5_and_b6_keys_of_inserts() {
+    let mut store = store();
+    let twin = store.insert(&[unit(b"07"), Argument::all(STEP)], b"14X");
+    assert_eq!(twin.unwrap_err().status(), Status::II);
+    let inserted = store.insert(&[Argument::all(UNIT)], b"08C").unwrap();
+    assert_eq!(cell_of(inserted), 7);
+}
+
+#[test]
+fn b7_and_b8_delete() {
+    let mut store = store();
+    store.get_hold_unique(&[step(b"14")]).unwrap();
+    assert!(store.is_held());
+    assert_eq!(store.parentage(), Some(CellNumber(3)));
+    assert_eq!(store.delete().unwrap().removed, 3);
+    assert_eq!(
+        (store.count(), store.place()),
+        (6, Place::Before(CellNumber(3)))
+    );
+    let within = store.get_next_within_parent(&[]).unwrap();
+    assert_eq!(within, Got::Nothing(Status::GP));
+    let note = store.get_next(&[]).unwrap().segment().unwrap();
+    assert_eq!(
+        (note.cell.0, note.type_code, note.status),
+        (3, NOTE, Status::Blank)
+    );
+    assert_eq!(store.delete().unwrap_err().status(), Status::DJ);
+}
+
+#[test]
+fn b9_replace() {
+    let mut store = store();
+    store.get_hold_unique(&[step(b"14")]).unwrap();
+    assert_eq!(store.replace(b"15P").unwrap_err().status(), Status::DA);
+    let replaced = store.replace(b"14P").unwrap();
+    assert_eq!((replaced.cell.0, &replaced.data[..]), (3, &b"14P"[..]));
+    assert_eq!(store.replace(b"14P").unwrap_err().status(), Status::DJ);
+}
+
+#[test]
+fn b10_the_empty_table_and_no_table() {
+    let mut store = Store::make(blocks().0, 12).unwrap();
+    assert_eq!(store.get_next(&[]).unwrap().status(), Status::GB);
+    let mut none = Store::make(blocks().0, 0).unwrap();
+    let refusal = none.insert(&[Argument::all(UNIT)], b"07A").unwrap_err();
+    assert_eq!(refusal.status(), Status::FX);
+    assert_eq!(Store::make(blocks().0, 4096).unwrap().cells(), 4096);
+    assert!(Store::make(blocks().0, usize::MAX).is_err());
+}
+
+#[test]
+fn what_is_damaged_is_not_opened() {
+    let (catalogue, table) = blocks();
+    let status = |catalogue: &[u8], table: &[u8]| {
+        let opened = Store::open(catalogue.to_vec(), table.to_vec());
+        opened.map_or_else(|refusal| refusal.status(), |_| Status::Blank)
+    };
+    assert_eq!(status(&catalogue, &table), Status::Blank);
+    assert_eq!(status(&catalogue[1..], &table[1..]), Status::CX);
+    assert_eq!(status(&catalogue, &table[1..]), Status::TX);
+}

@@ -1,0 +1,6 @@
+//! The crate from outside, on the bench table of document 01.
+
+mod bench;
+mod cases;
+mod lists;
+mod stays_sound;
