@@ -112,3 +112,19 @@ module _ (cat tab : Bytes) (pos : Position) (e : goodPosition cat (listing cat t
 
   pub on-place : (c : CellNumber) → pos .place ≡ On c → c .0 < count tab
   on-place c f = let h : goodPlace cat cells (On c) ≡ true = rw f at place-good in omega (arith, ltb-true (c .0) (length cells) h, listing-length cat tab)
+
+  parent-around : (q : Place) (p : CellNumber) → goodPlace cat cells q ≡ true → goodParentage cat cells q (Of p) ≡ true → (p .0 < afterPlace q) × (afterPlace q ≤ endAt cat cells (p .0))
+  parent-around (On c) p h k =
+      let l : c .0 < length cells = ltb-true (c .0) (length cells) h in
+      let r : (leb (p .0) (c .0) && ltb (c .0) (endAt cat cells (p .0))) ≡ true = sym (row-run cat cells (p .0) (c .0) l) ∙ k in (
+        omega (arith, leb-true (p .0) (c .0) (both-left (leb (p .0) (c .0)) (ltb (c .0) (endAt cat cells (p .0))) r)),
+        omega (arith, ltb-true (c .0) (endAt cat cells (p .0)) (both-right (leb (p .0) (c .0)) (ltb (c .0) (endAt cat cells (p .0))) r)),
+      )
+  parent-around (Before c) p h k = (
+    ltb-true (p .0) (c .0) (both-left (ltb (p .0) (c .0)) (leb (c .0) (endAt cat cells (p .0))) k),
+    leb-true (c .0) (endAt cat cells (p .0)) (both-right (ltb (p .0) (c .0)) (leb (c .0) (endAt cat cells (p .0))) k),
+  )
+
+  -- the cell after the place lies behind the parentage, and its run comes up to it
+  pub around : (p : CellNumber) → pos .parentage ≡ Of p → (p .0 < afterPlace (pos .place)) × (afterPlace (pos .place) ≤ endAt cat cells (p .0))
+  around p f = parent-around (pos .place) p place-good (rw f at parentage-good)

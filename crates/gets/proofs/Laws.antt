@@ -2,11 +2,11 @@
 use mathlib.Core.Path.{_≡_, refl, ap, sym, _∙_}
 use mathlib.Core.Bool.{Bool, true, false, _&&_, not}
 use mathlib.Core.List.{List, [], _∷_, _++_}
-use Prim.Native.Nat.{ℕ, suc, _+_, _-_, _*_, _<_, _≤_}
+use Prim.Native.Nat.{ℕ, zero, suc, _+_, _-_, _*_, _<_, _≤_}
 use native.Mathlib.Omega.{arith}
 use lib.Dec.{ltb, eqb}
 use lib.ListN.{length, take, drop}
-use borrow.Author.Tests.{lt-ltb, le-ltb, eq-eqb, ne-eqb, eqb-true, eqb-false}
+use borrow.Author.Tests.{lt-ltb, le-ltb, eq-eqb, ne-eqb, ltb-true, ltb-false, eqb-true, eqb-false}
 use Rattle.terms.specs.declared.TypeCode.{TypeCode}
 use Rattle.terms.specs.declared.CellNumber.{CellNumber}
 use Rattle.terms.specs.declared.Place.{Place}
@@ -22,18 +22,22 @@ use Rattle.terms.specs.declared.Found.the-variants.{At, Nothing}
 use Rattle.terms.specs.Choice.{pick}
 use Rattle.terms.specs.Names.{code, cell, sameType}
 use Rattle.terms.specs.Moves.{afterPlace, isAbsent, movedOnto}
+use Rattle.forest.specs.Forest.{inside, outside, side}
+use Rattle.forest.specs.Good.{on, off, is}
+use Rattle.forest.specs.Runs.{under, under-in, under-out}
+use Rattle.forest.specs.Numbers.{range}
 use Rattle.rules.specs.Block.{Bytes}
-use Rattle.rules.specs.Catalogue.{types, parentOf, lengthOf, isType, level}
-use Rattle.rules.specs.Cells.{Segment, segment, long as segmentLong, levelAt, endAt}
+use Rattle.rules.specs.Catalogue.{types, parentOf, lengthOf, isType, level, typeBeneath}
+use Rattle.rules.specs.Cells.{Segment, segment, long as segmentLong, levelAt, runAt, endAt}
 use Rattle.rules.specs.Table.{count, listing}
 use Rattle.rules.specs.Arguments.{Level, ListRead, listRead, lastArgument, complete, getLevels}
 use Rattle.rules.specs.Matching.{firstMatch, along}
 use Rattle.rules.specs.Calls.{bare, afterMiss, answerOf, missStatus, levelStatus, getUnique, getNext, getNextWithin}
 use Rattle.rules.proofs.Cells.{listing-length}
-use Rattle.lineage.proofs.Hierarchy.{type-range, cell-holds, level-child, level-least}
+use Rattle.lineage.proofs.Hierarchy.{type-range, cell-holds, level-child, level-least, beneath-later}
 use Rattle.cells.specs.Sound.{Sound}
-use Rattle.cells.proofs.Laws.{type-of, bytes-of}
-use Rattle.cells.proofs.Ancestry.{sound-listing, own-type}
+use Rattle.cells.proofs.Laws.{type-of, bytes-of, end-within}
+use Rattle.cells.proofs.Ancestry.{sound-listing, own-type, run-beneath}
 use Rattle.arguments.specs.Sound.{SoundList}
 use Rattle.arguments.proofs.Sound.{list-empty, last-asks}
 use Rattle.arguments.proofs.Complete.{complete-length}
@@ -249,6 +253,67 @@ module _ {cat tab : Bytes} {size : ℕ} {pos : Position} {list : Bytes} (r : Rea
   pub cell-missed : n ≤ i → left (bare GB (afterMiss GB pos)) area ≡ getNext cat (listing cat tab) pos area hold (getLevels cat list (listRead cat list .arguments))
   cell-missed l =
       next-missed r area hold lastCode Nothing refl i at n (first-none cat (listing cat tab) (complete cat list (listRead cat list .arguments) lastCode) i n l) GB to-end refl (sym (ap (λ (b : Bool). pick b GB GE) (eq-eqb (length list) 0 none)))
+
+-- the cell that a run comes up to is in it where its type is beneath that of the run's first cell
+under-stop : (lev : ℕ → ℕ) (m n s : ℕ) → under lev m (range s n) < n → lev (s + under lev m (range s n)) ≤ m
+unfolding under
+under-stop lev m zero s l = absurd (omega arith)
+under-stop lev m (suc n) s l = elim (side m (lev s)) [
+  | inside h ↦
+      let e : under lev m (range s (suc n)) ≡ suc (under lev m (range (suc s) n)) = under-in lev m s (range (suc s) n) h in
+      let z : s + under lev m (range s (suc n)) ≡ suc s + under lev m (range (suc s) n) = omega arith in
+      rw z (under-stop lev m n (suc s) (omega arith))
+  | outside h ↦
+      let e : under lev m (range s (suc n)) ≡ 0 = under-out lev m s (range (suc s) n) h in
+      let z : s + under lev m (range s (suc n)) ≡ s = omega arith in
+      rw z h
+]
+
+end-stop : (cat : Bytes) (cs : List Segment) (p : ℕ) → endAt cat cs p < length cs → levelAt cat cs (endAt cat cs p) ≤ levelAt cat cs p
+unfolding endAt runAt
+end-stop cat cs p l =
+    let n : ℕ = length cs - suc p in
+    let z : p + suc (under (levelAt cat cs) (levelAt cat cs p) (range (suc p) (length cs - suc p))) ≡ suc p + under (levelAt cat cs) (levelAt cat cs p) (range (suc p) (length cs - suc p)) = omega arith in
+    rw z (under-stop (levelAt cat cs) (levelAt cat cs p) (length cs - suc p) (suc p) (omega arith))
+
+module _ {cat tab : Bytes} {size : ℕ} (s : Sound cat tab size) (p i : ℕ) (l : p < i) (m : i ≤ endAt cat (listing cat tab) p) (k : p < count tab) where
+  pub within-none : count tab ≤ i → false ≡ ltb i (endAt cat (listing cat tab) p)
+  within-none h = sym (le-ltb i (endAt cat (listing cat tab) p) (omega (arith, end-within cat (listing cat tab) p (omega (arith, listing-length cat tab)), listing-length cat tab)))
+
+  pub within-type : (t u : TypeCode) (b : Bool) → i < count tab → t ≡ segment (listing cat tab) i .code → u ≡ segment (listing cat tab) p .code → b ≡ typeBeneath cat t u → b ≡ ltb i (endAt cat (listing cat tab) p)
+  unfolding levelAt
+  within-type t u b h x y e = elim (side i (endAt cat (listing cat tab) p)) [
+    | inside w ↦ e ∙ rw (x, y) (run-beneath cat (listing cat tab) (s .catalogue) (sound-listing s) i (omega (arith, listing-length cat tab)) p l w) ∙ sym (lt-ltb i (endAt cat (listing cat tab) p) w)
+    | outside w ↦
+        let z : i ≡ endAt cat (listing cat tab) p = omega arith in
+        let o = own-type cat (listing cat tab) (s .catalogue) (sound-listing s) i (omega (arith, listing-length cat tab)) in
+        let v : levelAt cat (listing cat tab) i ≤ levelAt cat (listing cat tab) p = rw z (end-stop cat (listing cat tab) p (omega (arith, listing-length cat tab))) in
+        let f : typeBeneath cat t u ≡ false = (elim (is (typeBeneath cat t u)) [
+          | on q ↦ absurd (omega (arith, beneath-later cat (s .catalogue) t u (rw x (o .0)) (rw x (o .1)) q .2, ap (level cat) x, ap (level cat) y))
+          | off q ↦ q
+        ]) in
+        e ∙ f ∙ sym (le-ltb i (endAt cat (listing cat tab) p) w)
+  ]
+
+pub cell-in-run : (cat tab : Bytes) (p i : ℕ) → p < count tab → ltb i (endAt cat (listing cat tab) p) ≡ true → i < count tab
+cell-in-run cat tab p i k e = omega (arith, ltb-true i (endAt cat (listing cat tab) p) e, end-within cat (listing cat tab) p (omega (arith, listing-length cat tab)), listing-length cat tab)
+
+-- GNP with an empty list: the cell after the place is the match, if it lies in the parentage's run
+module _ {cat tab : Bytes} {size : ℕ} {pos : Position} {list : Bytes} (r : Ready cat tab size pos list) (area : Bytes) (hold : Bool) (none : length list ≡ 0) (i : ℕ) (at : i ≡ afterPlace (pos .place)) (p : CellNumber) (x : pos .parentage ≡ Of p) (b : Bool) (w : b ≡ ltb i (endAt cat (listing cat tab) (p .0))) where
+  abbrev noType : TypeCode
+  noType = lastArgument (listRead cat list .arguments) .code
+
+  no-type : noType .0 ≡ 0
+  no-type = ap (λ (l : ListRead). lastArgument (l .arguments) .code .0) (list-empty cat list none)
+
+  pub cell-within : (s : Status) → b ≡ true → s ≡ levelStatus cat (listing cat tab) (getLevels cat list (listRead cat list .arguments)) (pos .place) i
+      → gotAt cat (listing cat tab) s (Of p) hold i area ≡ getNextWithin cat (listing cat tab) pos area hold (getLevels cat list (listRead cat list .arguments))
+  cell-within s l e =
+      within-found r area hold noType (At (cell i)) refl i at (endAt cat (listing cat tab) (p .0)) (all-match (search-good r noType refl) i (endAt cat (listing cat tab) (p .0)) no-type (ltb-true i (endAt cat (listing cat tab) (p .0)) (sym w ∙ l))) p (cell i) s x refl refl e
+
+  pub cell-outside : b ≡ false → left (bare GE (afterMiss GE pos)) area ≡ getNextWithin cat (listing cat tab) pos area hold (getLevels cat list (listRead cat list .arguments))
+  cell-outside l =
+      within-missed r area hold noType Nothing refl i at (endAt cat (listing cat tab) (p .0)) (first-none cat (listing cat tab) (complete cat list (listRead cat list .arguments) noType) i (endAt cat (listing cat tab) (p .0)) (ltb-false i (endAt cat (listing cat tab) (p .0)) (sym w ∙ l))) p x refl refl
 
 pub absent-not : (pos : Position) → pos .parentage ≡ Absent → isAbsent (pos .parentage) ≡ false → ⊥
 absent-not pos e h = let z : true ≡ false = rw e at h in let y : _≡_ {A = ℕ} 1 0 = ap (λ (b : Bool). pick b 1 0) z in omega arith

@@ -7,6 +7,7 @@ use cells::lookup::code_at;
 use cells::lookup::count;
 use entries::data_length;
 use entries::parent;
+use lineage::is_beneath;
 use lineage::level;
 use runs::run_end;
 use search::along::along;
@@ -22,8 +23,11 @@ use update::moves::put;
 ghost use mathlib.Core.Path.{_≡_};
 ghost use mathlib.Core.Bool.{false};
 ghost use Prim.Native.Nat.{suc, _<_, _≤_};
+ghost use lib.Dec.{ltb};
 ghost use lib.ListN.{length};
+ghost use Rattle.terms.specs.declared.Parentage.the-variants.{Of};
 ghost use Rattle.terms.specs.Moves.{afterPlace, isAbsent};
+ghost use Rattle.rules.specs.Cells.{endAt};
 ghost use Rattle.rules.specs.Table.{count, listing};
 ghost use Rattle.rules.specs.Arguments.{listRead, getLevels};
 ghost use Rattle.rules.specs.Calls.{levelStatus, getUnique, getNext, getNextWithin};
@@ -195,6 +199,43 @@ pub fn get_next_cell(
     got(cat, tab, size, c, s, Parentage::Of(c), hold, pos, area)
 }
 
+// Whether cell i lies in p's run, which comes up to it at least. Its type tells, so that the end of the run need not be sought.
+fn is_within(cat: &[u8], tab: &[u8], size: usize, p: CellNumber, i: usize) -> bool
+    requires { ⌜ Sound (now cat) (now tab) size × (p .0 < i) × (i ≤ endAt (now cat) (listing (now cat) (now tab)) (p .0)) × (p .0 < count (now tab)) ⌝ }
+    ensures { λ r. ⌜ r ≡ ltb i (endAt (now (cat .entry)) (listing (now (cat .entry)) (now (tab .entry))) (p .0)) ⌝ }
+{
+    if count(tab) <= i {
+        return false;
+    }
+    let t = code_at(cat, tab, size, CellNumber(i));
+    let u = code_at(cat, tab, size, p);
+    is_beneath(cat, t, u)
+}
+
+// GNP with an empty list: the next cell, if it is beneath p.
+fn get_next_cell_within(
+    cat: &[u8],
+    tab: &[u8],
+    size: usize,
+    pos: Position,
+    list: &[u8],
+    area: &mut [u8],
+    hold: bool,
+    p: CellNumber,
+) -> Answer
+    requires { ⌜ Ready (now cat) (now tab) size pos (now list) × (size ≤ suc (length (now area))) × (length (now list) ≡ 0) × (pos .parentage ≡ Of p) ⌝ }
+    ensures { λ r. ⌜ left r (now (area .exit)) ≡ getNextWithin (now (cat .entry)) (listing (now (cat .entry)) (now (tab .entry))) pos (now (area .entry)) hold (getLevels (now (cat .entry)) (now (list .entry)) (listRead (now (cat .entry)) (now (list .entry)) .arguments)) ⌝ }
+{
+    let place = pos.place;
+    let i = after_place(place);
+    if !is_within(cat, tab, size, p, i) {
+        return missed(Status::GE, pos);
+    }
+    let c = CellNumber(i);
+    let s = level_status(cat, tab, size, pos, list, c);
+    got(cat, tab, size, c, s, Parentage::Of(p), hold, pos, area)
+}
+
 // "GNP: as GN, and beneath p. The parentage stays."
 pub fn get_next_within(
     cat: &[u8],
@@ -213,6 +254,9 @@ pub fn get_next_within(
     let Parentage::Of(p) = parentage else {
         return missed(Status::GP, pos);
     };
+    if list.len() == 0 {
+        return get_next_cell_within(cat, tab, size, pos, list, area, hold, p);
+    }
     let t = last_of(cat, list).code;
     let from = after_place(place);
     let to = run_end(cat, tab, size, p).0;

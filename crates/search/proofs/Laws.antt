@@ -40,7 +40,7 @@ use Rattle.cells.proofs.Laws.{end-within}
 use Rattle.cells.proofs.Ancestry.{own-type}
 use Rattle.search.specs.declared.Reached.{Reached}
 use Rattle.search.specs.Stretch.{levels, agreesAlone, stretch, stretchBefore, Carried}
-use Rattle.search.specs.Good.{Good, Testable, reached, Above}
+use Rattle.search.specs.Good.{Good, Testable, NextRoot, reached, Above}
 use Rattle.search.proofs.Rows.{Regular, back-parts}
 use Rattle.search.proofs.Carry.{headAgrees, headImplied, kept-none, stretch-within, stretch-le, carried-before, carried-parent, carried-root, next-short, next-on, next-off, full-agrees, match-yes, match-not, kept-short, kept-full}
 use Rattle.search.proofs.Levels.{regular, agrees-own, implied-own}
@@ -269,6 +269,29 @@ module _ {cat tab list : Bytes} {size : ℕ} {t : TypeCode} (g : Good cat tab li
     turn-next n =
         first-next cat cs ls i to h (match-not cat cs ls (count tab) steps i (omega arith) (some-level s) (λ a b. n (omega (arith, last-level)) (omega (arith, last-level))))
 
+  -- where nothing is carried, a cell of another type than the root's is passed over
+  pub root-next : (i k to : ℕ) (u : TypeCode) → i < to → to ≤ count tab → 0 < t .0 → k ≡ 0 → k ≡ stretchBefore cat cs ls i → u ≡ segment cs i .code → (u .0 ≡ 1 → ⊥)
+      → (k ≡ stretchBefore cat cs ls (i + 1)) × (firstMatch cat cs ls (i + 1) to ≡ firstMatch cat cs ls i to)
+  root-next i k to u h w s z b e n =
+      let f : 0 ≡ stretch cat cs ls i = stretch-none i k u (omega arith) (carried-cell i k (omega arith) b) z e n in
+      (before-next i k (z ∙ f), turn-next i (lev i) 0 (level cat t) to h w s refl f refl (λ a y. omega (arith, some-level s, last-level)))
+
+  roots-past : (n i k to : ℕ) → i + n ≤ to → to ≤ count tab → 0 < t .0 → k ≡ 0 → k ≡ stretchBefore cat cs ls i → ((j : ℕ) → i ≤ j → j < i + n → segment cs j .code .0 ≡ 1 → ⊥)
+      → (k ≡ stretchBefore cat cs ls (i + n)) × (firstMatch cat cs ls (i + n) to ≡ firstMatch cat cs ls i to)
+  roots-past zero i k to h w s z b n = let e : i + 0 ≡ i = omega arith in rw e (b, refl)
+  roots-past (suc m) i k to h w s z b n =
+      let e : i + suc m ≡ i + 1 + m = omega arith in
+      let f = root-next i k to (segment cs i .code) (omega arith) w s z b refl (n i (omega arith) (omega arith)) in
+      let g = roots-past m (i + 1) k to (omega arith) w s z (f .0) (λ j a c. n j (omega arith) (omega arith)) in
+      rw e (g .0, g .1 ∙ f .1)
+
+  pub root-past : (i k to r : ℕ) → to ≤ count tab → 0 < t .0 → k ≡ 0 → k ≡ stretchBefore cat cs ls i → NextRoot cs i to r
+      → (i ≤ r) × (r ≤ to) × (k ≡ stretchBefore cat cs ls r) × (firstMatch cat cs ls r to ≡ firstMatch cat cs ls i to)
+  root-past i k to r w s z b n =
+      let e : i + (r - i) ≡ r = omega (arith, n .least) in
+      let g = rw e at (roots-past (r - i) i k to (omega (arith, n .most)) w s z b (λ j a c. n .others j a (omega arith))) in
+      (n .least, n .most, g .0, g .1)
+
   -- LAW: the stretch of a cell, from the stretch of the cell before it
   pub stretch-next : (i : ℕ) → suc i < count tab
       → stretch cat cs ls (suc i) ≡ pick (leb (lev (suc i) - 1) (stretch cat cs ls i)) (pick (agreesAlone cat list t (segment cs (suc i))) (lev (suc i)) (lev (suc i) - 1)) (stretch cat cs ls i)
@@ -373,6 +396,16 @@ module _ {cat tab list : Bytes} {size : ℕ} {t : TypeCode} (g : Good cat tab li
       unfolding along
       along-beneath end n z =
           rw (add-one, z) (sym (ap (λ (b : Bool). pick b (At c) (firstMatch cat cs ls (suc (c .0)) (endAt cat cs (c .0)))) (ne-eqb (lev (c .0)) (length ls) (λ y. n (omega (arith, last-level)))))) ∙ ap (soughtBeneath cat cs ls) e
+
+-- no cell from `from` on and before i is a root, one cell after the other
+abbrev pub NoRoot : List Segment → ℕ → ℕ → Type 0
+NoRoot cs from i = (j : ℕ) → from ≤ j → j < i → segment cs j .code .0 ≡ 1 → ⊥
+
+pub no-root-next : (cs : List Segment) (from i : ℕ) (u : TypeCode) → u ≡ segment cs i .code → (u .0 ≡ 1 → ⊥) → NoRoot cs from i → NoRoot cs from (i + 1)
+no-root-next cs from i u e n h j a b z = elim (side j i) [
+  | inside l ↦ h j a l z
+  | outside l ↦ (let q : i ≡ j = omega arith in n (ap (λ (x : TypeCode). x .0) e ∙ ap (λ (x : ℕ). segment cs x .code .0) q ∙ z))
+]
 
 -- what `known` asks: of the last argument's type, and of its parent
 module _ (cat list : Bytes) (s : SoundList cat list) where

@@ -34,6 +34,12 @@ pub record Testable (cat tab list : Bytes) (size i : ℕ) (q : Qualification) : 
   pub cell : i < count tab
   pub tests : GoodQualification cat list (segment (listing cat tab) i .code) q
 
+-- none of the cells from `from` on and before r is a root
+pub record NextRoot (cs : List Segment) (from to r : ℕ) : Type 0 where
+  pub least : from ≤ r
+  pub most : r ≤ to
+  pub others : (j : ℕ) → from ≤ j → j < r → segment cs j .code .0 ≡ 1 → ⊥
+
 module _ (cat : Bytes) (cs : List Segment) (ls : List Level) where
   -- of the path to cell i: how far it agrees, and what of that is kept
   unfoldable pub reached : ℕ → Reached

@@ -1,6 +1,7 @@
 // The pass forward: "first match after the place", "beneath p".
 use crate::stretch::path_to;
-use crate::stretch::stretched_at;
+use crate::stretch::stretched;
+use cells::lookup::code_at;
 use cells::lookup::level_at;
 use lineage::level;
 use terms::CellNumber;
@@ -10,8 +11,44 @@ ghost use mathlib.Core.Path.{_≡_};
 ghost use Prim.Native.Nat.{_≤_, _<_};
 ghost use Rattle.rules.specs.Matching.{firstMatch};
 ghost use Rattle.rules.specs.Table.{count, listing};
-ghost use Rattle.search.specs.Good.{Good};
+ghost use Rattle.cells.specs.Lent.{Sized};
+ghost use Rattle.search.specs.Good.{Good, NextRoot};
 ghost use Rattle.search.specs.Stretch.{levels, stretchBefore};
+
+// The first cell of the root's type from `from` on and before `to`; or `to`.
+fn next_root(cat: &[u8], tab: &[u8], size: usize, from: usize, to: usize) -> usize
+    requires { ⌜ Sized (now cat) (now tab) size × (from ≤ to) × (to ≤ count (now tab)) ⌝ }
+    ensures { λ r. ⌜ NextRoot (listing (now (cat .entry)) (now (tab .entry))) from to r ⌝ }
+{
+    let mut i = from;
+    while i < to {
+        if code_at(cat, tab, size, CellNumber(i)).0 == 1 {
+            return i;
+        }
+        i += 1;
+    }
+    i
+}
+
+// The next cell to look at. Where nothing is carried that is a root: all cells before the next root lie beneath one that does not agree.
+fn upcoming(
+    cat: &[u8],
+    tab: &[u8],
+    size: usize,
+    list: &[u8],
+    t: TypeCode,
+    k: u8,
+    from: usize,
+    to: usize,
+) -> usize
+    requires { ⌜ Good (now cat) (now tab) (now list) size t × (0 < t .0) × (to ≤ count (now tab)) × (k ≡ stretchBefore (now cat) (listing (now cat) (now tab)) (levels (now cat) (now list) t) from) × (from ≤ to) ⌝ }
+    ensures { λ r. ⌜ (from ≤ r) × (r ≤ to) × (k ≡ stretchBefore (now (cat .entry)) (listing (now (cat .entry)) (now (tab .entry))) (levels (now (cat .entry)) (now (list .entry)) t) r) × (firstMatch (now (cat .entry)) (listing (now (cat .entry)) (now (tab .entry))) (levels (now (cat .entry)) (now (list .entry)) t) r to ≡ firstMatch (now (cat .entry)) (listing (now (cat .entry)) (now (tab .entry))) (levels (now (cat .entry)) (now (list .entry)) t) from to) ⌝ }
+{
+    if k != 0 {
+        return from;
+    }
+    next_root(cat, tab, size, from, to)
+}
 
 // The first match from cell `from` on and before cell `to`; k is the stretch of the cell before.
 pub fn forward(
@@ -31,10 +68,15 @@ pub fn forward(
     let mut long = k;
     let mut i = from;
     while i < to {
+        i = upcoming(cat, tab, size, list, t, long, i, to);
+        if to <= i {
+            return Found::Nothing;
+        }
         let c = CellNumber(i);
-        long = stretched_at(cat, tab, size, list, t, long, c);
-        if long == last {
-            if level_at(cat, tab, size, c) == last {
+        let l = level_at(cat, tab, size, c);
+        long = stretched(cat, tab, size, list, t, long, l, c);
+        if l == last {
+            if long == last {
                 return Found::At(c);
             }
         }

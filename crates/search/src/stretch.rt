@@ -2,7 +2,6 @@
 use crate::Reached;
 use crate::agree::agrees;
 use crate::agree::is_implied;
-use cells::lookup::code_at;
 use cells::lookup::level_at;
 use runs::parent_of;
 use terms::CellNumber;
@@ -37,28 +36,6 @@ pub(crate) fn stretched(
         return above;
     }
     l
-}
-
-// The same where the cell's level is not known yet. Where nothing is carried only a root can agree: the code of another cell is all that is looked at.
-pub(crate) fn stretched_at(
-    cat: &[u8],
-    tab: &[u8],
-    size: usize,
-    list: &[u8],
-    t: TypeCode,
-    k: u8,
-    c: CellNumber,
-) -> u8
-    requires { ⌜ Good (now cat) (now tab) (now list) size t × (c .0 < count (now tab)) × Carried (now cat) (listing (now cat) (now tab)) (levels (now cat) (now list) t) (c .0) k ⌝ }
-    ensures { λ r. ⌜ r ≡ stretch (now (cat .entry)) (listing (now (cat .entry)) (now (tab .entry))) (levels (now (cat .entry)) (now (list .entry)) t) (c .0) ⌝ }
-{
-    if k == 0 {
-        if code_at(cat, tab, size, c).0 != 1 {
-            return 0;
-        }
-    }
-    let l = level_at(cat, tab, size, c);
-    stretched(cat, tab, size, list, t, k, l, c)
 }
 
 // One cell more on a path: "Keep the part of it down to and including its last implied level".
