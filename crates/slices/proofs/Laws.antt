@@ -1,6 +1,6 @@
 -- Bytes one after the other: what a loop has still to look at. Assumes nothing.
 use mathlib.Core.Path.{_≡_, refl, ap, sym, _∙_}
-use mathlib.Core.Bool.{true, false}
+use mathlib.Core.Bool.{Bool, true, false, _&&_}
 use mathlib.Core.List.{List, [], _∷_}
 use Prim.Native.Nat.{ℕ, zero, suc, _+_, _<_, _≤_}
 use native.Mathlib.Numerals.{add-one}
@@ -10,6 +10,7 @@ use lib.ListN.{length, drop, drop-of-length-le, length-drop}
 use lib.Seq.{drop-cons}
 use borrow.Author.Tests.{eq-eqb, ne-eqb}
 use Rattle.terms.specs.declared.Order.the-variants.{Smaller, Equal, Greater}
+use Rattle.forest.specs.Forest.{inside, outside, side}
 use Rattle.forest.specs.Good.{on, off, is}
 use Rattle.rules.specs.Block.{Bytes, byte, every, zeros, sameBytes}
 use Rattle.rules.specs.Order.{order}
@@ -23,6 +24,14 @@ left-at b i h = rw add-one (drop-cons b i 0 h)
 none-left : (b : Bytes) (i : ℕ) → length b ≤ i → drop i b ≡ []
 none-left b i h = drop-of-length-le b {i = i} h
 
+and-false : (a : Bool) → (a && false) ≡ false
+and-false true = refl
+and-false false = refl
+
+and-true : (a : Bool) → (a && true) ≡ a
+and-true true = refl
+and-true false = refl
+
 module _ (b : Bytes) (i : ℕ) where
   pub zeros-next : i < length b → byte b i ≡ 0 → zeros (drop (i + 1) b) ≡ zeros (drop i b)
   unfolding zeros
@@ -35,6 +44,20 @@ module _ (b : Bytes) (i : ℕ) where
   pub zeros-end : length b ≤ i → true ≡ zeros (drop i b)
   unfolding zeros every
   zeros-end h = rw (none-left b i h)
+
+  -- the greatest byte so far, and what is left: all are zeros as long as neither says otherwise
+  module _ (most : ℕ) (h : i < length b) where
+    pub most-more : most < byte b i → (eqb (byte b i) 0 && zeros (drop (i + 1) b)) ≡ (eqb most 0 && zeros (drop i b))
+    most-more l = rw (ne-eqb (byte b i) 0 (λ e. omega arith), ← zeros-stop h (λ e. omega arith)) (sym (and-false (eqb most 0)))
+
+    pub most-same : byte b i ≤ most → (eqb most 0 && zeros (drop (i + 1) b)) ≡ (eqb most 0 && zeros (drop i b))
+    most-same l = elim (side 0 most) [
+      | inside z ↦ rw (ne-eqb most 0 (λ e. omega arith))
+      | outside z ↦ rw (zeros-next h (omega arith))
+    ]
+
+  pub most-end : (most : ℕ) → length b ≤ i → eqb most 0 ≡ (eqb most 0 && zeros (drop i b))
+  most-end most h = rw (← zeros-end h) (sym (and-true (eqb most 0)))
 
 module _ (a b : Bytes) (i : ℕ) where
   pub order-next : i < length a → i < length b → byte a i ≡ byte b i → order (drop (i + 1) a) (drop (i + 1) b) ≡ order (drop i a) (drop i b)

@@ -4,17 +4,20 @@ ghost use mathlib.Core.Path.{_≡_};
 ghost use Rattle.rules.specs.Block.{zeros, sameBytes};
 ghost use Rattle.rules.specs.Order.{order};
 
+// Whether every byte is zero: whether the greatest is. No byte ends the loop, so that many are looked at in a step.
 pub fn all_zero(b: &[u8]) -> bool
     ensures { λ r. ⌜ r ≡ zeros (now (b .entry)) ⌝ }
 {
+    let mut most: u8 = 0;
     let mut i = 0;
     while i < b.len() {
-        if b[i] != 0 {
-            return false;
-        }
+        let x = b[i];
         i += 1;
+        if most < x {
+            most = x;
+        }
     }
-    true
+    most == 0
 }
 
 // How the value a stands to the value b.
