@@ -1,11 +1,11 @@
 // What a call answers where it changes nothing, and what it tells of a segment.
-use entries::data_length;
-use lineage::level;
-use statuses::number;
+use catalogue::entries::data_length;
+use catalogue::lineage::level;
 use terms::Answer;
 use terms::Position;
 use terms::Status;
 use terms::TypeCode;
+use terms::statuses::number;
 ghost use mathlib.Core.Path.{_≡_};
 ghost use Rattle.rules.specs.Calls.{bare, afterMiss};
 ghost use Rattle.answers.specs.Told.{stoppedAnswer, told};

@@ -10,7 +10,7 @@ use Rattle.terms.specs.declared.Qualification.the-variants.{None, Test}
 use Rattle.terms.specs.declared.Status.the-variants.{AC, AJ, AK}
 use Rattle.terms.specs.declared.ArgumentRead.the-variants.{Got, Fault}
 use Rattle.terms.specs.Names.{code, field}
-use Rattle.blocks.proofs.Laws.{byte-past}
+use Rattle.blocks.proofs.PastTheEnd.{byte-past}
 use Rattle.rules.specs.Block.{Bytes, byte}
 use Rattle.rules.specs.Catalogue.{fieldLength, isType}
 use Rattle.rules.specs.Arguments.{operatorOf, goodNext, isFieldOf, argumentAt}

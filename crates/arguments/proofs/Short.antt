@@ -15,7 +15,7 @@ use Rattle.forest.specs.Good.{on, off, is}
 use Rattle.rules.specs.Block.{Bytes, byte}
 use Rattle.rules.specs.Catalogue.{level, isType, goodCatalogue}
 use Rattle.rules.specs.Arguments.{ListRead, goodNext}
-use Rattle.lineage.proofs.Hierarchy.{type-range, type-facts, field-facts, level-least, beneath-later}
+use Rattle.catalogue.proofs.Hierarchy.{type-range, type-facts, field-facts, level-least, beneath-later}
 use Rattle.arguments.specs.Sound.{SoundList, rest, qualificationAt, nextAt}
 use Rattle.arguments.proofs.Rest.{Sound, rest-whole, step, step-fault}
 use Rattle.arguments.proofs.Above.{next-type, next-beneath}

@@ -2,7 +2,7 @@
 use crate::Wanted;
 use crate::read::operator_of;
 use blocks::wide;
-use fields::field_length;
+use catalogue::fields::field_length;
 use terms::Argument;
 use terms::FieldNumber;
 use terms::Qualification;

@@ -1,9 +1,10 @@
 // "The list is read from the left, one argument at a time, and the first fault answers."
 use blocks::wide;
-use entry_bytes::fields;
-use fields::field_length;
-use fields::field_type;
-use lineage::is_beneath;
+use catalogue::entry_bytes::fields;
+use catalogue::fields::field_length;
+use catalogue::fields::field_type;
+use catalogue::lineage::is_beneath;
+use catalogue::type_range::is_type;
 use terms::Argument;
 use terms::ArgumentRead;
 use terms::FieldNumber;
@@ -11,7 +12,6 @@ use terms::Operator;
 use terms::Qualification;
 use terms::Status;
 use terms::TypeCode;
-use type_range::is_type;
 ghost use mathlib.Core.Path.{_≡_};
 ghost use mathlib.Core.List.{[]};
 ghost use Rattle.rules.specs.Arguments.{operatorOf, goodNext, isFieldOf, argumentAt, listRead};

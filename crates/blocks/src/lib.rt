@@ -1,4 +1,6 @@
 // Blocks of bytes: "Bytes are counted from 0." Each of these takes any slice and any number.
+pub mod slices;
+
 ghost use mathlib.Core.Path.{_≡_};
 ghost use Prim.Native.Nat.{_<_};
 ghost use Rattle.rules.specs.Block.{byte, word, marked};

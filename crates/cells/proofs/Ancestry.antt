@@ -25,12 +25,12 @@ use Rattle.rules.specs.Tree.{dataPart, segments}
 use Rattle.rules.proofs.Catalogue.{par, good-lower}
 use Rattle.rules.proofs.Cells.{listing-length}
 use Rattle.rules.proofs.Tree.{segments-cells}
-use Rattle.lineage.proofs.Chains.{clash, in-bounds}
-use Rattle.lineage.proofs.Hierarchy as Hierarchy
-use Rattle.lineage.proofs.Hierarchy.{type-range, level-child, beneath-parent, beneath-trans, beneath-later, none-later}
+use Rattle.catalogue.proofs.Chains.{clash, in-bounds}
+use Rattle.catalogue.proofs.Hierarchy as Hierarchy
+use Rattle.catalogue.proofs.Hierarchy.{type-range, level-child, beneath-parent, beneath-trans, beneath-later, none-later}
 use Rattle.cells.specs.Lent.{nearest, behind, endFrom, LastBeneath, climbed, parentAt}
 use Rattle.cells.specs.Sound.{Sound}
-use Rattle.cells.proofs.Laws.{code-of, under-few, behind-in, behind-low, behind-high, climb-none, climb-here, climb-more, climb-parent, parent-before}
+use Rattle.cells.proofs.Located.{code-of, under-few, behind-in, behind-low, behind-high, climb-none, climb-here, climb-more, climb-parent, parent-before}
 
 module _ (cat : Bytes) (cs : List Segment) where
   -- the type of the nearest of these cells; 0, if there is none

@@ -1,10 +1,10 @@
 // What a cell says of itself: its type and its level.
 use blocks::wide;
 use blocks::word_at;
-use lineage::level;
+use catalogue::lineage::level;
+use catalogue::type_range::largest;
 use terms::CellNumber;
 use terms::TypeCode;
-use type_range::largest;
 ghost use mathlib.Core.Path.{_≡_};
 ghost use Prim.Native.Nat.{_<_};
 ghost use Rattle.rules.specs.Cells.{segment, levelAt};

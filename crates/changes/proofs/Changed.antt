@@ -21,8 +21,8 @@ use Rattle.rules.specs.Position.{goodPlace, goodParentage, goodHold, goodPositi
 use Rattle.rules.specs.Calls.{After, bare, refused, answerOf, changed, replaced, replacement, replace, deleted, delete}
 use Rattle.rules.specs.Outcome.{landed}
 use Rattle.rules.proofs.Cells.{listing-length}
-use Rattle.lineage.proofs.Chains.{clash}
-use Rattle.cells.proofs.Laws.{end-after, end-within}
+use Rattle.catalogue.proofs.Chains.{clash}
+use Rattle.cells.proofs.Located.{end-after, end-within}
 use Rattle.update.specs.Edits.{withData, withoutCells, Replaceable, Removable}
 use Rattle.answers.specs.Ready.{Held, made}
 use Rattle.answers.specs.Told.{told}

@@ -13,10 +13,10 @@ use Rattle.rules.specs.Cells.{segment, segmentOf, key}
 use Rattle.rules.specs.Table.{count, cellSize, listing}
 use Rattle.cells.specs.Sound.{Sound}
 use Rattle.cells.proofs.Entries.{key-in, length-in}
-use Rattle.cells.proofs.Laws.{type-of, start-small, key-of}
-use Rattle.image.proofs.Bytes.{table-known}
+use Rattle.cells.proofs.Located.{type-of, start-small, key-of}
+use Rattle.encoding.proofs.Bytes.{table-known}
 use Rattle.twins.specs.Among.{New}
-use Rattle.twins.proofs.Laws.{key-area, key-cell}
+use Rattle.twins.proofs.Passing.{key-area, key-cell}
 
 -- a part of the front of a list is a part of the list
 part-front : (n k L : ℕ) (xs : Bytes) → k + n ≤ L → part (take L xs) k n ≡ part xs k n

@@ -27,7 +27,7 @@ use Rattle.rules.specs.Matching.{satisfies, matches, seek, firstMatch, kept, so
 use Rattle.rules.specs.Position.{goodPlace}
 use Rattle.rules.proofs.Cells.{listing-length}
 use Rattle.rules.proofs.Search.{seek-none, seek-here, seek-next}
-use Rattle.lineage.proofs.Hierarchy.{type-range, parent-least, lineage-up, beneath-later}
+use Rattle.catalogue.proofs.Hierarchy.{type-range, parent-least, lineage-up, beneath-later}
 use Rattle.arguments.specs.Sound.{SoundList}
 use Rattle.arguments.proofs.Sound.{last-asks}
 use Rattle.arguments.proofs.Complete.{complete-length}
@@ -35,9 +35,9 @@ use Rattle.search.specs.Good.{Good}
 use Rattle.search.specs.Stretch.{levels, stretch, stretchBefore}
 use Rattle.search.proofs.Carry.{full-agrees}
 use Rattle.search.proofs.Levels.{agrees-own}
-use Rattle.search.proofs.Laws.{steps, level-some, carried-cell, match-stretch, kept-place, end-in, known-parent}
+use Rattle.search.proofs.Branches.{steps, level-some, carried-cell, match-stretch, kept-place, end-in, known-parent}
 use Rattle.twins.specs.Among.{New, Beneath, child}
-use Rattle.twins.proofs.Laws.{type-same}
+use Rattle.twins.proofs.Passing.{type-same}
 use Rattle.answers.specs.Ready.{Ready}
 use Rattle.changes.proofs.Keys.{area-long}
 use Rattle.changes.proofs.Changed.{place-good}

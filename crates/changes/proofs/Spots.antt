@@ -26,7 +26,7 @@ use Rattle.rules.specs.Matching.{along}
 use Rattle.rules.specs.Calls.{After, bare, refused, afterMiss, isOneOf, answerOf, changed, keyTaken, inserted, insertAmong, insertUnder, insert}
 use Rattle.rules.specs.Outcome.{Outcome, landed}
 use Rattle.rules.proofs.Cells.{listing-length, row-run}
-use Rattle.cells.proofs.Laws.{good-housed}
+use Rattle.cells.proofs.Located.{good-housed}
 use Rattle.twins.specs.declared.Spot.{Spot}
 use Rattle.twins.specs.Among.{New, Beneath, passed, spotAmong}
 use Rattle.twins.proofs.Rows.{spot-within}

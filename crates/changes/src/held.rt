@@ -1,12 +1,12 @@
 // REPL and DLET: what is held is replaced, or removed with all beneath it.
 use answers::bare;
 use answers::told;
+use blocks::slices::are_same;
 use blocks::wide;
+use catalogue::entries::key_length;
+use catalogue::entries::key_start;
 use cells::lookup::code_at;
-use entries::key_length;
-use entries::key_start;
-use runs::run_end;
-use slices::are_same;
+use cells::runs::run_end;
 use terms::Answer;
 use terms::CellNumber;
 use terms::Position;

@@ -3,7 +3,7 @@ use Rattle.rules.specs.Block.{Bytes}
 use Rattle.rules.specs.Outcome.{outcomeOf, outcome}
 use Rattle.terms.specs.declared.Position.{Position}
 use Prim.Native.Nat.{ℕ}
-use Rattle.image.proofs.Determined.{table-forest, forest-table}
+use Rattle.encoding.proofs.Determined.{table-forest, forest-table}
 use Rattle.model.proofs.Model.{model-is-cells}
 use Rattle.model.proofs.Kept.{tables-stay-good}
 use Rattle.model.proofs.Session.{checked-once}

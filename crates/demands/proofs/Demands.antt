@@ -1,5 +1,5 @@
 -- The three demands hold of the promise. Assumes nothing.
-use Rattle.loops.proofs.Demand.{demand3}
+use Rattle.report_loops.proofs.Demand.{demand3}
 use Rattle.demands.specs.Demand1.{Demand1}
 use Rattle.demands.specs.Demand2.{Demand2}
 use Rattle.demands.specs.Demand3.{Demand3}

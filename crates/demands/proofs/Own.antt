@@ -33,8 +33,8 @@ use Rattle.rules.proofs.Cells.{listing-length}
 use Rattle.rules.proofs.Search.{seek-none, seek-here}
 use Rattle.arguments.specs.Sound.{SoundList}
 use Rattle.arguments.proofs.Sound.{sound-down, list-empty, list-filled}
-use Rattle.loops.proofs.Asked.{last-type}
-use Rattle.loops.proofs.Matches.{levels-some, get-levels}
+use Rattle.report_loops.proofs.Asked.{last-type}
+use Rattle.report_loops.proofs.Matches.{levels-some, get-levels}
 use Rattle.demands.specs.StatusTable.{firstGiven, isNothing, foundCell, isOn, ownRows, takenBeneath}
 
 -- what holds of each of the nine calls holds of the call of a good number

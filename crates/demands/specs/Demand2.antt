@@ -19,7 +19,7 @@ use Rattle.rules.specs.Cells.{Segment, segment, runAt}
 use Rattle.rules.specs.Table.{listing}
 use Rattle.rules.specs.Calls.{over}
 use Rattle.rules.specs.Outcome.{Outcome, isBlank, outcome}
-use Rattle.image.specs.Determined.{TableToForest, ForestToTable}
+use Rattle.encoding.specs.Determined.{TableToForest, ForestToTable}
 use Rattle.model.specs.Model.{ModelIsCells}
 use Rattle.model.specs.Kept.{TablesStayGood}
 use Rattle.model.specs.Session.{CheckedOnce}

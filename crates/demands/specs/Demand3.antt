@@ -6,8 +6,8 @@
 -- one list, on input that no check refuses, answers GB or GE at the latest on call n + 1."
 --
 -- The loops are loops of outcomes: each call takes up what the call before it left. Assumes nothing: this is the statement; the proof is in proofs/.
-use Rattle.loops.specs.Loops.{promised}
-use Rattle.loops.specs.Demand3.{Demand3 as AskedOfLoops}
+use Rattle.report_loops.specs.Loops.{promised}
+use Rattle.report_loops.specs.Demand3.{Demand3 as AskedOfLoops}
 
 abbrev pub Demand3 : Type 0
 Demand3 = AskedOfLoops promised

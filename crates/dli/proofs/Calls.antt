@@ -21,7 +21,7 @@ use Rattle.rules.specs.Calls.{After, called, getUnique, getNext, getNextWithin,
 use Rattle.rules.specs.Outcome.{Outcome, isBlank, isIsrt, isDlet, isGnp, isHeld, landed, unsound, misused, stopped, unless, afterSound, afterCall, outcomeOf, outcome, soundOutcome}
 use Rattle.model.proofs.Asked.{Usable, usable-of, sound-of}
 use Rattle.cells.specs.Sound.{Sound}
-use Rattle.cells.proofs.Laws.{good-housed, good-sized}
+use Rattle.cells.proofs.Located.{good-housed, good-sized}
 use Rattle.arguments.proofs.Sound.{list-empty}
 use Rattle.answers.specs.Told.{stoppedAnswer}
 use Rattle.answers.specs.Ready.{SoundFor, Ready, Held, made}

@@ -22,7 +22,7 @@ pub fn call_sound(
 {
     let size = wide(tab[5]);
     let s = refusals::misused_sound(cat, size, pos, number, list, area);
-    if statuses::number(s) != 0 {
+    if terms::statuses::number(s) != 0 {
         return answers::stopped(s, pos);
     }
     match number {
@@ -51,7 +51,7 @@ pub fn call(
         ≡ outcome (now (cat .entry)) (now (tab .entry)) pos number (now (list .entry)) (now (area .entry)) ⌝ }
 {
     let s = refusals::unsound(cat, tab, pos);
-    if statuses::number(s) != 0 {
+    if terms::statuses::number(s) != 0 {
         return answers::stopped(s, pos);
     }
     call_sound(cat, tab, pos, number, list, area)

@@ -30,7 +30,7 @@ use Rattle.rules.proofs.Cells.{listing-length, row-run}
 use Rattle.rules.proofs.Search.{seek-none, seek-here, seek-next}
 use Rattle.search.specs.Good.{Good}
 use Rattle.search.specs.Stretch.{levels}
-use Rattle.search.proofs.Laws.{kept-place, end-in}
+use Rattle.search.proofs.Branches.{kept-place, end-in}
 
 nothing-at : (c : CellNumber) → Nothing ≡ At c → ⊥
 nothing-at c e = let z : _≡_ {A = ℕ} 0 1 = cc in omega arith

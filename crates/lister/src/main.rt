@@ -4,8 +4,8 @@ use libc::STDOUT_FILENO;
 use listing::last_line;
 use listing::next_line;
 use listing::refusal;
-use statuses::number;
 use terms::Position;
+use terms::statuses::number;
 ghost use Prim.Native.Nat.{_≤_};
 ghost use lib.ListN.{length};
 

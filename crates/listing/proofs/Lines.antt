@@ -32,23 +32,23 @@ use Rattle.rules.specs.Calls.{After, bare, refused, over, missStatus, levelStat
 use Rattle.rules.specs.Outcome.{Outcome, unsound, misused, stopped, unless, afterCall, outcomeOf, outcome, landed, checkCatalogue, checkTable}
 use Rattle.rules.specs.Listing.{cellLine, lastLine, linesFrom, listingText}
 use Rattle.rules.proofs.Cells.{listing-length}
-use Rattle.image.specs.Determined.{IsBytes}
-use Rattle.image.proofs.Lists.{bytes-zeros}
+use Rattle.encoding.specs.Determined.{IsBytes}
+use Rattle.encoding.proofs.Lists.{bytes-zeros}
 use Rattle.model.specs.Kept.{Kept}
 use Rattle.model.proofs.Kept.{tables-stay-good}
 use Rattle.model.proofs.Session.{sound-same}
-use Rattle.lineage.proofs.Hierarchy.{cell-most}
+use Rattle.catalogue.proofs.Hierarchy.{cell-most}
 use Rattle.arguments.proofs.Sound.{list-empty}
 use Rattle.cells.specs.Sound.{Sound}
-use Rattle.cells.proofs.Laws.{bytes-of, cell-in}
+use Rattle.cells.proofs.Located.{bytes-of, cell-in}
 use Rattle.answers.specs.Told.{told}
 use Rattle.answers.specs.Ready.{SoundFor, made, left}
 use Rattle.gets.proofs.Found.{after-in}
-use Rattle.gets.proofs.Laws.{data-fits}
+use Rattle.gets.proofs.Gotten.{data-fits}
 use Rattle.dli.proofs.Calls.{five-in, sound-blocks, did-next}
 use Rattle.reader.specs.declared.Read.{Read}
 use Rattle.reader.specs.declared.Read.the-variants.{Got, Done}
-use Rattle.reader.specs.Reading.{Reading}
+use Rattle.reader.specs.UnderWay.{Reading}
 use Rattle.reader.specs.Stepped.{placeAt, stepped, cellOf}
 use Rattle.reader.proofs.Calls.{next-cell, status-stepped}
 use Rattle.reader.proofs.Onward.{reading-all, step-in}

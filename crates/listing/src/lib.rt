@@ -11,13 +11,13 @@ use cells::lookup::code_at;
 use cells::lookup::count;
 use reader::Read;
 use reader::read_next;
-use statuses::number;
 use terms::Answer;
 use terms::CellNumber;
 use terms::Parentage;
 use terms::Place;
 use terms::Position;
 use terms::Status;
+use terms::statuses::number;
 ghost use mathlib.Core.Path.{_≡_};
 ghost use Prim.Native.Nat.{_+_, _*_, _<_, _≤_};
 ghost use lib.ListN.{length};
@@ -71,14 +71,14 @@ pub fn last_line(out: &mut [u8], s: Status) -> usize
 pub fn refusal(cat: &[u8], tab: &[u8]) -> Status
     ensures { λ r. ⌜ r ≡ refusal (now (cat .entry)) (now (tab .entry)) ⌝ }
 {
-    let s = catalogue::check::check(cat);
+    let s = catalogue_check::check::check(cat);
     if number(s) != 0 {
         return s;
     }
     if 65536 < tab.len() {
         return Status::TX;
     }
-    table::check::check(cat, tab)
+    table_check::check::check(cat, tab)
 }
 
 // The first cell after the place; "from gap i: cell i or later".

@@ -1,6 +1,6 @@
 // Text written into a buffer: each function writes from a place on, and answers the place behind what it wrote.
-use statuses::letters;
 use terms::Status;
+use terms::statuses::letters;
 ghost use mathlib.Core.Path.{_≡_};
 ghost use mathlib.Core.List.{[], _∷_};
 ghost use Prim.Native.Nat.{_+_, _*_, _<_, _≤_};

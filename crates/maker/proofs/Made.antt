@@ -18,9 +18,9 @@ use Rattle.rules.specs.Catalogue.{goodCatalogue}
 use Rattle.rules.specs.Cells.{goodListing}
 use Rattle.rules.specs.Table.{count, cellSize, cellStart, room, listing, goodRoom, goodTable, tableBytes}
 use Rattle.rules.specs.Outcome.{makeStatus, madeTable}
-use Rattle.room.specs.Frame.{goodFrame, emptied}
-use Rattle.room.proofs.Laws.{room-is}
-use Rattle.room.proofs.Frame.{table-frame}
+use Rattle.table_check.specs.Frame.{goodFrame, emptied}
+use Rattle.table_check.proofs.Space.{room-is}
+use Rattle.table_check.proofs.Frame.{table-frame}
 
 -- a tail that was lent, said of the whole: F is what the callee did to it
 pub lent-tail : (F : List ℕ → List ℕ) (a y : List ℕ) (at : ℕ) → y ≡ F (take (length a - at) (drop at a)) → putMid at (length a - at) a y ≡ take at a ++ F (drop at a)

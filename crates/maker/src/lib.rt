@@ -1,13 +1,13 @@
 // The maker of empty tables.
-use catalogue::check::is_good;
-use room::good_room;
+use catalogue::type_range::largest;
+use catalogue_check::check::is_good;
+use table_check::room::good_room;
 use terms::Status;
-use type_range::largest;
 ghost use mathlib.Core.Path.{_≡_};
 ghost use Prim.Native.Nat.{_≤_};
 ghost use lib.ListN.{length, replicate};
 ghost use Rattle.rules.specs.Outcome.{makeStatus, madeTable};
-ghost use Rattle.room.specs.Frame.{emptied};
+ghost use Rattle.table_check.specs.Frame.{emptied};
 
 fn clear(tail: &mut [u8])
     ensures { λ _. ⌜ now (tail .exit) ≡ replicate (length (now (tail .entry))) 0 ⌝ }

@@ -19,9 +19,9 @@ use Rattle.rules.specs.Catalogue.{keyKind, goodCatalogue}
 use Rattle.rules.specs.Cells.{Segment, segment, blank, typeNumber, key, isChild, siblings, goesBefore, segmentLevel, goodListing, runAt, endAt}
 use Rattle.rules.specs.Calls.{keyTaken}
 use Rattle.rules.specs.Tree.{hasKey}
-use Rattle.image.specs.Determined.{All, Fits}
-use Rattle.image.proofs.Determined.{formed-forest}
-use Rattle.image.proofs.Lists.{all-take, all-drop}
+use Rattle.encoding.specs.Determined.{All, Fits}
+use Rattle.encoding.proofs.Determined.{formed-forest}
+use Rattle.encoding.proofs.Lists.{all-take, all-drop}
 use Rattle.model.proofs.Parents.{listing-wf, listing-levelled}
 use Rattle.model.proofs.Insert.{placed-spot, taken-cells, cells-top, kids-levelled, kids-cells, run-size}
 use Rattle.model.proofs.Twins.{wf-sized, sized-wf, siblings-trans, sits-row, wf-swap}

@@ -42,11 +42,11 @@ use Rattle.rules.specs.Calls.{After, refused, missed, over, isOneOf, missStatus
 use Rattle.rules.specs.Outcome.{isBlank, isIsrt, isHeld, unsound, misused, stopped, unless, afterSound, afterCall, landed, outcomeOf, outcome}
 use Rattle.rules.proofs.Search.{seek-none, seek-here, seek-next}
 use Rattle.rules.proofs.Cells.{listing-length}
-use Rattle.image.specs.Determined.{IsBytes, All, Fits}
-use Rattle.image.proofs.Entries.{length-cell}
-use Rattle.image.proofs.Lists.{bytes-drop, bytes-append, all-take, all-drop, all-append, all-at}
-use Rattle.image.proofs.Bytes.{rowBytes, segment-fits, table-room, table-count, table-listing, table-fits, table-head, row-first}
-use Rattle.image.proofs.Made.{made-count, made-room, made-listing, made-good, made-bytes}
+use Rattle.encoding.specs.Determined.{IsBytes, All, Fits}
+use Rattle.encoding.proofs.Entries.{length-cell}
+use Rattle.encoding.proofs.Lists.{bytes-drop, bytes-append, all-take, all-drop, all-append, all-at}
+use Rattle.encoding.proofs.Bytes.{rowBytes, segment-fits, table-room, table-count, table-listing, table-fits, table-head, row-first}
+use Rattle.encoding.proofs.Made.{made-count, made-room, made-listing, made-good, made-bytes}
 use Rattle.model.specs.Kept.{Kept, TablesStayGood}
 use Rattle.model.proofs.Along.{missing, leading, along-heads}
 use Rattle.model.proofs.Parents.{never, level-child, level-root, root-parent, parent-type, listing-levelled, numbers-levelled, match-type}

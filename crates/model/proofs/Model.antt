@@ -32,7 +32,7 @@ use Rattle.rules.specs.Calls.{gotten, getUnique, getNextWithin, insertAmong, in
 use Rattle.rules.specs.Outcome.{isBlank, isGnp, isIsrt, isHeld, unsound, misused, stopped, unless, afterSound, afterCall, landed, outcomeOf, outcome}
 use Rattle.rules.specs.Tree.{Path, firstPath, dataPart, evalAlong, segments, intGu, intGnp, insertRec, insertAt, intIsrt, interpreted, treeOutcome}
 use Rattle.rules.proofs.Tree.{end-path, next-agree, within-agree, segments-cells, replace-agree, delete-agree}
-use Rattle.image.proofs.Bytes.{table-listing}
+use Rattle.encoding.proofs.Bytes.{table-listing}
 use Rattle.model.specs.Model.{ModelIsCells}
 use Rattle.model.proofs.Paths.{kids-map, size-map}
 use Rattle.model.proofs.Along.{Heads, missing, leading, run-kids, along-heads}

@@ -26,7 +26,7 @@ use Rattle.rules.specs.Tree.{Path, end, dataPart, segments}
 use Rattle.rules.proofs.Every.{every-at}
 use Rattle.rules.proofs.Catalogue.{par, good-lower}
 use Rattle.rules.proofs.Tree.{segments-cells, end-path}
-use Rattle.image.proofs.Entries.{is-type, good-types}
+use Rattle.encoding.proofs.Entries.{is-type, good-types}
 use Rattle.model.proofs.Paths.{levelled-map}
 use Rattle.model.proofs.Along.{agree-in}
 

@@ -25,7 +25,7 @@ use Rattle.rules.specs.Catalogue.{parentOf, lengthOf, keyKind, keyStart, keyLen
 use Rattle.rules.specs.Cells.{Segment, typeNumber, key, keyOrder, twinOrder, sameKey, isChild, siblings, goesBefore, segmentLevel}
 use Rattle.rules.specs.Tree.{hasKey}
 use Rattle.rules.proofs.Order.{turned, order-turned, order-equal, order-transitive}
-use Rattle.image.specs.Determined.{All, Fits}
+use Rattle.encoding.specs.Determined.{All, Fits}
 use Rattle.model.proofs.Parents.{never}
 
 pub all-front : {A : Type 0} (P : A → Type 0) (xs ys : List A) → All P (xs ++ ys) → All P xs

@@ -17,7 +17,7 @@ use Rattle.rules.specs.Catalogue.{goodCatalogue}
 use Rattle.rules.specs.Table.{count, cellSize, room, listing, goodTable}
 use Rattle.rules.specs.Position.{goodPosition}
 use Rattle.rules.specs.Outcome.{Outcome, isBlank, isIsrt, outcome}
-use Rattle.image.specs.Determined.{IsBytes}
+use Rattle.encoding.specs.Determined.{IsBytes}
 
 -- the cells that a call inserts: one, exactly when it is an ISRT that is done
 abbrev pub inserts : ℕ → Status → ℕ

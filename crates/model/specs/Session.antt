@@ -11,7 +11,7 @@ use Rattle.rules.specs.Catalogue.{goodCatalogue}
 use Rattle.rules.specs.Table.{listing, goodTable}
 use Rattle.rules.specs.Position.{goodPosition}
 use Rattle.rules.specs.Outcome.{Outcome, outcome, soundOutcome}
-use Rattle.image.specs.Determined.{IsBytes, All}
+use Rattle.encoding.specs.Determined.{IsBytes, All}
 
 -- what is asked: a call by its number, with a list and an area
 pub record Ask : Type 0 where

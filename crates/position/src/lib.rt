@@ -1,7 +1,7 @@
 // The check of a position against the cells of a table: "Anything else is a bad position."
 // What the calls make of a position are the methods of terms::Position.
 use cells::lookup::count;
-use runs::run_end;
+use cells::runs::run_end;
 use terms::CellNumber;
 use terms::Parentage;
 use terms::Place;

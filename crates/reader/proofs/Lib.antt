@@ -1,3 +1,3 @@
-pub mod Laws
+pub mod Stepping
 pub mod Calls
 pub mod Onward

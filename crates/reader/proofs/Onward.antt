@@ -23,11 +23,11 @@ use Rattle.cells.specs.Sound.{Sound}
 use Rattle.arguments.proofs.Complete.{complete-length}
 use Rattle.arguments.proofs.Sound.{list-empty}
 use Rattle.search.specs.Stretch.{levels, stretch, stretchBefore}
-use Rattle.search.proofs.Laws.{match-stretch, before-next}
+use Rattle.search.proofs.Branches.{match-stretch, before-next}
 use Rattle.reader.specs.declared.Read.the-variants.{Got}
-use Rattle.reader.specs.Reading.{Reading}
+use Rattle.reader.specs.UnderWay.{Reading}
 use Rattle.reader.specs.Stepped.{stepped, cellOf, asked}
-use Rattle.reader.proofs.Laws.{levels-asked}
+use Rattle.reader.proofs.Stepping.{levels-asked}
 use Rattle.reader.proofs.Calls.{cell-stepped}
 
 nothing-at : (c : CellNumber) → Nothing ≡ At c → ⊥

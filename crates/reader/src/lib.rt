@@ -13,7 +13,7 @@ ghost use Rattle.terms.specs.Names.{code as typeOf};
 ghost use Rattle.rules.specs.Matching.{firstMatch};
 ghost use Rattle.rules.specs.Table.{listing};
 ghost use Rattle.search.specs.Stretch.{levels};
-ghost use Rattle.reader.specs.Reading.{Reading};
+ghost use Rattle.reader.specs.UnderWay.{Reading};
 ghost use Rattle.reader.specs.Stepped.{standing, stepped};
 
 // What a get-next reads: a cell with its status, or that no cell is left.

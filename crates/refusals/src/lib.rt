@@ -21,10 +21,10 @@ ghost use Rattle.refusals.specs.Refusals.{tooShort, misusedGet, misusedI
 pub fn unsound(cat: &[u8], tab: &[u8], pos: Position) -> Status
     ensures { λ r. ⌜ r ≡ unsound (now (cat .entry)) (now (tab .entry)) pos ⌝ }
 {
-    if !catalogue::check::is_good(cat) {
+    if !catalogue_check::check::is_good(cat) {
         return Status::CX;
     }
-    if !table::check::is_good_on(cat, tab) {
+    if !table_check::check::is_good_on(cat, tab) {
         return Status::TX;
     }
     if !position::is_good_on(cat, tab, cell_size(cat), pos) {
@@ -146,7 +146,7 @@ pub fn misused_sound(
         return Status::AD;
     }
     let f = fault(cat, list);
-    if statuses::number(f) != 0 {
+    if terms::statuses::number(f) != 0 {
         return f;
     }
     if number < 7 {

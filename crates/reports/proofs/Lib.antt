@@ -1,3 +1,8 @@
+pub mod Steps
+pub mod Written
+pub mod Way
+pub mod Tested
+pub mod Outer
 pub mod Buffer
 pub mod Lists
 pub mod Whole

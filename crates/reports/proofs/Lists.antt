@@ -21,13 +21,13 @@ use Rattle.rules.specs.Table.{goodTable, cellSize}
 use Rattle.rules.specs.Arguments.{listRead, lastArgument}
 use Rattle.rules.specs.Outcome.{isBlank, checkTable}
 use Rattle.cells.specs.Sound.{Sound}
-use Rattle.cells.proofs.Laws.{good-sized, good-housed}
+use Rattle.cells.proofs.Located.{good-sized, good-housed}
 use Rattle.arguments.specs.Sound.{SoundList, rest}
 use Rattle.arguments.proofs.Sound.{list-filled}
 use Rattle.arguments.proofs.Short.{sound-short}
 use Rattle.answers.proofs.Statuses.{blank-is}
-use Rattle.loops.proofs.Cut.{behind, joined-fault, parts}
-use Rattle.loops.proofs.Asked.{last-code}
+use Rattle.report_loops.proofs.Cut.{behind, joined-fault, parts}
+use Rattle.report_loops.proofs.Asked.{last-code}
 use Rattle.reports.specs.Report.{listsFault, refusal}
 
 last-behind : (ar : List Argument) → isNil ar ≡ false → lastArgument ar .code ≡ behind (code 0) ar

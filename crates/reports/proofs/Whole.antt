@@ -19,18 +19,18 @@ use Rattle.rules.specs.Table.{count, listing, goodTable}
 use Rattle.rules.specs.Arguments.{listRead}
 use Rattle.rules.specs.Outcome.{checkTable}
 use Rattle.cells.specs.Sound.{Sound}
-use Rattle.cells.proofs.Laws.{good-sized, good-housed}
+use Rattle.cells.proofs.Located.{good-sized, good-housed}
 use Rattle.answers.proofs.Statuses.{blank-is}
 use Rattle.arguments.proofs.Short.{sound-short}
-use Rattle.loops.specs.Reading.{filter, meets, picked}
-use Rattle.loops.proofs.Cut.{parts}
+use Rattle.report_loops.specs.Plain.{filter, meets, picked}
+use Rattle.report_loops.proofs.Cut.{parts}
 use Rattle.reports.specs.declared.Report.{Report}
-use Rattle.hits.specs.Shown.{shownFrom}
+use Rattle.reports.specs.Shown.{shownFrom}
 use Rattle.reports.specs.Report.{Reported, reported, without, listsFault, refusal, showing, report}
-use Rattle.hits.specs.Given.{Given, GivenBoth}
+use Rattle.reports.specs.Given.{Given, GivenBoth}
 use Rattle.reports.proofs.Lists.{checked-good}
-use Rattle.hits.proofs.Steps.{sound-list}
-use Rattle.hits.proofs.Written.{show-whole, show-empty}
+use Rattle.reports.proofs.Steps.{sound-list}
+use Rattle.reports.proofs.Written.{show-whole, show-empty}
 
 -- no more cells are picked than there are
 range-long : (k i : ℕ) → length (range i k) ≡ k

@@ -1,1 +1,4 @@
+pub mod Shown
+pub mod Onward
+pub mod Given
 pub mod Report

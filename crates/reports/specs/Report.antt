@@ -12,8 +12,8 @@ use Rattle.rules.specs.Block.{Bytes}
 use Rattle.rules.specs.Arguments.{listRead}
 use Rattle.rules.specs.Calls.{over}
 use Rattle.rules.specs.Outcome.{isBlank, checkTable}
-use Rattle.loops.specs.Reading.{picked}
-use Rattle.hits.specs.Shown.{hitBytes}
+use Rattle.report_loops.specs.Plain.{picked}
+use Rattle.reports.specs.Shown.{hitBytes}
 use Rattle.reports.specs.declared.Report.{Report}
 
 -- all that a report leaves: its answer, and the bytes lent for the hits

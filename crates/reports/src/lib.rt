@@ -1,23 +1,27 @@
 // Three reports over one table: get-next with get-next-within-parent under each, get-next alone on the joined list, and a plain reading of every cell.
 // All three have one promise, so that no two of them can disagree.
 mod joining;
+mod nesting;
+mod plainly;
 mod refused;
+mod shown;
+mod single;
 
 use crate::joining::join;
+use crate::nesting::nested_sound;
+use crate::plainly::plain_sound;
 use crate::refused::refusal;
+use crate::single::joined_sound;
 use blocks::wide;
 use cells::lookup::count;
-use hits::nesting::nested_sound;
-use hits::plainly::plain_sound;
-use hits::single::joined_sound;
-use statuses::number;
 use terms::Status;
+use terms::statuses::number;
 ghost use mathlib.Core.Path.{_≡_};
 ghost use mathlib.Core.List.{_++_};
 ghost use lib.ListN.{length};
-ghost use Rattle.loops.specs.Reading.{picked};
-ghost use Rattle.hits.specs.Given.{GivenBoth};
-ghost use Rattle.hits.specs.Shown.{shownFrom};
+ghost use Rattle.report_loops.specs.Plain.{picked};
+ghost use Rattle.reports.specs.Given.{GivenBoth};
+ghost use Rattle.reports.specs.Shown.{shownFrom};
 ghost use Rattle.reports.specs.Report.{reported, showing, report};
 
 // How a report ended, and how many cells it shows.

@@ -2,9 +2,9 @@
 use arguments::lookup::last_of;
 use arguments::read::fault;
 use arguments::read::fault_behind;
-use statuses::number;
-use table::check::check;
+use table_check::check::check;
 use terms::Status;
+use terms::statuses::number;
 ghost use mathlib.Core.Path.{_≡_};
 ghost use mathlib.Core.Bool.{true};
 ghost use Rattle.rules.specs.Catalogue.{goodCatalogue};

@@ -21,7 +21,7 @@ use Rattle.rules.specs.Order.{order}
 use Rattle.rules.specs.Matching.{fieldBytes}
 use Rattle.rules.proofs.Every.{every-at}
 use Rattle.cells.proofs.Entries.{length-in}
-use Rattle.cells.proofs.Laws.{cell-in, start-small, bytes-of}
+use Rattle.cells.proofs.Located.{cell-in, start-small, bytes-of}
 use Rattle.search.specs.Good.{Testable}
 
 -- a part of the first L bytes, where it lies within them

@@ -2,4 +2,4 @@ pub mod Rows
 pub mod Carry
 pub mod Levels
 pub mod Fields
-pub mod Laws
+pub mod Branches

@@ -1,18 +1,18 @@
 // "agrees in type and satisfies": one segment against what the list asks of its type.
 use arguments::Wanted;
 use arguments::lookup::wanted;
+use blocks::slices::order_of;
 use blocks::wide;
+use catalogue::fields::field_length;
+use catalogue::fields::field_start;
+use catalogue::lineage::is_above;
 use cells::lookup::code_at;
-use fields::field_length;
-use fields::field_start;
-use lineage::is_above;
-use operators::holds;
-use slices::order_of;
 use terms::CellNumber;
 use terms::FieldNumber;
 use terms::Operator;
 use terms::Qualification;
 use terms::TypeCode;
+use terms::operators::holds;
 ghost use mathlib.Core.Path.{_≡_};
 ghost use Prim.Native.Nat.{_<_};
 ghost use Rattle.rules.specs.Arguments.{listRead, meant, askedOf};

@@ -2,10 +2,10 @@
 use crate::forward::first_match;
 use crate::forward::forward;
 use crate::stretch::path_to;
+use catalogue::lineage::level;
 use cells::lookup::count;
 use cells::lookup::level_at;
-use lineage::level;
-use runs::run_end;
+use cells::runs::run_end;
 use terms::Found;
 use terms::Place;
 use terms::TypeCode;

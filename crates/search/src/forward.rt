@@ -1,9 +1,9 @@
 // The pass forward: "first match after the place", "beneath p".
 use crate::stretch::path_to;
 use crate::stretch::stretched;
+use catalogue::lineage::level;
 use cells::lookup::code_at;
 use cells::lookup::level_at;
-use lineage::level;
 use terms::CellNumber;
 use terms::Found;
 use terms::TypeCode;

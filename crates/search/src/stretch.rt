@@ -3,7 +3,7 @@ use crate::Reached;
 use crate::agree::agrees;
 use crate::agree::is_implied;
 use cells::lookup::level_at;
-use runs::parent_of;
+use cells::runs::parent_of;
 use terms::CellNumber;
 use terms::Found;
 use terms::TypeCode;

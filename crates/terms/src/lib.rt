@@ -1,5 +1,7 @@
 // The words of document 01 as types. What the calls make of a position stands beside it.
+pub mod operators;
 pub mod positions;
+pub mod statuses;
 
 // Numbers that are each counted on their own: no lookup takes one for another.
 pub struct TypeCode(pub u8);

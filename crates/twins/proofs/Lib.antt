@@ -1,4 +1,4 @@
 pub mod Rows
 pub mod Twins
 pub mod Listing
-pub mod Laws
+pub mod Passing

@@ -26,8 +26,8 @@ use Rattle.rules.specs.Calls.{keyTaken}
 use Rattle.rules.proofs.Catalogue.{par, good-lower}
 use Rattle.rules.proofs.Every.{every-in, every-out}
 use Rattle.rules.proofs.Cells.{listing-length}
-use Rattle.cells.proofs.Laws.{end-within}
-use Rattle.lineage.proofs.Hierarchy.{type-range, level-child, level-root}
+use Rattle.cells.proofs.Located.{end-within}
+use Rattle.catalogue.proofs.Hierarchy.{type-range, level-child, level-root}
 use Rattle.twins.specs.Among.{New, Beneath, top, child, passed}
 use Rattle.twins.proofs.Rows.{Each, each-at, each-level, spot-low, spot-within, low-past, bare-behind}
 use Rattle.twins.proofs.Twins.{key-deep, key-past, before-onward}

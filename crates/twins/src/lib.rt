@@ -1,17 +1,17 @@
 // Where a new segment goes among its twins, and whether its unique key is taken.
 // The new segment is of type t, with the area's first L bytes.
+use blocks::slices::order_of;
 use blocks::wide;
+use catalogue::entries::key_kind;
+use catalogue::entries::key_length;
+use catalogue::entries::key_start;
+use catalogue::lineage::level;
 use cells::lookup::code_at;
-use entries::key_kind;
-use entries::key_length;
-use entries::key_start;
-use lineage::level;
-use operators::is_equal;
-use operators::is_smaller;
-use slices::order_of;
 use terms::CellNumber;
 use terms::Order;
 use terms::TypeCode;
+use terms::operators::is_equal;
+use terms::operators::is_smaller;
 ghost use mathlib.Core.Path.{_≡_};
 ghost use Prim.Native.Nat.{_<_};
 ghost use Rattle.rules.specs.Catalogue.{level};

@@ -26,8 +26,8 @@ use Rattle.rules.specs.Table.{listing, goodTable}
 use Rattle.rules.specs.Position.{goodPlace, goodParentage, goodPosition, goodBlock, positionOf, nowhere}
 use Rattle.rules.specs.Outcome.{Outcome, isBlank, isIsrt, unsound, outcome, soundOutcome, blockAfter}
 use Rattle.rules.proofs.Cells.{listing-length}
-use Rattle.image.specs.Determined.{IsBytes}
-use Rattle.image.proofs.Bytes.{table-room, table-count}
+use Rattle.encoding.specs.Determined.{IsBytes}
+use Rattle.encoding.proofs.Bytes.{table-room, table-count}
 use Rattle.model.specs.Kept.{Kept}
 use Rattle.model.proofs.Asked.{sound-of, good-place, good-parentage, good-hold, parent-before}
 use Rattle.model.proofs.Kept.{tables-stay-good}

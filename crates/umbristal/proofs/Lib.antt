@@ -1,4 +1,4 @@
 pub mod Block
 pub mod Fitting
 pub mod Reports
-pub mod Reading
+pub mod EmptyList

@@ -2,12 +2,12 @@
 use blocks::byte_at;
 use blocks::word_at;
 use reports::Report;
-use statuses::number;
 use terms::Answer;
 use terms::CellNumber;
 use terms::Parentage;
 use terms::Place;
 use terms::Position;
+use terms::statuses::number;
 ghost use mathlib.Core.Path.{_≡_};
 ghost use Prim.Native.Nat.{_<_};
 ghost use Rattle.terms.specs.Choice.{pick};

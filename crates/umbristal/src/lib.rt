@@ -19,7 +19,7 @@ ghost use Rattle.umbristal.specs.Face.{left, face, soundFace, isStep, sh
 pub extern "C" fn umbristal_catalogue_check(cat: &[u8]) -> u8
     ensures { λ r. ⌜ r ≡ number (checkCatalogue (now (cat .entry))) ⌝ }
 {
-    statuses::number(catalogue::check::check(cat))
+    terms::statuses::number(catalogue_check::check::check(cat))
 }
 
 // "that of a table CX, TX or 0"
@@ -27,7 +27,7 @@ pub extern "C" fn umbristal_catalogue_check(cat: &[u8]) -> u8
 pub extern "C" fn umbristal_table_check(cat: &[u8], tab: &[u8]) -> u8
     ensures { λ r. ⌜ r ≡ number (checkTable (now (cat .entry)) (now (tab .entry))) ⌝ }
 {
-    statuses::number(table::check::check(cat, tab))
+    terms::statuses::number(table_check::check::check(cat, tab))
 }
 
 // "The maker of empty tables answers CX, or TX when the slice length fits no M, and then writes nothing; else header and zeros."
@@ -35,7 +35,7 @@ pub extern "C" fn umbristal_table_check(cat: &[u8], tab: &[u8]) -> u8
 pub extern "C" fn umbristal_table_make(cat: &[u8], tab: &mut [u8]) -> u8
     ensures { λ r. ⌜ (r ≡ number (makeStatus (now (cat .entry)) (now (tab .entry)))) × (now (tab .exit) ≡ madeTable (now (cat .entry)) (now (tab .entry))) ⌝ }
 {
-    statuses::number(maker::make(cat, tab))
+    terms::statuses::number(maker::make(cat, tab))
 }
 
 // The call of this number, on anything at all. The position is lent as a block of 8 bytes; the answer's other parts come back in one number.

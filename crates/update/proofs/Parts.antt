@@ -7,7 +7,7 @@ use lib.ListN.{length, take, drop, set, replicate, length-append, length-drop, d
 use lib.Seq.{take-at, drop-at, take-append-le, drop-append-le, take-take, drop-drop, length-take-le}
 use borrow.Rule.Slice.PartMut.{midOf, putMid, mid-len}
 use Rattle.rules.specs.Block.{Bytes}
-use Rattle.image.proofs.Lists.{drop-take}
+use Rattle.encoding.proofs.Lists.{drop-take}
 use Rattle.update.specs.Moves.{movedUp, movedDown}
 
 -- b is what lies before the part, the part m from byte a to byte e, and what lies behind it

@@ -14,10 +14,10 @@ use Rattle.rules.specs.Catalogue.{lengthOf, isType}
 use Rattle.rules.specs.Cells.{segment, segmentOf}
 use Rattle.rules.specs.Table.{count, cellSize, cellStart, room, typeAt, listing, cellBytes}
 use Rattle.cells.specs.Sound.{Sound}
-use Rattle.cells.proofs.Laws.{type-of}
-use Rattle.image.specs.Determined.{IsBytes}
-use Rattle.image.proofs.Entries.{length-cell}
-use Rattle.image.proofs.Bytes.{cells-split, table-room, table-count, table-within, table-known, insert-bytes, delete-bytes, replace-data}
+use Rattle.cells.proofs.Located.{type-of}
+use Rattle.encoding.specs.Determined.{IsBytes}
+use Rattle.encoding.proofs.Entries.{length-cell}
+use Rattle.encoding.proofs.Bytes.{cells-split, table-room, table-count, table-within, table-known, insert-bytes, delete-bytes, replace-data}
 use Rattle.update.specs.Moves.{movedUp, movedDown}
 use Rattle.update.specs.Edits.{withCell, withData, withoutCells, Insertable, Replaceable, Removable}
 use Rattle.update.proofs.Parts.{put-part, up-room, up-cell, down-cleared, counted}

@@ -4,5 +4,20 @@ use borrow.Author.Needs.{needs}
 use Rattle.answers.proofs.missed.Statement.{statement}
 use Rattle.answers.proofs.missed.Tie as tie
 
+hold-dropped-requires : tie.Need-hold-dropped-requires
+hold-dropped-requires c κs = search needs
+
+bare-requires : tie.Need-bare-requires
+bare-requires c κs = search needs
+
+returns : tie.Need-returns
+returns c = let ·args = c .before .before .args in
+    c .bare .ensures ∙ ap (bare (·args .s)) (c .before .hold-dropped .ensures)
+
 pub missed-spec : {M : Type 1} → statement M
-missed-spec = tie.close (tie.spec (λ c κs. search needs) (λ c κs. search needs) (λ c. c .bare .ensures ∙ ap (bare (c .before .before .args .s)) (c .before .hold-dropped .ensures)))
+missed-spec =
+    tie.close
+    (tie.spec
+    hold-dropped-requires
+    bare-requires
+    returns)

@@ -6,5 +6,31 @@ use borrow.Author.Needs.{needs}
 use Rattle.answers.proofs.stopped.Statement.{statement}
 use Rattle.answers.proofs.stopped.Tie as tie
 
+number-requires : tie.Need-number-requires
+number-requires c κs = search needs
+
+bare-requires : tie.Need-bare-requires
+bare-requires c κs = search needs
+
+returns : tie.Need-returns
+returns c = let ·args = c .before .before .before .args in
+    simp (le-leb 20 (number (·args .s)) (omega (arith, c .before .before .number .ensures, c .before .if1 .taken)))
+    (c .bare .ensures)
+
+missed-requires : tie.Need-missed-requires
+missed-requires c κs = search needs
+
+returns-2 : tie.Need-returns-2
+returns-2 c = let ·args = c .before .before .before .args in
+    simp (lt-leb 20 (number (·args .s)) (omega (arith, c .before .before .number .ensures, c .before .if1 .left)))
+    (c .missed .ensures)
+
 pub stopped-spec : {M : Type 1} → statement M
-stopped-spec = tie.close (tie.spec (λ c κs. search needs) (λ c κs. search needs) (λ c. simp (le-leb 20 (number (c .before .before .before .args .s)) (omega (arith, c .before .before .number .ensures, c .before .if1 .taken))) (c .bare .ensures)) (λ c κs. search needs) (λ c. simp (lt-leb 20 (number (c .before .before .before .args .s)) (omega (arith, c .before .before .number .ensures, c .before .if1 .left))) (c .missed .ensures)))
+stopped-spec =
+    tie.close
+    (tie.spec
+    number-requires
+    bare-requires
+    returns
+    missed-requires
+    returns-2)

@@ -3,6 +3,20 @@ use borrow.Author.Needs.{needs}
 use Rattle.answers.proofs.told.Statement.{statement}
 use Rattle.answers.proofs.told.Tie as tie
 
-pub told-spec : {M : Type 1} → statement M
+level-requires : tie.Need-level-requires
+level-requires c κs = search needs
+
+data-length-requires : tie.Need-data-length-requires
+data-length-requires c κs = search needs
+
+returns : tie.Need-returns
 unfolding told
-told-spec = tie.close (tie.spec (λ c κs. search needs) (λ c κs. search needs) (λ c. simp (c .before .level .ensures, c .data-length .ensures)))
+returns c = simp (c .before .level .ensures, c .data-length .ensures)
+
+pub told-spec : {M : Type 1} → statement M
+told-spec =
+    tie.close
+    (tie.spec
+    level-requires
+    data-length-requires
+    returns)

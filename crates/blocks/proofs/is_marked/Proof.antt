@@ -6,16 +6,66 @@ use borrow.Author.Needs.{needs}
 use Rattle.blocks.proofs.is_marked.Statement.{statement}
 use Rattle.blocks.proofs.is_marked.Tie as tie
 
-pub is-marked-spec : {M : Type 1} → statement M
+byte-at-requires : tie.Need-byte-at-requires
+byte-at-requires c κs = search needs
+
+returns : tie.Need-returns
 unfolding marked
+returns c = simp (ne-eqb _ _ (λ e. c .if1 .taken (c .before .byte-at .ensures ∙ e)))
+
+byte-at-requires-2 : tie.Need-byte-at-requires-2
+byte-at-requires-2 c κs = search needs
+
+returns-2 : tie.Need-returns-2
+unfolding marked
+returns-2 c = let ·byte-at = c .before .before .before .byte-at in let ·if1 = c .before .before .if1 in
+    simp (
+      eq-eqb _ _ (sym (·byte-at .ensures) ∙ ·if1 .left),
+      ne-eqb _ _
+          (λ e. c .if2 .taken (c .before .byte-at2 .ensures ∙ e)),
+    )
+
+byte-at-requires-3 : tie.Need-byte-at-requires-3
+byte-at-requires-3 c κs = search needs
+
+returns-3 : tie.Need-returns-3
+unfolding marked
+returns-3 c = let ·byte-at = c .before .before .before .before .before .byte-at in
+    let ·if1 = c .before .before .before .before .if1 in let ·byte-at2 = c .before .before .before .byte-at2 in
+    let ·if2 = c .before .before .if2 in
+    simp (
+      eq-eqb _ _ (sym (·byte-at .ensures) ∙ ·if1 .left),
+      eq-eqb _ _ (sym (·byte-at2 .ensures) ∙ ·if2 .left),
+      ne-eqb
+          _ _ (λ e. c .if3 .taken (c .before .byte-at3 .ensures ∙ e)),
+    )
+
+word-at-requires : tie.Need-word-at-requires
+word-at-requires c κs = search needs
+
+returns-4 : tie.Need-returns-4
+unfolding marked
+returns-4 c = let ·byte-at = c .before .before .before .before .before .before .byte-at in
+    let ·if1 = c .before .before .before .before .before .if1 in
+    let ·byte-at2 = c .before .before .before .before .byte-at2 in let ·if2 = c .before .before .before .if2 in
+    let ·byte-at3 = c .before .before .byte-at3 in
+    simp (
+      eq-eqb _ _ (sym (·byte-at .ensures) ∙ ·if1 .left),
+      eq-eqb _ _ (sym (·byte-at2 .ensures) ∙ ·if2 .left),
+      eq-eqb
+          _ _ (sym (·byte-at3 .ensures) ∙ c .before .if3 .left),
+      sym (c .word-at .ensures .0),
+    )
+
+pub is-marked-spec : {M : Type 1} → statement M
 is-marked-spec =
     tie.close
     (tie.spec
-    (λ c κs. search needs)
-    (λ c. simp (ne-eqb _ _ (λ e. c .if1 .taken (c .before .byte-at .ensures ∙ e))))
-    (λ c κs. search needs)
-    (λ c. simp (eq-eqb _ _ (sym (c .before .before .before .byte-at .ensures) ∙ c .before .before .if1 .left), ne-eqb _ _ (λ e. c .if2 .taken (c .before .byte-at2 .ensures ∙ e))))
-    (λ c κs. search needs)
-    (λ c. simp (eq-eqb _ _ (sym (c .before .before .before .before .before .byte-at .ensures) ∙ c .before .before .before .before .if1 .left), eq-eqb _ _ (sym (c .before .before .before .byte-at2 .ensures) ∙ c .before .before .if2 .left), ne-eqb _ _ (λ e. c .if3 .taken (c .before .byte-at3 .ensures ∙ e))))
-    (λ c κs. search needs)
-    (λ c. simp (eq-eqb _ _ (sym (c .before .before .before .before .before .before .byte-at .ensures) ∙ c .before .before .before .before .before .if1 .left), eq-eqb _ _ (sym (c .before .before .before .before .byte-at2 .ensures) ∙ c .before .before .before .if2 .left), eq-eqb _ _ (sym (c .before .before .byte-at3 .ensures) ∙ c .before .if3 .left), sym (c .word-at .ensures .0))))
+    byte-at-requires
+    returns
+    byte-at-requires-2
+    returns-2
+    byte-at-requires-3
+    returns-3
+    word-at-requires
+    returns-4)

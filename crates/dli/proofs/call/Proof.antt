@@ -6,16 +6,59 @@ use borrow.Author.Needs.{needs}
 use Rattle.dli.proofs.call.Statement.{statement}
 use Rattle.dli.proofs.call.Tie as tie
 
+unsound-requires : tie.Need-unsound-requires
+unsound-requires c κs = search needs
+
+number-requires : tie.Need-number-requires
+number-requires c κs = search needs
+
+stopped-requires : tie.Need-stopped-requires
+stopped-requires c κs = search needs
+
+same-length : tie.Need-same-length
+same-length c = search needs
+
+returns : tie.Need-returns
+returns c = let ·args = c .before .before .before .before .before .before .before .before .before .args in
+    let ·unsound = c .before .before .before .unsound in let ·number = c .before .before .number in
+    ap (λ (r : Answer). made r (·args .tab .now) (·args .area .now)) (c .stopped .ensures) ∙ call-stopped
+    (·args .cat .now) (·args .tab .now) (·args .pos) (·args .number) (·args .list .now) (·args .area .now)
+    (·unsound .result) (·number .result) (·unsound .ensures) (·number .ensures) (c .before .if1 .taken)
+
+call-sound-requires : tie.Need-call-sound-requires
+call-sound-requires c κs =
+    let ·args = c .before .before .before .before .before .before .before .before .before .before .args in
+    let ·unsound = c .before .before .before .before .unsound in let ·number = c .before .before .before .number in
+    let ·if1 = c .before .before .if1 in
+    call-sound (·args .cat .now) (·args .tab .now) (·args .pos) (·args .number) (·args .list .now) (·args .area .now)
+    (·unsound .result) (·number .result) (·unsound .ensures) (·number .ensures) (·if1 .left)
+
+same-length-2 : tie.Need-same-length-2
+same-length-2 c = search needs
+
+same-length-3 : tie.Need-same-length-3
+same-length-3 c = search needs
+
+returns-2 : tie.Need-returns-2
+returns-2 c = let ·call-sound = c .before .before .before .before .call-sound in
+    let ·args = c .before .before .before .before .before .before .before .before .before .before .before .before
+    .before .before .before .args in
+    let ·unsound = c .before .before .before .before .before .before .before .before .before .unsound in
+    let ·number = c .before .before .before .before .before .before .before .before .number in
+    let ·if1 = c .before .before .before .before .before .before .before .if1 in
+    ·call-sound .ensures ∙ call-on (·args .cat .now) (·args .tab .now) (·args .pos) (·args .number) (·args .list .now)
+    (·args .area .now) (·unsound .result) (·number .result) (·unsound .ensures) (·number .ensures) (·if1 .left)
+
 pub call-spec : {M : Type 1} → statement M
 call-spec =
     tie.close
     (tie.spec
-    (λ c κs. search needs)
-    (λ c κs. search needs)
-    (λ c κs. search needs)
-    (λ c. search needs)
-    (λ c. ap (λ (r : Answer). made r (c .before .before .before .before .before .before .before .before .before .args .tab .now) (c .before .before .before .before .before .before .before .before .before .args .area .now)) (c .stopped .ensures) ∙ call-stopped (c .before .before .before .before .before .before .before .before .before .args .cat .now) (c .before .before .before .before .before .before .before .before .before .args .tab .now) (c .before .before .before .before .before .before .before .before .before .args .pos) (c .before .before .before .before .before .before .before .before .before .args .number) (c .before .before .before .before .before .before .before .before .before .args .list .now) (c .before .before .before .before .before .before .before .before .before .args .area .now) (c .before .before .before .unsound .result) (c .before .before .number .result) (c .before .before .before .unsound .ensures) (c .before .before .number .ensures) (c .before .if1 .taken))
-    (λ c κs. call-sound (c .before .before .before .before .before .before .before .before .before .before .args .cat .now) (c .before .before .before .before .before .before .before .before .before .before .args .tab .now) (c .before .before .before .before .before .before .before .before .before .before .args .pos) (c .before .before .before .before .before .before .before .before .before .before .args .number) (c .before .before .before .before .before .before .before .before .before .before .args .list .now) (c .before .before .before .before .before .before .before .before .before .before .args .area .now) (c .before .before .before .before .unsound .result) (c .before .before .before .number .result) (c .before .before .before .before .unsound .ensures) (c .before .before .before .number .ensures) (c .before .before .if1 .left))
-    (λ c. search needs)
-    (λ c. search needs)
-    (λ c. c .before .before .before .before .call-sound .ensures ∙ call-on (c .before .before .before .before .before .before .before .before .before .before .before .before .before .before .before .args .cat .now) (c .before .before .before .before .before .before .before .before .before .before .before .before .before .before .before .args .tab .now) (c .before .before .before .before .before .before .before .before .before .before .before .before .before .before .before .args .pos) (c .before .before .before .before .before .before .before .before .before .before .before .before .before .before .before .args .number) (c .before .before .before .before .before .before .before .before .before .before .before .before .before .before .before .args .list .now) (c .before .before .before .before .before .before .before .before .before .before .before .before .before .before .before .args .area .now) (c .before .before .before .before .before .before .before .before .before .unsound .result) (c .before .before .before .before .before .before .before .before .number .result) (c .before .before .before .before .before .before .before .before .before .unsound .ensures) (c .before .before .before .before .before .before .before .before .number .ensures) (c .before .before .before .before .before .before .before .if1 .left)))
+    unsound-requires
+    number-requires
+    stopped-requires
+    same-length
+    returns
+    call-sound-requires
+    same-length-2
+    same-length-3
+    returns-2)

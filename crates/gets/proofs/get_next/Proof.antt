@@ -7,25 +7,132 @@ use Rattle.rules.specs.Table.{listing}
 use Rattle.rules.specs.Arguments.{complete, listRead}
 use Rattle.rules.proofs.Cells.{listing-length}
 use Rattle.gets.proofs.Found.{after-in, first-in}
-use Rattle.gets.proofs.Laws.{search-good, next-found, next-missed}
+use Rattle.gets.proofs.Gotten.{search-good, next-found, next-missed}
 use borrow.Author.Needs.{needs}
 use Rattle.gets.proofs.get_next.Statement.{statement}
 use Rattle.gets.proofs.get_next.Tie as tie
+
+last-of-requires : tie.Need-last-of-requires
+last-of-requires c κs = search needs
+
+after-place-requires : tie.Need-after-place-requires
+after-place-requires c κs = let ·args = c .before .before .before .before .before .before .args in
+    omega (
+      arith,
+      after-in (·args .cat .now) (·args .tab .now) (·args .pos)
+          (c .before .before .before .before .before .before .pre .0 .position),
+      c .before .before .before .before .before .before .pre .0 .sound .sized .few,
+    )
+
+count-requires : tie.Need-count-requires
+count-requires c κs = search needs
+
+first-match-requires : tie.Need-first-match-requires
+first-match-requires c κs = (
+  search-good (c .before .before .before .before .before .before .before .before .pre .0)
+      (c .before .before .before .last-of .result .code)
+      (ap (λ (a : Argument). a .code) (c .before .before .before .last-of .ensures)),
+  omega (arith, c .count .ensures .0),
+)
+
+enum-known-c : tie.Need-enum-known-c
+enum-known-c c = search needs
+
+enum-told : tie.Need-enum-told
+enum-told c = search needs
+
+miss-status-requires : tie.Need-miss-status-requires
+miss-status-requires c κs = search needs
+
+missed-requires : tie.Need-missed-requires
+missed-requires c κs = search needs
+
+returns : tie.Need-returns
+returns c =
+    let ·args = c .before .before .before .before .before .before .before .before .before .before .before .before
+    .before .args in
+    let ·pre = c .before .before .before .before .before .before .before .before .before .before .before .before .before
+    .pre in let ·last-of = c .before .before .before .before .before .before .before .before .last-of in
+    let ·first-match = c .before .before .before .before .first-match in
+    let ·after-place = c .before .before .before .before .before .before .after-place in
+    let ·count = c .before .before .before .before .before .count in let ·enum-told = c .before .before .enum-told in
+    ap (λ (r : Answer). left r (·args .area .now)) (c .missed .ensures) ∙ next-missed (·pre .0) (·args .area .now)
+    (·args .hold) (·last-of .result .code) (·first-match .result) (ap (λ (a : Argument). a .code) (·last-of .ensures))
+    (·after-place .result) (·after-place .ensures) (·count .result) (·first-match .ensures)
+    (c .before .miss-status .result) (·count .ensures .0 ∙ sym (listing-length (·args .cat .now) (·args .tab .now)))
+    (·enum-told .given .1) (c .before .miss-status .ensures)
+
+level-status-requires : tie.Need-level-status-requires
+level-status-requires c κs =
+    let ·args = c .before .before .before .before .before .before .before .before .before .before .before .before .args
+    in (
+      c .before .before .before .before .before .before .before .before .before .before .before .before .pre .0,
+      omega (
+        arith,
+        first-in (·args .cat .now) (listing (·args .cat .now) (·args .tab .now))
+            (complete (·args .cat .now) (·args .list .now) (listRead (·args .cat .now) (·args .list .now) .arguments)
+            (c .before .before .before .before .before .before .before .last-of .result .code))
+            (c .before .before .before .before .before .after-place .result) (c .before .before .before .before .count .result)
+            (c .before .c .given .0 .0) (sym (c .before .before .before .first-match .ensures) ∙ c .before .c .given .1),
+        c .before .before .before .before .count .ensures .0,
+      ),
+    )
+
+got-requires : tie.Need-got-requires
+got-requires c κs =
+    let ·args = c .before .before .before .before .before .before .before .before .before .before .before .before
+    .before .before .args in (
+      c .before .before .before .before .before .before .before .before .before .before .before .before .before .before
+          .pre .0 .sound,
+      omega (
+        arith,
+        first-in (·args .cat .now) (listing (·args .cat .now) (·args .tab .now))
+            (complete (·args .cat .now) (·args .list .now) (listRead (·args .cat .now) (·args .list .now) .arguments)
+            (c .before .before .before .before .before .before .before .before .before .last-of .result .code))
+            (c .before .before .before .before .before .before .before .after-place .result)
+            (c .before .before .before .before .before .before .count .result) (c .before .before .before .c .given .0 .0)
+            (sym (c .before .before .before .before .before .first-match .ensures) ∙ c .before .before .before .c .given .1),
+        c .before .before .before .before .before .before .count .ensures .0,
+      ),
+      c .before .before .before .before .before .before .before .before .before .before .before .before .before .before
+          .pre .1,
+    )
+
+same-length : tie.Need-same-length
+same-length c = search needs
+
+returns-2 : tie.Need-returns-2
+returns-2 c = let ·got = c .before .before .got in
+    let ·pre = c .before .before .before .before .before .before .before .before .before .before .before .before .before
+    .before .before .before .before .pre in
+    let ·args = c .before .before .before .before .before .before .before .before .before .before .before .before
+    .before .before .before .before .before .args in
+    let ·last-of = c .before .before .before .before .before .before .before .before .before .before .before .before
+    .last-of in let ·first-match = c .before .before .before .before .before .before .before .before .first-match in
+    let ·after-place = c .before .before .before .before .before .before .before .before .before .before .after-place in
+    let ·count = c .before .before .before .before .before .before .before .before .before .count in
+    let ·c = c .before .before .before .before .before .before .c in
+    let ·level-status = c .before .before .before .before .level-status in
+    ·got .ensures ∙ next-found (·pre .0) (·args .area .now) (·args .hold) (·last-of .result .code)
+    (·first-match .result) (ap (λ (a : Argument). a .code) (·last-of .ensures)) (·after-place .result)
+    (·after-place .ensures) (·count .result) (·first-match .ensures) (·c .given .0 .0) (·level-status .result)
+    (·count .ensures .0 ∙ sym (listing-length (·args .cat .now) (·args .tab .now))) (·c .given .1)
+    (·level-status .ensures)
 
 pub get-next-spec : {M : Type 1} → statement M
 get-next-spec =
     tie.close
     (tie.spec
-    (λ c κs. search needs)
-    (λ c κs. omega (arith, after-in (c .before .before .before .before .before .before .args .cat .now) (c .before .before .before .before .before .before .args .tab .now) (c .before .before .before .before .before .before .args .pos) (c .before .before .before .before .before .before .pre .0 .position), c .before .before .before .before .before .before .pre .0 .sound .sized .few))
-    (λ c κs. search needs)
-    (λ c κs. (search-good (c .before .before .before .before .before .before .before .before .pre .0) (c .before .before .before .last-of .result .code) (ap (λ (a : Argument). a .code) (c .before .before .before .last-of .ensures)), omega (arith, c .count .ensures .0)))
-    (λ c. search needs)
-    (λ c. search needs)
-    (λ c κs. search needs)
-    (λ c κs. search needs)
-    (λ c. ap (λ (r : Answer). left r (c .before .before .before .before .before .before .before .before .before .before .before .before .before .args .area .now)) (c .missed .ensures) ∙ next-missed (c .before .before .before .before .before .before .before .before .before .before .before .before .before .pre .0) (c .before .before .before .before .before .before .before .before .before .before .before .before .before .args .area .now) (c .before .before .before .before .before .before .before .before .before .before .before .before .before .args .hold) (c .before .before .before .before .before .before .before .before .last-of .result .code) (c .before .before .before .before .first-match .result) (ap (λ (a : Argument). a .code) (c .before .before .before .before .before .before .before .before .last-of .ensures)) (c .before .before .before .before .before .before .after-place .result) (c .before .before .before .before .before .before .after-place .ensures) (c .before .before .before .before .before .count .result) (c .before .before .before .before .first-match .ensures) (c .before .miss-status .result) (c .before .before .before .before .before .count .ensures .0 ∙ sym (listing-length (c .before .before .before .before .before .before .before .before .before .before .before .before .before .args .cat .now) (c .before .before .before .before .before .before .before .before .before .before .before .before .before .args .tab .now))) (c .before .before .enum-told .given .1) (c .before .miss-status .ensures))
-    (λ c κs. (c .before .before .before .before .before .before .before .before .before .before .before .before .pre .0, omega (arith, first-in (c .before .before .before .before .before .before .before .before .before .before .before .before .args .cat .now) (listing (c .before .before .before .before .before .before .before .before .before .before .before .before .args .cat .now) (c .before .before .before .before .before .before .before .before .before .before .before .before .args .tab .now)) (complete (c .before .before .before .before .before .before .before .before .before .before .before .before .args .cat .now) (c .before .before .before .before .before .before .before .before .before .before .before .before .args .list .now) (listRead (c .before .before .before .before .before .before .before .before .before .before .before .before .args .cat .now) (c .before .before .before .before .before .before .before .before .before .before .before .before .args .list .now) .arguments) (c .before .before .before .before .before .before .before .last-of .result .code)) (c .before .before .before .before .before .after-place .result) (c .before .before .before .before .count .result) (c .before .c .given .0 .0) (sym (c .before .before .before .first-match .ensures) ∙ c .before .c .given .1), c .before .before .before .before .count .ensures .0)))
-    (λ c κs. (c .before .before .before .before .before .before .before .before .before .before .before .before .before .before .pre .0 .sound, omega (arith, first-in (c .before .before .before .before .before .before .before .before .before .before .before .before .before .before .args .cat .now) (listing (c .before .before .before .before .before .before .before .before .before .before .before .before .before .before .args .cat .now) (c .before .before .before .before .before .before .before .before .before .before .before .before .before .before .args .tab .now)) (complete (c .before .before .before .before .before .before .before .before .before .before .before .before .before .before .args .cat .now) (c .before .before .before .before .before .before .before .before .before .before .before .before .before .before .args .list .now) (listRead (c .before .before .before .before .before .before .before .before .before .before .before .before .before .before .args .cat .now) (c .before .before .before .before .before .before .before .before .before .before .before .before .before .before .args .list .now) .arguments) (c .before .before .before .before .before .before .before .before .before .last-of .result .code)) (c .before .before .before .before .before .before .before .after-place .result) (c .before .before .before .before .before .before .count .result) (c .before .before .before .c .given .0 .0) (sym (c .before .before .before .before .before .first-match .ensures) ∙ c .before .before .before .c .given .1), c .before .before .before .before .before .before .count .ensures .0), c .before .before .before .before .before .before .before .before .before .before .before .before .before .before .pre .1))
-    (λ c. search needs)
-    (λ c. c .before .before .got .ensures ∙ next-found (c .before .before .before .before .before .before .before .before .before .before .before .before .before .before .before .before .before .pre .0) (c .before .before .before .before .before .before .before .before .before .before .before .before .before .before .before .before .before .args .area .now) (c .before .before .before .before .before .before .before .before .before .before .before .before .before .before .before .before .before .args .hold) (c .before .before .before .before .before .before .before .before .before .before .before .before .last-of .result .code) (c .before .before .before .before .before .before .before .before .first-match .result) (ap (λ (a : Argument). a .code) (c .before .before .before .before .before .before .before .before .before .before .before .before .last-of .ensures)) (c .before .before .before .before .before .before .before .before .before .before .after-place .result) (c .before .before .before .before .before .before .before .before .before .before .after-place .ensures) (c .before .before .before .before .before .before .before .before .before .count .result) (c .before .before .before .before .before .before .before .before .first-match .ensures) (c .before .before .before .before .before .before .c .given .0 .0) (c .before .before .before .before .level-status .result) (c .before .before .before .before .before .before .before .before .before .count .ensures .0 ∙ sym (listing-length (c .before .before .before .before .before .before .before .before .before .before .before .before .before .before .before .before .before .args .cat .now) (c .before .before .before .before .before .before .before .before .before .before .before .before .before .before .before .before .before .args .tab .now))) (c .before .before .before .before .before .before .c .given .1) (c .before .before .before .before .level-status .ensures)))
+    last-of-requires
+    after-place-requires
+    count-requires
+    first-match-requires
+    enum-known-c
+    enum-told
+    miss-status-requires
+    missed-requires
+    returns
+    level-status-requires
+    got-requires
+    same-length
+    returns-2)

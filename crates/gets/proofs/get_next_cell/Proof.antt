@@ -3,20 +3,64 @@ use native.Mathlib.Omega.{arith}
 use Rattle.answers.specs.Ready.{left}
 use Rattle.terms.specs.declared.Answer.{Answer}
 use Rattle.gets.proofs.Found.{after-in}
-use Rattle.gets.proofs.Laws.{cell-found, cell-missed}
+use Rattle.gets.proofs.Gotten.{cell-found, cell-missed}
 use borrow.Author.Needs.{needs}
 use Rattle.gets.proofs.get_next_cell.Statement.{statement}
 use Rattle.gets.proofs.get_next_cell.Tie as tie
+
+after-place-requires : tie.Need-after-place-requires
+after-place-requires c κs = let ·args = c .before .before .before .before .args in
+    omega (
+      arith,
+      after-in (·args .cat .now) (·args .tab .now) (·args .pos)
+          (c .before .before .before .before .pre .0 .position),
+      c .before .before .before .before .pre .0 .sound .sized .few,
+    )
+
+count-requires : tie.Need-count-requires
+count-requires c κs = search needs
+
+missed-requires : tie.Need-missed-requires
+missed-requires c κs = search needs
+
+returns : tie.Need-returns
+returns c = let ·args = c .before .before .before .before .before .before .before .before .args in
+    let ·pre = c .before .before .before .before .before .before .before .before .pre in
+    let ·after-place = c .before .before .before .after-place in let ·count = c .before .before .count in
+    ap (λ (r : Answer). left r (·args .area .now)) (c .missed .ensures) ∙ cell-missed (·pre .0) (·args .area .now)
+    (·args .hold) (·pre .2) (·after-place .result) (·after-place .ensures) (·count .result) (·count .ensures .0)
+    (c .before .if1 .taken)
+
+level-status-requires : tie.Need-level-status-requires
+level-status-requires c κs = search needs
+
+got-requires : tie.Need-got-requires
+got-requires c κs = search needs
+
+same-length : tie.Need-same-length
+same-length c = search needs
+
+returns-2 : tie.Need-returns-2
+returns-2 c = let ·got = c .before .before .got in
+    let ·pre = c .before .before .before .before .before .before .before .before .before .before .before .before .pre in
+    let ·args = c .before .before .before .before .before .before .before .before .before .before .before .before .args
+    in let ·after-place = c .before .before .before .before .before .before .before .after-place in
+    let ·count = c .before .before .before .before .before .before .count in
+    let ·level-status = c .before .before .before .before .level-status in
+    let ·if1 = c .before .before .before .before .before .if1 in
+    ·got .ensures ∙ cell-found (·pre .0) (·args .area .now) (·args .hold) (·pre .2) (·after-place .result)
+    (·after-place .ensures) (·count .result) (·count .ensures .0) (·level-status .result) (·if1 .left)
+    (·level-status .ensures)
 
 pub get-next-cell-spec : {M : Type 1} → statement M
 get-next-cell-spec =
     tie.close
     (tie.spec
-    (λ c κs. omega (arith, after-in (c .before .before .before .before .args .cat .now) (c .before .before .before .before .args .tab .now) (c .before .before .before .before .args .pos) (c .before .before .before .before .pre .0 .position), c .before .before .before .before .pre .0 .sound .sized .few))
-    (λ c κs. search needs)
-    (λ c κs. search needs)
-    (λ c. ap (λ (r : Answer). left r (c .before .before .before .before .before .before .before .before .args .area .now)) (c .missed .ensures) ∙ cell-missed (c .before .before .before .before .before .before .before .before .pre .0) (c .before .before .before .before .before .before .before .before .args .area .now) (c .before .before .before .before .before .before .before .before .args .hold) (c .before .before .before .before .before .before .before .before .pre .2) (c .before .before .before .after-place .result) (c .before .before .before .after-place .ensures) (c .before .before .count .result) (c .before .before .count .ensures .0) (c .before .if1 .taken))
-    (λ c κs. search needs)
-    (λ c κs. search needs)
-    (λ c. search needs)
-    (λ c. c .before .before .got .ensures ∙ cell-found (c .before .before .before .before .before .before .before .before .before .before .before .before .pre .0) (c .before .before .before .before .before .before .before .before .before .before .before .before .args .area .now) (c .before .before .before .before .before .before .before .before .before .before .before .before .args .hold) (c .before .before .before .before .before .before .before .before .before .before .before .before .pre .2) (c .before .before .before .before .before .before .before .after-place .result) (c .before .before .before .before .before .before .before .after-place .ensures) (c .before .before .before .before .before .before .count .result) (c .before .before .before .before .before .before .count .ensures .0) (c .before .before .before .before .level-status .result) (c .before .before .before .before .before .if1 .left) (c .before .before .before .before .level-status .ensures)))
+    after-place-requires
+    count-requires
+    missed-requires
+    returns
+    level-status-requires
+    got-requires
+    same-length
+    returns-2)

@@ -5,22 +5,89 @@ use Rattle.answers.specs.Ready.{left}
 use Rattle.terms.specs.declared.Answer.{Answer}
 use Rattle.rules.specs.Table.{listing}
 use Rattle.rules.proofs.Cells.{listing-length}
-use Rattle.cells.proofs.Laws.{end-within}
+use Rattle.cells.proofs.Located.{end-within}
 use Rattle.gets.proofs.Found.{after-in, parent-in, around}
-use Rattle.gets.proofs.Laws.{cell-in-run, cell-within, cell-outside}
+use Rattle.gets.proofs.Gotten.{cell-in-run, cell-within, cell-outside}
 use borrow.Author.Needs.{needs}
 use Rattle.gets.proofs.get_next_cell_within.Statement.{statement}
 use Rattle.gets.proofs.get_next_cell_within.Tie as tie
+
+after-place-requires : tie.Need-after-place-requires
+after-place-requires c κs = let ·args = c .before .before .before .before .args in
+    omega (
+      arith,
+      after-in (·args .cat .now) (·args .tab .now) (·args .pos)
+          (c .before .before .before .before .pre .0 .position),
+      c .before .before .before .before .pre .0 .sound .sized .few,
+    )
+
+is-within-requires : tie.Need-is-within-requires
+is-within-requires c κs = let ·args = c .before .before .before .before .before .args in
+    let a = around (·args .cat .now) (·args .tab .now) (·args .pos)
+    (c .before .before .before .before .before .pre .0 .position) (·args .p)
+    (c .before .before .before .before .before .pre .3) in (
+      c .before .before .before .before .before .pre .0 .sound,
+      omega (arith, a .0, c .after-place .ensures),
+      omega
+          (arith, a .1, c .after-place .ensures),
+      parent-in (·args .cat .now) (·args .tab .now) (·args .pos)
+          (c .before .before .before .before .before .pre .0 .position) (·args .p)
+          (c .before .before .before .before .before .pre .3),
+    )
+
+missed-requires : tie.Need-missed-requires
+missed-requires c κs = search needs
+
+returns : tie.Need-returns
+returns c = let ·args = c .before .before .before .before .before .before .before .before .args in
+    let ·pre = c .before .before .before .before .before .before .before .before .pre in
+    let ·after-place = c .before .before .before .after-place in let ·is-within = c .before .before .is-within in
+    ap (λ (r : Answer). left r (·args .area .now)) (c .missed .ensures) ∙ cell-outside (·pre .0) (·args .area .now)
+    (·args .hold) (·pre .2) (·after-place .result) (·after-place .ensures) (·args .p) (·pre .3) (·is-within .result)
+    (·is-within .ensures) (not-true _ (c .before .if1 .taken))
+
+level-status-requires : tie.Need-level-status-requires
+level-status-requires c κs = let ·pre = c .before .before .before .before .before .before .before .pre in
+    let ·args = c .before .before .before .before .before .before .before .args in (
+      ·pre .0,
+      cell-in-run _ _ _ _ (parent-in (·args .cat .now) (·args .tab .now) (·args .pos) (·pre .0 .position)
+          (·args .p) (·pre .3)) (sym (c .before .is-within .ensures) ∙ not-false _ (c .if1 .left)),
+    )
+
+got-requires : tie.Need-got-requires
+got-requires c κs = let ·pre = c .before .before .before .before .before .before .before .before .before .pre in
+    let ·args = c .before .before .before .before .before .before .before .before .before .args in
+    let ·is-within = c .before .before .before .is-within in let ·if1 = c .before .before .if1 in (
+      ·pre .0 .sound,
+      cell-in-run _ _ _ _ (parent-in (·args .cat .now) (·args .tab .now) (·args .pos) (·pre .0 .position)
+          (·args .p) (·pre .3)) (sym (·is-within .ensures) ∙ not-false _ (·if1 .left)),
+      ·pre .1,
+    )
+
+same-length : tie.Need-same-length
+same-length c = search needs
+
+returns-2 : tie.Need-returns-2
+returns-2 c = let ·got = c .before .before .got in
+    let ·pre = c .before .before .before .before .before .before .before .before .before .before .before .before .pre in
+    let ·args = c .before .before .before .before .before .before .before .before .before .before .before .before .args
+    in let ·after-place = c .before .before .before .before .before .before .before .after-place in
+    let ·is-within = c .before .before .before .before .before .before .is-within in
+    let ·level-status = c .before .before .before .before .level-status in
+    let ·if1 = c .before .before .before .before .before .if1 in
+    ·got .ensures ∙ cell-within (·pre .0) (·args .area .now) (·args .hold) (·pre .2) (·after-place .result)
+    (·after-place .ensures) (·args .p) (·pre .3) (·is-within .result) (·is-within .ensures) (·level-status .result)
+    (not-false _ (·if1 .left)) (·level-status .ensures)
 
 pub get-next-cell-within-spec : {M : Type 1} → statement M
 get-next-cell-within-spec =
     tie.close
     (tie.spec
-    (λ c κs. omega (arith, after-in (c .before .before .before .before .args .cat .now) (c .before .before .before .before .args .tab .now) (c .before .before .before .before .args .pos) (c .before .before .before .before .pre .0 .position), c .before .before .before .before .pre .0 .sound .sized .few))
-    (λ c κs. let a = around (c .before .before .before .before .before .args .cat .now) (c .before .before .before .before .before .args .tab .now) (c .before .before .before .before .before .args .pos) (c .before .before .before .before .before .pre .0 .position) (c .before .before .before .before .before .args .p) (c .before .before .before .before .before .pre .3) in (c .before .before .before .before .before .pre .0 .sound, omega (arith, a .0, c .after-place .ensures), omega (arith, a .1, c .after-place .ensures), parent-in (c .before .before .before .before .before .args .cat .now) (c .before .before .before .before .before .args .tab .now) (c .before .before .before .before .before .args .pos) (c .before .before .before .before .before .pre .0 .position) (c .before .before .before .before .before .args .p) (c .before .before .before .before .before .pre .3)))
-    (λ c κs. search needs)
-    (λ c. ap (λ (r : Answer). left r (c .before .before .before .before .before .before .before .before .args .area .now)) (c .missed .ensures) ∙ cell-outside (c .before .before .before .before .before .before .before .before .pre .0) (c .before .before .before .before .before .before .before .before .args .area .now) (c .before .before .before .before .before .before .before .before .args .hold) (c .before .before .before .before .before .before .before .before .pre .2) (c .before .before .before .after-place .result) (c .before .before .before .after-place .ensures) (c .before .before .before .before .before .before .before .before .args .p) (c .before .before .before .before .before .before .before .before .pre .3) (c .before .before .is-within .result) (c .before .before .is-within .ensures) (not-true _ (c .before .if1 .taken)))
-    (λ c κs. (c .before .before .before .before .before .before .before .pre .0, cell-in-run _ _ _ _ (parent-in (c .before .before .before .before .before .before .before .args .cat .now) (c .before .before .before .before .before .before .before .args .tab .now) (c .before .before .before .before .before .before .before .args .pos) (c .before .before .before .before .before .before .before .pre .0 .position) (c .before .before .before .before .before .before .before .args .p) (c .before .before .before .before .before .before .before .pre .3)) (sym (c .before .is-within .ensures) ∙ not-false _ (c .if1 .left))))
-    (λ c κs. (c .before .before .before .before .before .before .before .before .before .pre .0 .sound, cell-in-run _ _ _ _ (parent-in (c .before .before .before .before .before .before .before .before .before .args .cat .now) (c .before .before .before .before .before .before .before .before .before .args .tab .now) (c .before .before .before .before .before .before .before .before .before .args .pos) (c .before .before .before .before .before .before .before .before .before .pre .0 .position) (c .before .before .before .before .before .before .before .before .before .args .p) (c .before .before .before .before .before .before .before .before .before .pre .3)) (sym (c .before .before .before .is-within .ensures) ∙ not-false _ (c .before .before .if1 .left)), c .before .before .before .before .before .before .before .before .before .pre .1))
-    (λ c. search needs)
-    (λ c. c .before .before .got .ensures ∙ cell-within (c .before .before .before .before .before .before .before .before .before .before .before .before .pre .0) (c .before .before .before .before .before .before .before .before .before .before .before .before .args .area .now) (c .before .before .before .before .before .before .before .before .before .before .before .before .args .hold) (c .before .before .before .before .before .before .before .before .before .before .before .before .pre .2) (c .before .before .before .before .before .before .before .after-place .result) (c .before .before .before .before .before .before .before .after-place .ensures) (c .before .before .before .before .before .before .before .before .before .before .before .before .args .p) (c .before .before .before .before .before .before .before .before .before .before .before .before .pre .3) (c .before .before .before .before .before .before .is-within .result) (c .before .before .before .before .before .before .is-within .ensures) (c .before .before .before .before .level-status .result) (not-false _ (c .before .before .before .before .before .if1 .left)) (c .before .before .before .before .level-status .ensures)))
+    after-place-requires
+    is-within-requires
+    missed-requires
+    returns
+    level-status-requires
+    got-requires
+    same-length
+    returns-2)

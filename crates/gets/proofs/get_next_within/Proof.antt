@@ -7,34 +7,214 @@ use Rattle.terms.specs.declared.Argument.{Argument}
 use Rattle.rules.specs.Table.{listing}
 use Rattle.rules.specs.Arguments.{complete, listRead}
 use Rattle.rules.proofs.Cells.{listing-length}
-use Rattle.cells.proofs.Laws.{end-within}
+use Rattle.cells.proofs.Located.{end-within}
 use Rattle.gets.proofs.Found.{after-in, first-in, parent-in}
-use Rattle.gets.proofs.Laws.{search-good, within-found, within-missed, absent-not}
-use borrow.Author.Needs.{needs}
+use Rattle.gets.proofs.Gotten.{search-good, within-found, within-missed, absent-not}
 use borrow.Author.Needs.{needs}
 use Rattle.gets.proofs.get_next_within.Statement.{statement}
 use Rattle.gets.proofs.get_next_within.Tie as tie
+
+enum-known-parentage : tie.Need-enum-known-parentage
+enum-known-parentage c = search needs
+
+enum-told : tie.Need-enum-told
+enum-told c = search needs
+
+missed-requires : tie.Need-missed-requires
+missed-requires c κs = search needs
+
+returns : tie.Need-returns
+returns c = let ·args = c .before .before .before .before .before .before .before .args in
+    let ·pre = c .before .before .before .before .before .before .before .pre in
+    absurd (absent-not (·args .pos) (c .before .enum-told .given .1) (·pre .2))
+
+get-next-cell-within-requires : tie.Need-get-next-cell-within-requires
+get-next-cell-within-requires c κs = search needs
+
+same-length : tie.Need-same-length
+same-length c = search needs
+
+returns-2 : tie.Need-returns-2
+returns-2 c = search needs
+
+last-of-requires : tie.Need-last-of-requires
+last-of-requires c κs = search needs
+
+after-place-requires : tie.Need-after-place-requires
+after-place-requires c κs =
+    let ·args = c .before .before .before .before .before .before .before .before .before .before .args in
+    omega (
+      arith,
+      after-in (·args .cat .now) (·args .tab .now) (·args .pos)
+          (c .before .before .before .before .before .before .before .before .before .before .pre .0 .position),
+      c .before .before .before .before .before .before .before .before .before .before .pre .0 .sound .sized .few,
+    )
+
+run-end-requires : tie.Need-run-end-requires
+run-end-requires c κs =
+    let ·pre = c .before .before .before .before .before .before .before .before .before .before .before .pre in
+    let ·args = c .before .before .before .before .before .before .before .before .before .before .before .args in
+    let ·parentage = c .before .before .before .before .before .parentage in (
+      ·pre .0 .sound,
+      parent-in (·args .cat .now) (·args .tab .now) (·args .pos) (·pre .0 .position)
+          (·parentage .given .0 .0) (·parentage .given .1),
+    )
+
+first-match-requires : tie.Need-first-match-requires
+first-match-requires c κs =
+    let ·args = c .before .before .before .before .before .before .before .before .before .before .before .before .args
+    in (
+      search-good (c .before .before .before .before .before .before .before .before .before .before .before .before .pre
+          .0) (c .before .before .before .last-of .result .code)
+          (ap (λ (a : Argument). a .code) (c .before .before .before .last-of .ensures)),
+      omega (
+        arith,
+        c .run-end .ensures,
+        listing-length (·args .cat .now) (·args .tab .now),
+        end-within (·args .cat .now)
+            (listing (·args .cat .now) (·args .tab .now))
+            (c .before .before .before .before .before .before .parentage .given .0 .0 .0)
+            (omega (
+              arith,
+              listing-length (·args .cat .now) (·args .tab .now),
+              parent-in (·args .cat .now) (·args .tab .now)
+                  (·args .pos) (c .before .before .before .before .before .before .before .before .before .before .before .before .pre
+                  .0 .position) (c .before .before .before .before .before .before .parentage .given .0 .0)
+                  (c .before .before .before .before .before .before .parentage .given .1),
+            )),
+      ),
+    )
+
+enum-known-c : tie.Need-enum-known-c
+enum-known-c c = search needs
+
+enum-told-2 : tie.Need-enum-told-2
+enum-told-2 c = search needs
+
+missed-requires-2 : tie.Need-missed-requires-2
+missed-requires-2 c κs = search needs
+
+returns-3 : tie.Need-returns-3
+returns-3 c =
+    let ·args = c .before .before .before .before .before .before .before .before .before .before .before .before
+    .before .before .before .before .args in
+    let ·pre = c .before .before .before .before .before .before .before .before .before .before .before .before .before
+    .before .before .before .pre in let ·last-of = c .before .before .before .before .before .before .before .last-of in
+    let ·first-match = c .before .before .before .first-match in
+    let ·after-place = c .before .before .before .before .before .after-place in
+    let ·run-end = c .before .before .before .before .run-end in
+    let ·parentage = c .before .before .before .before .before .before .before .before .before .before .parentage in
+    ap (λ (r : Answer). left r (·args .area .now)) (c .missed2 .ensures) ∙ within-missed (·pre .0) (·args .area .now)
+    (·args .hold) (·last-of .result .code) (·first-match .result) (ap (λ (a : Argument). a .code) (·last-of .ensures))
+    (·after-place .result) (·after-place .ensures) (·run-end .result .0) (·first-match .ensures)
+    (·parentage .given .0 .0) (·parentage .given .1) (·run-end .ensures) (c .before .enum-told2 .given .1)
+
+level-status-requires : tie.Need-level-status-requires
+level-status-requires c κs =
+    let ·args = c .before .before .before .before .before .before .before .before .before .before .before .before
+    .before .before .before .before .args in (
+      c .before .before .before .before .before .before .before .before .before .before .before .before .before .before
+          .before .before .pre .0,
+      omega (
+        arith,
+        first-in (·args .cat .now) (listing (·args .cat .now) (·args .tab .now))
+            (complete (·args .cat .now) (·args .list .now) (listRead (·args .cat .now) (·args .list .now) .arguments)
+            (c .before .before .before .before .before .before .before .last-of .result .code))
+            (c .before .before .before .before .before .after-place .result)
+            (c .before .before .before .before .run-end .result .0) (c .before .c .given .0 .0)
+            (sym (c .before .before .before .first-match .ensures) ∙ c .before .c .given .1),
+        c .before .before .before .before .run-end .ensures,
+        listing-length (·args .cat .now) (·args .tab .now),
+        end-within
+            (·args .cat .now) (listing (·args .cat .now) (·args .tab .now))
+            (c .before .before .before .before .before .before .before .before .before .before .parentage .given .0 .0 .0)
+            (omega (
+              arith,
+              listing-length (·args .cat .now) (·args .tab .now),
+              parent-in (·args .cat .now) (·args .tab .now)
+                  (·args .pos) (c .before .before .before .before .before .before .before .before .before .before .before .before
+                  .before .before .before .before .pre .0 .position)
+                  (c .before .before .before .before .before .before .before .before .before .before .parentage .given .0 .0)
+                  (c .before .before .before .before .before .before .before .before .before .before .parentage .given .1),
+            )),
+      ),
+    )
+
+got-requires : tie.Need-got-requires
+got-requires c κs =
+    let ·args = c .before .before .before .before .before .before .before .before .before .before .before .before
+    .before .before .before .before .before .before .args in (
+      c .before .before .before .before .before .before .before .before .before .before .before .before .before .before
+          .before .before .before .before .pre .0 .sound,
+      omega (
+        arith,
+        first-in (·args .cat .now) (listing (·args .cat .now) (·args .tab .now))
+            (complete (·args .cat .now) (·args .list .now) (listRead (·args .cat .now) (·args .list .now) .arguments)
+            (c .before .before .before .before .before .before .before .before .before .last-of .result .code))
+            (c .before .before .before .before .before .before .before .after-place .result)
+            (c .before .before .before .before .before .before .run-end .result .0) (c .before .before .before .c .given .0 .0)
+            (sym (c .before .before .before .before .before .first-match .ensures) ∙ c .before .before .before .c .given .1),
+        c .before .before .before .before .before .before .run-end .ensures,
+        listing-length (·args .cat .now)
+            (·args .tab .now),
+        end-within (·args .cat .now) (listing (·args .cat .now) (·args .tab .now))
+            (c .before .before .before .before .before .before .before .before .before .before .before .before .parentage .given
+            .0 .0 .0) (omega (
+              arith,
+              listing-length (·args .cat .now) (·args .tab .now),
+              parent-in (·args .cat .now)
+                  (·args .tab .now) (·args .pos) (c .before .before .before .before .before .before .before .before .before .before
+                  .before .before .before .before .before .before .before .before .pre .0 .position)
+                  (c .before .before .before .before .before .before .before .before .before .before .before .before .parentage .given
+                  .0 .0) (c .before .before .before .before .before .before .before .before .before .before .before .before .parentage
+                  .given .1),
+            )),
+      ),
+      c .before .before .before .before .before .before .before .before .before .before .before .before
+          .before .before .before .before .before .before .pre .1,
+    )
+
+same-length-2 : tie.Need-same-length-2
+same-length-2 c = search needs
+
+returns-4 : tie.Need-returns-4
+returns-4 c = let ·got = c .before .before .got in
+    let ·pre = c .before .before .before .before .before .before .before .before .before .before .before .before .before
+    .before .before .before .before .before .before .before .before .pre in
+    let ·args = c .before .before .before .before .before .before .before .before .before .before .before .before
+    .before .before .before .before .before .before .before .before .before .args in
+    let ·last-of = c .before .before .before .before .before .before .before .before .before .before .before .before
+    .last-of in let ·first-match = c .before .before .before .before .before .before .before .before .first-match in
+    let ·after-place = c .before .before .before .before .before .before .before .before .before .before .after-place in
+    let ·run-end = c .before .before .before .before .before .before .before .before .before .run-end in
+    let ·parentage = c .before .before .before .before .before .before .before .before .before .before .before .before
+    .before .before .before .parentage in let ·c = c .before .before .before .before .before .before .c in
+    let ·level-status = c .before .before .before .before .level-status in
+    ·got .ensures ∙ within-found (·pre .0) (·args .area .now) (·args .hold) (·last-of .result .code)
+    (·first-match .result) (ap (λ (a : Argument). a .code) (·last-of .ensures)) (·after-place .result)
+    (·after-place .ensures) (·run-end .result .0) (·first-match .ensures) (·parentage .given .0 .0) (·c .given .0 .0)
+    (·level-status .result) (·parentage .given .1) (·run-end .ensures) (·c .given .1) (·level-status .ensures)
 
 pub get-next-within-spec : {M : Type 1} → statement M
 get-next-within-spec =
     tie.close
     (tie.spec
-    (λ c. search needs)
-    (λ c. search needs)
-    (λ c κs. search needs)
-    (λ c. absurd (absent-not (c .before .before .before .before .before .before .before .args .pos) (c .before .enum-told .given .1) (c .before .before .before .before .before .before .before .pre .2)))
-    (λ c κs. search needs)
-    (λ c. search needs)
-    (λ c. search needs)
-    (λ c κs. search needs)
-    (λ c κs. omega (arith, after-in (c .before .before .before .before .before .before .before .before .before .before .args .cat .now) (c .before .before .before .before .before .before .before .before .before .before .args .tab .now) (c .before .before .before .before .before .before .before .before .before .before .args .pos) (c .before .before .before .before .before .before .before .before .before .before .pre .0 .position), c .before .before .before .before .before .before .before .before .before .before .pre .0 .sound .sized .few))
-    (λ c κs. (c .before .before .before .before .before .before .before .before .before .before .before .pre .0 .sound, parent-in (c .before .before .before .before .before .before .before .before .before .before .before .args .cat .now) (c .before .before .before .before .before .before .before .before .before .before .before .args .tab .now) (c .before .before .before .before .before .before .before .before .before .before .before .args .pos) (c .before .before .before .before .before .before .before .before .before .before .before .pre .0 .position) (c .before .before .before .before .before .parentage .given .0 .0) (c .before .before .before .before .before .parentage .given .1)))
-    (λ c κs. (search-good (c .before .before .before .before .before .before .before .before .before .before .before .before .pre .0) (c .before .before .before .last-of .result .code) (ap (λ (a : Argument). a .code) (c .before .before .before .last-of .ensures)), omega (arith, c .run-end .ensures, listing-length (c .before .before .before .before .before .before .before .before .before .before .before .before .args .cat .now) (c .before .before .before .before .before .before .before .before .before .before .before .before .args .tab .now), end-within (c .before .before .before .before .before .before .before .before .before .before .before .before .args .cat .now) (listing (c .before .before .before .before .before .before .before .before .before .before .before .before .args .cat .now) (c .before .before .before .before .before .before .before .before .before .before .before .before .args .tab .now)) (c .before .before .before .before .before .before .parentage .given .0 .0 .0) (omega (arith, listing-length (c .before .before .before .before .before .before .before .before .before .before .before .before .args .cat .now) (c .before .before .before .before .before .before .before .before .before .before .before .before .args .tab .now), parent-in (c .before .before .before .before .before .before .before .before .before .before .before .before .args .cat .now) (c .before .before .before .before .before .before .before .before .before .before .before .before .args .tab .now) (c .before .before .before .before .before .before .before .before .before .before .before .before .args .pos) (c .before .before .before .before .before .before .before .before .before .before .before .before .pre .0 .position) (c .before .before .before .before .before .before .parentage .given .0 .0) (c .before .before .before .before .before .before .parentage .given .1))))))
-    (λ c. search needs)
-    (λ c. search needs)
-    (λ c κs. search needs)
-    (λ c. ap (λ (r : Answer). left r (c .before .before .before .before .before .before .before .before .before .before .before .before .before .before .before .before .args .area .now)) (c .missed2 .ensures) ∙ within-missed (c .before .before .before .before .before .before .before .before .before .before .before .before .before .before .before .before .pre .0) (c .before .before .before .before .before .before .before .before .before .before .before .before .before .before .before .before .args .area .now) (c .before .before .before .before .before .before .before .before .before .before .before .before .before .before .before .before .args .hold) (c .before .before .before .before .before .before .before .last-of .result .code) (c .before .before .before .first-match .result) (ap (λ (a : Argument). a .code) (c .before .before .before .before .before .before .before .last-of .ensures)) (c .before .before .before .before .before .after-place .result) (c .before .before .before .before .before .after-place .ensures) (c .before .before .before .before .run-end .result .0) (c .before .before .before .first-match .ensures) (c .before .before .before .before .before .before .before .before .before .before .parentage .given .0 .0) (c .before .before .before .before .before .before .before .before .before .before .parentage .given .1) (c .before .before .before .before .run-end .ensures) (c .before .enum-told2 .given .1))
-    (λ c κs. (c .before .before .before .before .before .before .before .before .before .before .before .before .before .before .before .before .pre .0, omega (arith, first-in (c .before .before .before .before .before .before .before .before .before .before .before .before .before .before .before .before .args .cat .now) (listing (c .before .before .before .before .before .before .before .before .before .before .before .before .before .before .before .before .args .cat .now) (c .before .before .before .before .before .before .before .before .before .before .before .before .before .before .before .before .args .tab .now)) (complete (c .before .before .before .before .before .before .before .before .before .before .before .before .before .before .before .before .args .cat .now) (c .before .before .before .before .before .before .before .before .before .before .before .before .before .before .before .before .args .list .now) (listRead (c .before .before .before .before .before .before .before .before .before .before .before .before .before .before .before .before .args .cat .now) (c .before .before .before .before .before .before .before .before .before .before .before .before .before .before .before .before .args .list .now) .arguments) (c .before .before .before .before .before .before .before .last-of .result .code)) (c .before .before .before .before .before .after-place .result) (c .before .before .before .before .run-end .result .0) (c .before .c .given .0 .0) (sym (c .before .before .before .first-match .ensures) ∙ c .before .c .given .1), c .before .before .before .before .run-end .ensures, listing-length (c .before .before .before .before .before .before .before .before .before .before .before .before .before .before .before .before .args .cat .now) (c .before .before .before .before .before .before .before .before .before .before .before .before .before .before .before .before .args .tab .now), end-within (c .before .before .before .before .before .before .before .before .before .before .before .before .before .before .before .before .args .cat .now) (listing (c .before .before .before .before .before .before .before .before .before .before .before .before .before .before .before .before .args .cat .now) (c .before .before .before .before .before .before .before .before .before .before .before .before .before .before .before .before .args .tab .now)) (c .before .before .before .before .before .before .before .before .before .before .parentage .given .0 .0 .0) (omega (arith, listing-length (c .before .before .before .before .before .before .before .before .before .before .before .before .before .before .before .before .args .cat .now) (c .before .before .before .before .before .before .before .before .before .before .before .before .before .before .before .before .args .tab .now), parent-in (c .before .before .before .before .before .before .before .before .before .before .before .before .before .before .before .before .args .cat .now) (c .before .before .before .before .before .before .before .before .before .before .before .before .before .before .before .before .args .tab .now) (c .before .before .before .before .before .before .before .before .before .before .before .before .before .before .before .before .args .pos) (c .before .before .before .before .before .before .before .before .before .before .before .before .before .before .before .before .pre .0 .position) (c .before .before .before .before .before .before .before .before .before .before .parentage .given .0 .0) (c .before .before .before .before .before .before .before .before .before .before .parentage .given .1))))))
-    (λ c κs. (c .before .before .before .before .before .before .before .before .before .before .before .before .before .before .before .before .before .before .pre .0 .sound, omega (arith, first-in (c .before .before .before .before .before .before .before .before .before .before .before .before .before .before .before .before .before .before .args .cat .now) (listing (c .before .before .before .before .before .before .before .before .before .before .before .before .before .before .before .before .before .before .args .cat .now) (c .before .before .before .before .before .before .before .before .before .before .before .before .before .before .before .before .before .before .args .tab .now)) (complete (c .before .before .before .before .before .before .before .before .before .before .before .before .before .before .before .before .before .before .args .cat .now) (c .before .before .before .before .before .before .before .before .before .before .before .before .before .before .before .before .before .before .args .list .now) (listRead (c .before .before .before .before .before .before .before .before .before .before .before .before .before .before .before .before .before .before .args .cat .now) (c .before .before .before .before .before .before .before .before .before .before .before .before .before .before .before .before .before .before .args .list .now) .arguments) (c .before .before .before .before .before .before .before .before .before .last-of .result .code)) (c .before .before .before .before .before .before .before .after-place .result) (c .before .before .before .before .before .before .run-end .result .0) (c .before .before .before .c .given .0 .0) (sym (c .before .before .before .before .before .first-match .ensures) ∙ c .before .before .before .c .given .1), c .before .before .before .before .before .before .run-end .ensures, listing-length (c .before .before .before .before .before .before .before .before .before .before .before .before .before .before .before .before .before .before .args .cat .now) (c .before .before .before .before .before .before .before .before .before .before .before .before .before .before .before .before .before .before .args .tab .now), end-within (c .before .before .before .before .before .before .before .before .before .before .before .before .before .before .before .before .before .before .args .cat .now) (listing (c .before .before .before .before .before .before .before .before .before .before .before .before .before .before .before .before .before .before .args .cat .now) (c .before .before .before .before .before .before .before .before .before .before .before .before .before .before .before .before .before .before .args .tab .now)) (c .before .before .before .before .before .before .before .before .before .before .before .before .parentage .given .0 .0 .0) (omega (arith, listing-length (c .before .before .before .before .before .before .before .before .before .before .before .before .before .before .before .before .before .before .args .cat .now) (c .before .before .before .before .before .before .before .before .before .before .before .before .before .before .before .before .before .before .args .tab .now), parent-in (c .before .before .before .before .before .before .before .before .before .before .before .before .before .before .before .before .before .before .args .cat .now) (c .before .before .before .before .before .before .before .before .before .before .before .before .before .before .before .before .before .before .args .tab .now) (c .before .before .before .before .before .before .before .before .before .before .before .before .before .before .before .before .before .before .args .pos) (c .before .before .before .before .before .before .before .before .before .before .before .before .before .before .before .before .before .before .pre .0 .position) (c .before .before .before .before .before .before .before .before .before .before .before .before .parentage .given .0 .0) (c .before .before .before .before .before .before .before .before .before .before .before .before .parentage .given .1)))), c .before .before .before .before .before .before .before .before .before .before .before .before .before .before .before .before .before .before .pre .1))
-    (λ c. search needs)
-    (λ c. c .before .before .got .ensures ∙ within-found (c .before .before .before .before .before .before .before .before .before .before .before .before .before .before .before .before .before .before .before .before .before .pre .0) (c .before .before .before .before .before .before .before .before .before .before .before .before .before .before .before .before .before .before .before .before .before .args .area .now) (c .before .before .before .before .before .before .before .before .before .before .before .before .before .before .before .before .before .before .before .before .before .args .hold) (c .before .before .before .before .before .before .before .before .before .before .before .before .last-of .result .code) (c .before .before .before .before .before .before .before .before .first-match .result) (ap (λ (a : Argument). a .code) (c .before .before .before .before .before .before .before .before .before .before .before .before .last-of .ensures)) (c .before .before .before .before .before .before .before .before .before .before .after-place .result) (c .before .before .before .before .before .before .before .before .before .before .after-place .ensures) (c .before .before .before .before .before .before .before .before .before .run-end .result .0) (c .before .before .before .before .before .before .before .before .first-match .ensures) (c .before .before .before .before .before .before .before .before .before .before .before .before .before .before .before .parentage .given .0 .0) (c .before .before .before .before .before .before .c .given .0 .0) (c .before .before .before .before .level-status .result) (c .before .before .before .before .before .before .before .before .before .before .before .before .before .before .before .parentage .given .1) (c .before .before .before .before .before .before .before .before .before .run-end .ensures) (c .before .before .before .before .before .before .c .given .1) (c .before .before .before .before .level-status .ensures)))
+    enum-known-parentage
+    enum-told
+    missed-requires
+    returns
+    get-next-cell-within-requires
+    same-length
+    returns-2
+    last-of-requires
+    after-place-requires
+    run-end-requires
+    first-match-requires
+    enum-known-c
+    enum-told-2
+    missed-requires-2
+    returns-3
+    level-status-requires
+    got-requires
+    same-length-2
+    returns-4)

@@ -4,21 +4,80 @@ use Rattle.terms.specs.declared.Answer.{Answer}
 use native.Mathlib.Omega.{arith}
 use Rattle.terms.specs.declared.Argument.{Argument}
 use Rattle.gets.proofs.Found.{place-good, along-in}
-use Rattle.gets.proofs.Laws.{search-good, unique-found, unique-missed}
+use Rattle.gets.proofs.Gotten.{search-good, unique-found, unique-missed}
 use borrow.Author.Needs.{needs}
 use Rattle.gets.proofs.get_unique.Statement.{statement}
 use Rattle.gets.proofs.get_unique.Tie as tie
+
+last-of-requires : tie.Need-last-of-requires
+last-of-requires c κs = search needs
+
+along-requires : tie.Need-along-requires
+along-requires c κs = let ·pre = c .before .before .before .before .before .before .pre in
+    let ·args = c .before .before .before .before .before .before .args in (
+      search-good (·pre .0) (c .before .last-of .result .code)
+          (ap (λ (a : Argument). a .code) (c .before .last-of .ensures)),
+      place-good (·args .cat .now) (·args .tab .now)
+          (·args .pos) (·pre .0 .position),
+    )
+
+enum-known-c : tie.Need-enum-known-c
+enum-known-c c = search needs
+
+enum-told : tie.Need-enum-told
+enum-told c = search needs
+
+missed-requires : tie.Need-missed-requires
+missed-requires c κs = search needs
+
+returns : tie.Need-returns
+returns c = let ·args = c .before .before .before .before .before .before .before .before .before .before .args in
+    let ·pre = c .before .before .before .before .before .before .before .before .before .before .pre in
+    let ·last-of = c .before .before .before .before .before .last-of in
+    let ·along = c .before .before .before .along in
+    ap (λ (r : Answer). left r (·args .area .now)) (c .missed .ensures) ∙ unique-missed (·pre .0) (·args .area .now)
+    (·args .hold) (·last-of .result .code) (·along .result) (ap (λ (a : Argument). a .code) (·last-of .ensures))
+    (·along .ensures) (c .before .enum-told .given .1)
+
+got-requires : tie.Need-got-requires
+got-requires c κs =
+    let ·pre = c .before .before .before .before .before .before .before .before .before .before .before .pre in
+    let ·last-of = c .before .before .before .before .before .before .last-of in
+    let ·args = c .before .before .before .before .before .before .before .before .before .before .before .args in
+    let ·c = c .before .before .c in let ·along = c .before .before .before .before .along in (
+      ·pre .0 .sound,
+      along-in (search-good (·pre .0) (·last-of .result .code)
+          (ap (λ (a : Argument). a .code) (·last-of .ensures))) (·args .pos .place) (·c .given .0 .0)
+          (place-good (·args .cat .now) (·args .tab .now) (·args .pos) (·pre .0 .position))
+          (sym (·along .ensures) ∙ ·c .given .1),
+      ·pre .1,
+    )
+
+same-length : tie.Need-same-length
+same-length c = search needs
+
+returns-2 : tie.Need-returns-2
+returns-2 c = let ·got = c .before .before .got in
+    let ·pre = c .before .before .before .before .before .before .before .before .before .before .before .before .before
+    .before .pre in
+    let ·args = c .before .before .before .before .before .before .before .before .before .before .before .before
+    .before .before .args in
+    let ·last-of = c .before .before .before .before .before .before .before .before .before .last-of in
+    let ·along = c .before .before .before .before .before .before .before .along in
+    let ·c = c .before .before .before .before .before .c in
+    ·got .ensures ∙ unique-found (·pre .0) (·args .area .now) (·args .hold) (·last-of .result .code) (·along .result)
+    (ap (λ (a : Argument). a .code) (·last-of .ensures)) (·along .ensures) (·c .given .0 .0) (·c .given .1)
 
 pub get-unique-spec : {M : Type 1} → statement M
 get-unique-spec =
     tie.close
     (tie.spec
-    (λ c κs. search needs)
-    (λ c κs. (search-good (c .before .before .before .before .before .before .pre .0) (c .before .last-of .result .code) (ap (λ (a : Argument). a .code) (c .before .last-of .ensures)), place-good (c .before .before .before .before .before .before .args .cat .now) (c .before .before .before .before .before .before .args .tab .now) (c .before .before .before .before .before .before .args .pos) (c .before .before .before .before .before .before .pre .0 .position)))
-    (λ c. search needs)
-    (λ c. search needs)
-    (λ c κs. search needs)
-    (λ c. ap (λ (r : Answer). left r (c .before .before .before .before .before .before .before .before .before .before .args .area .now)) (c .missed .ensures) ∙ unique-missed (c .before .before .before .before .before .before .before .before .before .before .pre .0) (c .before .before .before .before .before .before .before .before .before .before .args .area .now) (c .before .before .before .before .before .before .before .before .before .before .args .hold) (c .before .before .before .before .before .last-of .result .code) (c .before .before .before .along .result) (ap (λ (a : Argument). a .code) (c .before .before .before .before .before .last-of .ensures)) (c .before .before .before .along .ensures) (c .before .enum-told .given .1))
-    (λ c κs. (c .before .before .before .before .before .before .before .before .before .before .before .pre .0 .sound, along-in (search-good (c .before .before .before .before .before .before .before .before .before .before .before .pre .0) (c .before .before .before .before .before .before .last-of .result .code) (ap (λ (a : Argument). a .code) (c .before .before .before .before .before .before .last-of .ensures))) (c .before .before .before .before .before .before .before .before .before .before .before .args .pos .place) (c .before .before .c .given .0 .0) (place-good (c .before .before .before .before .before .before .before .before .before .before .before .args .cat .now) (c .before .before .before .before .before .before .before .before .before .before .before .args .tab .now) (c .before .before .before .before .before .before .before .before .before .before .before .args .pos) (c .before .before .before .before .before .before .before .before .before .before .before .pre .0 .position)) (sym (c .before .before .before .before .along .ensures) ∙ c .before .before .c .given .1), c .before .before .before .before .before .before .before .before .before .before .before .pre .1))
-    (λ c. search needs)
-    (λ c. c .before .before .got .ensures ∙ unique-found (c .before .before .before .before .before .before .before .before .before .before .before .before .before .before .pre .0) (c .before .before .before .before .before .before .before .before .before .before .before .before .before .before .args .area .now) (c .before .before .before .before .before .before .before .before .before .before .before .before .before .before .args .hold) (c .before .before .before .before .before .before .before .before .before .last-of .result .code) (c .before .before .before .before .before .before .before .along .result) (ap (λ (a : Argument). a .code) (c .before .before .before .before .before .before .before .before .before .last-of .ensures)) (c .before .before .before .before .before .before .before .along .ensures) (c .before .before .before .before .before .c .given .0 .0) (c .before .before .before .before .before .c .given .1)))
+    last-of-requires
+    along-requires
+    enum-known-c
+    enum-told
+    missed-requires
+    returns
+    got-requires
+    same-length
+    returns-2)

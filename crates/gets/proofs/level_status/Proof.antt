@@ -2,28 +2,177 @@ use mathlib.Core.Path.{_≡_, ap, sym, _∙_}
 use native.Mathlib.Omega.{arith}
 use borrow.Author.Needs.{needs}
 use Rattle.gets.proofs.Found.{on-place}
-use Rattle.gets.proofs.Laws.{status-named, status-gap, codes-same, codes-child, codes-sibling, levels-less, levels-more, levels-same}
-use borrow.Author.Needs.{needs}
+use Rattle.gets.proofs.Gotten.{status-named, status-gap, codes-same, codes-child, codes-sibling, levels-less, levels-more, levels-same}
 use Rattle.gets.proofs.level_status.Statement.{statement}
 use Rattle.gets.proofs.level_status.Tie as tie
+
+returns : tie.Need-returns
+returns c = let ·pre = c .before .before .before .before .pre in
+    let ·args = c .before .before .before .before .args in
+    status-named (·pre .0) (·args .c .0) (c .if1 .taken)
+
+enum-known-place : tie.Need-enum-known-place
+enum-known-place c = search needs
+
+enum-told : tie.Need-enum-told
+enum-told c = search needs
+
+returns-2 : tie.Need-returns-2
+returns-2 c = let ·pre = c .before .before .before .before .before .before .pre in
+    let ·args = c .before .before .before .before .before .before .args in let ·if1 = c .before .before .if1 in
+    status-gap (·pre .0) (·args .c .0) (c .enum-told .given .0 .0) (·if1 .left) (c .enum-told .given .1)
+
+code-at-requires : tie.Need-code-at-requires
+code-at-requires c κs = let ·pre = c .before .before .before .before .before .before .before .pre in
+    let ·args = c .before .before .before .before .before .before .before .args in (
+      ·pre .0 .sound .sized,
+      on-place (·args .cat .now) (·args .tab .now) (·args .pos) (·pre .0 .position)
+          (c .before .place .given .0 .0) (c .before .place .given .1),
+    )
+
+code-at-requires-2 : tie.Need-code-at-requires-2
+code-at-requires-2 c κs = search needs
+
+returns-3 : tie.Need-returns-3
+returns-3 c =
+    let ·pre = c .before .before .before .before .before .before .before .before .before .before .before .before .pre in
+    let ·args = c .before .before .before .before .before .before .before .before .before .before .before .before .args
+    in let ·place = c .before .before .before .before .before .before .place in
+    let ·code-at2 = c .before .before .before .code-at2 in let ·code-at = c .before .before .before .before .code-at in
+    let ·if1 = c .before .before .before .before .before .before .before .before .if1 in
+    codes-same (·pre .0) (·args .c .0) (·place .given .0 .0) (·code-at2 .result) (·code-at .result) (·if1 .left)
+    (·place .given .1) (·pre .1) (on-place (·args .cat .now) (·args .tab .now) (·args .pos) (·pre .0 .position)
+    (·place .given .0 .0) (·place .given .1)) (·code-at2 .ensures) (·code-at .ensures) (c .if2 .taken)
+
+parent-requires : tie.Need-parent-requires
+parent-requires c κs = search needs
+
+returns-4 : tie.Need-returns-4
+returns-4 c =
+    let ·pre = c .before .before .before .before .before .before .before .before .before .before .before .before .before
+    .before .before .pre in
+    let ·args = c .before .before .before .before .before .before .before .before .before .before .before .before
+    .before .before .before .args in
+    let ·place = c .before .before .before .before .before .before .before .before .before .place in
+    let ·code-at2 = c .before .before .before .before .before .before .code-at2 in
+    let ·code-at = c .before .before .before .before .before .before .before .code-at in
+    let ·if1 = c .before .before .before .before .before .before .before .before .before .before .before .if1 in
+    let ·parent = c .before .before .parent in
+    codes-child (·pre .0) (·args .c .0) (·place .given .0 .0) (·code-at2 .result) (·code-at .result) (·if1 .left)
+    (·place .given .1) (·pre .1) (on-place (·args .cat .now) (·args .tab .now) (·args .pos) (·pre .0 .position)
+    (·place .given .0 .0) (·place .given .1)) (·code-at2 .ensures) (·code-at .ensures) (·parent .result)
+    (·parent .ensures) (c .if3 .taken)
+
+parent-requires-2 : tie.Need-parent-requires-2
+parent-requires-2 c κs = search needs
+
+returns-5 : tie.Need-returns-5
+returns-5 c =
+    let ·pre = c .before .before .before .before .before .before .before .before .before .before .before .before .before
+    .before .before .before .before .before .pre in
+    let ·args = c .before .before .before .before .before .before .before .before .before .before .before .before
+    .before .before .before .before .before .before .args in
+    let ·place = c .before .before .before .before .before .before .before .before .before .before .before .before
+    .place in let ·code-at2 = c .before .before .before .before .before .before .before .before .before .code-at2 in
+    let ·code-at = c .before .before .before .before .before .before .before .before .before .before .code-at in
+    let ·if1 = c .before .before .before .before .before .before .before .before .before .before .before .before .before
+    .before .if1 in let ·parent = c .before .before .before .before .before .parent in
+    let ·parent2 = c .before .before .parent2 in let ·if2 = c .before .before .before .before .before .before .if2 in
+    codes-sibling (·pre .0) (·args .c .0) (·place .given .0 .0) (·code-at2 .result) (·code-at .result) (·if1 .left)
+    (·place .given .1) (·pre .1) (on-place (·args .cat .now) (·args .tab .now) (·args .pos) (·pre .0 .position)
+    (·place .given .0 .0) (·place .given .1)) (·code-at2 .ensures) (·code-at .ensures) (·parent .result)
+    (·parent .ensures) (·parent2 .result) (·parent2 .ensures) (·if2 .left) (c .if4 .taken)
+
+level-requires : tie.Need-level-requires
+level-requires c κs = search needs
+
+level-requires-2 : tie.Need-level-requires-2
+level-requires-2 c κs = search needs
+
+returns-6 : tie.Need-returns-6
+returns-6 c =
+    let ·pre = c .before .before .before .before .before .before .before .before .before .before .before .before .before
+    .before .before .before .before .before .before .before .before .pre in
+    let ·args = c .before .before .before .before .before .before .before .before .before .before .before .before
+    .before .before .before .before .before .before .before .before .before .args in
+    let ·place = c .before .before .before .before .before .before .before .before .before .before .before .before
+    .before .before .before .place in
+    let ·code-at2 = c .before .before .before .before .before .before .before .before .before .before .before .before
+    .code-at2 in
+    let ·code-at = c .before .before .before .before .before .before .before .before .before .before .before .before
+    .before .code-at in
+    let ·if1 = c .before .before .before .before .before .before .before .before .before .before .before .before .before
+    .before .before .before .before .if1 in let ·level = c .before .before .level in
+    levels-less (·pre .0) (·args .c .0) (·place .given .0 .0) (·code-at2 .result) (·code-at .result) (·if1 .left)
+    (·place .given .1) (·pre .1) (on-place (·args .cat .now) (·args .tab .now) (·args .pos) (·pre .0 .position)
+    (·place .given .0 .0) (·place .given .1)) (·code-at2 .ensures) (·code-at .ensures) (·level .result)
+    (c .before .level2 .result) (·level .ensures) (c .before .level2 .ensures) (c .if5 .taken)
+
+returns-7 : tie.Need-returns-7
+returns-7 c =
+    let ·pre = c .before .before .before .before .before .before .before .before .before .before .before .before .before
+    .before .before .before .before .before .before .before .before .before .pre in
+    let ·args = c .before .before .before .before .before .before .before .before .before .before .before .before
+    .before .before .before .before .before .before .before .before .before .before .args in
+    let ·place = c .before .before .before .before .before .before .before .before .before .before .before .before
+    .before .before .before .before .place in
+    let ·code-at2 = c .before .before .before .before .before .before .before .before .before .before .before .before
+    .before .code-at2 in
+    let ·code-at = c .before .before .before .before .before .before .before .before .before .before .before .before
+    .before .before .code-at in
+    let ·if1 = c .before .before .before .before .before .before .before .before .before .before .before .before .before
+    .before .before .before .before .before .if1 in let ·level = c .before .before .before .level in
+    let ·level2 = c .before .before .level2 in
+    levels-more (·pre .0) (·args .c .0) (·place .given .0 .0) (·code-at2 .result) (·code-at .result) (·if1 .left)
+    (·place .given .1) (·pre .1) (on-place (·args .cat .now) (·args .tab .now) (·args .pos) (·pre .0 .position)
+    (·place .given .0 .0) (·place .given .1)) (·code-at2 .ensures) (·code-at .ensures) (·level .result)
+    (·level2 .result) (·level .ensures) (·level2 .ensures) (c .if6 .taken)
+
+returns-8 : tie.Need-returns-8
+returns-8 c =
+    let ·args = c .before .before .before .before .before .before .before .before .before .before .before .before
+    .before .before .before .before .before .before .before .before .before .before .args in
+    levels-same (c .before .before .before .before .before .before .before .before .before .before .before .before
+    .before .before .before .before .before .before .before .before .before .before .pre .0) (·args .c .0)
+    (c .before .before .before .before .before .before .before .before .before .before .before .before .before .before
+    .before .before .place .given .0 .0) (c .before .before .before .before .before .before .before .before .before
+    .before .before .before .before .code-at2 .result)
+    (c .before .before .before .before .before .before .before .before .before .before .before .before .before .before
+    .code-at .result) (c .before .before .before .before .before .before .before .before .before .before .before .before
+    .before .before .before .before .before .before .if1 .left)
+    (c .before .before .before .before .before .before .before .before .before .before .before .before .before .before
+    .before .before .place .given .1) (c .before .before .before .before .before .before .before .before .before .before
+    .before .before .before .before .before .before .before .before .before .before .before .before .pre .1)
+    (on-place (·args .cat .now) (·args .tab .now) (·args .pos)
+    (c .before .before .before .before .before .before .before .before .before .before .before .before .before .before
+    .before .before .before .before .before .before .before .before .pre .0 .position)
+    (c .before .before .before .before .before .before .before .before .before .before .before .before .before .before
+    .before .before .place .given .0 .0) (c .before .before .before .before .before .before .before .before .before
+    .before .before .before .before .before .before .before .place .given .1))
+    (c .before .before .before .before .before .before .before .before .before .before .before .before .before .code-at2
+    .ensures) (c .before .before .before .before .before .before .before .before .before .before .before .before .before
+    .before .code-at .ensures) (c .before .before .before .level .result) (c .before .before .level2 .result)
+    (c .before .before .before .level .ensures) (c .before .before .level2 .ensures)
+    (c .before .before .before .before .before .before .before .before .before .before .if2 .left)
+    (omega (arith, c .before .if5 .left)) (omega (arith, c .if6 .left))
 
 pub level-status-spec : {M : Type 1} → statement M
 level-status-spec =
     tie.close
     (tie.spec
-    (λ c. status-named (c .before .before .before .before .pre .0) (c .before .before .before .before .args .c .0) (c .if1 .taken))
-    (λ c. search needs)
-    (λ c. search needs)
-    (λ c. status-gap (c .before .before .before .before .before .before .pre .0) (c .before .before .before .before .before .before .args .c .0) (c .enum-told .given .0 .0) (c .before .before .if1 .left) (c .enum-told .given .1))
-    (λ c κs. (c .before .before .before .before .before .before .before .pre .0 .sound .sized, on-place (c .before .before .before .before .before .before .before .args .cat .now) (c .before .before .before .before .before .before .before .args .tab .now) (c .before .before .before .before .before .before .before .args .pos) (c .before .before .before .before .before .before .before .pre .0 .position) (c .before .place .given .0 .0) (c .before .place .given .1)))
-    (λ c κs. search needs)
-    (λ c. codes-same (c .before .before .before .before .before .before .before .before .before .before .before .before .pre .0) (c .before .before .before .before .before .before .before .before .before .before .before .before .args .c .0) (c .before .before .before .before .before .before .place .given .0 .0) (c .before .before .before .code-at2 .result) (c .before .before .before .before .code-at .result) (c .before .before .before .before .before .before .before .before .if1 .left) (c .before .before .before .before .before .before .place .given .1) (c .before .before .before .before .before .before .before .before .before .before .before .before .pre .1) (on-place (c .before .before .before .before .before .before .before .before .before .before .before .before .args .cat .now) (c .before .before .before .before .before .before .before .before .before .before .before .before .args .tab .now) (c .before .before .before .before .before .before .before .before .before .before .before .before .args .pos) (c .before .before .before .before .before .before .before .before .before .before .before .before .pre .0 .position) (c .before .before .before .before .before .before .place .given .0 .0) (c .before .before .before .before .before .before .place .given .1)) (c .before .before .before .code-at2 .ensures) (c .before .before .before .before .code-at .ensures) (c .if2 .taken))
-    (λ c κs. search needs)
-    (λ c. codes-child (c .before .before .before .before .before .before .before .before .before .before .before .before .before .before .before .pre .0) (c .before .before .before .before .before .before .before .before .before .before .before .before .before .before .before .args .c .0) (c .before .before .before .before .before .before .before .before .before .place .given .0 .0) (c .before .before .before .before .before .before .code-at2 .result) (c .before .before .before .before .before .before .before .code-at .result) (c .before .before .before .before .before .before .before .before .before .before .before .if1 .left) (c .before .before .before .before .before .before .before .before .before .place .given .1) (c .before .before .before .before .before .before .before .before .before .before .before .before .before .before .before .pre .1) (on-place (c .before .before .before .before .before .before .before .before .before .before .before .before .before .before .before .args .cat .now) (c .before .before .before .before .before .before .before .before .before .before .before .before .before .before .before .args .tab .now) (c .before .before .before .before .before .before .before .before .before .before .before .before .before .before .before .args .pos) (c .before .before .before .before .before .before .before .before .before .before .before .before .before .before .before .pre .0 .position) (c .before .before .before .before .before .before .before .before .before .place .given .0 .0) (c .before .before .before .before .before .before .before .before .before .place .given .1)) (c .before .before .before .before .before .before .code-at2 .ensures) (c .before .before .before .before .before .before .before .code-at .ensures) (c .before .before .parent .result) (c .before .before .parent .ensures) (c .if3 .taken))
-    (λ c κs. search needs)
-    (λ c. codes-sibling (c .before .before .before .before .before .before .before .before .before .before .before .before .before .before .before .before .before .before .pre .0) (c .before .before .before .before .before .before .before .before .before .before .before .before .before .before .before .before .before .before .args .c .0) (c .before .before .before .before .before .before .before .before .before .before .before .before .place .given .0 .0) (c .before .before .before .before .before .before .before .before .before .code-at2 .result) (c .before .before .before .before .before .before .before .before .before .before .code-at .result) (c .before .before .before .before .before .before .before .before .before .before .before .before .before .before .if1 .left) (c .before .before .before .before .before .before .before .before .before .before .before .before .place .given .1) (c .before .before .before .before .before .before .before .before .before .before .before .before .before .before .before .before .before .before .pre .1) (on-place (c .before .before .before .before .before .before .before .before .before .before .before .before .before .before .before .before .before .before .args .cat .now) (c .before .before .before .before .before .before .before .before .before .before .before .before .before .before .before .before .before .before .args .tab .now) (c .before .before .before .before .before .before .before .before .before .before .before .before .before .before .before .before .before .before .args .pos) (c .before .before .before .before .before .before .before .before .before .before .before .before .before .before .before .before .before .before .pre .0 .position) (c .before .before .before .before .before .before .before .before .before .before .before .before .place .given .0 .0) (c .before .before .before .before .before .before .before .before .before .before .before .before .place .given .1)) (c .before .before .before .before .before .before .before .before .before .code-at2 .ensures) (c .before .before .before .before .before .before .before .before .before .before .code-at .ensures) (c .before .before .before .before .before .parent .result) (c .before .before .before .before .before .parent .ensures) (c .before .before .parent2 .result) (c .before .before .parent2 .ensures) (c .before .before .before .before .before .before .if2 .left) (c .if4 .taken))
-    (λ c κs. search needs)
-    (λ c κs. search needs)
-    (λ c. levels-less (c .before .before .before .before .before .before .before .before .before .before .before .before .before .before .before .before .before .before .before .before .before .pre .0) (c .before .before .before .before .before .before .before .before .before .before .before .before .before .before .before .before .before .before .before .before .before .args .c .0) (c .before .before .before .before .before .before .before .before .before .before .before .before .before .before .before .place .given .0 .0) (c .before .before .before .before .before .before .before .before .before .before .before .before .code-at2 .result) (c .before .before .before .before .before .before .before .before .before .before .before .before .before .code-at .result) (c .before .before .before .before .before .before .before .before .before .before .before .before .before .before .before .before .before .if1 .left) (c .before .before .before .before .before .before .before .before .before .before .before .before .before .before .before .place .given .1) (c .before .before .before .before .before .before .before .before .before .before .before .before .before .before .before .before .before .before .before .before .before .pre .1) (on-place (c .before .before .before .before .before .before .before .before .before .before .before .before .before .before .before .before .before .before .before .before .before .args .cat .now) (c .before .before .before .before .before .before .before .before .before .before .before .before .before .before .before .before .before .before .before .before .before .args .tab .now) (c .before .before .before .before .before .before .before .before .before .before .before .before .before .before .before .before .before .before .before .before .before .args .pos) (c .before .before .before .before .before .before .before .before .before .before .before .before .before .before .before .before .before .before .before .before .before .pre .0 .position) (c .before .before .before .before .before .before .before .before .before .before .before .before .before .before .before .place .given .0 .0) (c .before .before .before .before .before .before .before .before .before .before .before .before .before .before .before .place .given .1)) (c .before .before .before .before .before .before .before .before .before .before .before .before .code-at2 .ensures) (c .before .before .before .before .before .before .before .before .before .before .before .before .before .code-at .ensures) (c .before .before .level .result) (c .before .level2 .result) (c .before .before .level .ensures) (c .before .level2 .ensures) (c .if5 .taken))
-    (λ c. levels-more (c .before .before .before .before .before .before .before .before .before .before .before .before .before .before .before .before .before .before .before .before .before .before .pre .0) (c .before .before .before .before .before .before .before .before .before .before .before .before .before .before .before .before .before .before .before .before .before .before .args .c .0) (c .before .before .before .before .before .before .before .before .before .before .before .before .before .before .before .before .place .given .0 .0) (c .before .before .before .before .before .before .before .before .before .before .before .before .before .code-at2 .result) (c .before .before .before .before .before .before .before .before .before .before .before .before .before .before .code-at .result) (c .before .before .before .before .before .before .before .before .before .before .before .before .before .before .before .before .before .before .if1 .left) (c .before .before .before .before .before .before .before .before .before .before .before .before .before .before .before .before .place .given .1) (c .before .before .before .before .before .before .before .before .before .before .before .before .before .before .before .before .before .before .before .before .before .before .pre .1) (on-place (c .before .before .before .before .before .before .before .before .before .before .before .before .before .before .before .before .before .before .before .before .before .before .args .cat .now) (c .before .before .before .before .before .before .before .before .before .before .before .before .before .before .before .before .before .before .before .before .before .before .args .tab .now) (c .before .before .before .before .before .before .before .before .before .before .before .before .before .before .before .before .before .before .before .before .before .before .args .pos) (c .before .before .before .before .before .before .before .before .before .before .before .before .before .before .before .before .before .before .before .before .before .before .pre .0 .position) (c .before .before .before .before .before .before .before .before .before .before .before .before .before .before .before .before .place .given .0 .0) (c .before .before .before .before .before .before .before .before .before .before .before .before .before .before .before .before .place .given .1)) (c .before .before .before .before .before .before .before .before .before .before .before .before .before .code-at2 .ensures) (c .before .before .before .before .before .before .before .before .before .before .before .before .before .before .code-at .ensures) (c .before .before .before .level .result) (c .before .before .level2 .result) (c .before .before .before .level .ensures) (c .before .before .level2 .ensures) (c .if6 .taken))
-    (λ c. levels-same (c .before .before .before .before .before .before .before .before .before .before .before .before .before .before .before .before .before .before .before .before .before .before .pre .0) (c .before .before .before .before .before .before .before .before .before .before .before .before .before .before .before .before .before .before .before .before .before .before .args .c .0) (c .before .before .before .before .before .before .before .before .before .before .before .before .before .before .before .before .place .given .0 .0) (c .before .before .before .before .before .before .before .before .before .before .before .before .before .code-at2 .result) (c .before .before .before .before .before .before .before .before .before .before .before .before .before .before .code-at .result) (c .before .before .before .before .before .before .before .before .before .before .before .before .before .before .before .before .before .before .if1 .left) (c .before .before .before .before .before .before .before .before .before .before .before .before .before .before .before .before .place .given .1) (c .before .before .before .before .before .before .before .before .before .before .before .before .before .before .before .before .before .before .before .before .before .before .pre .1) (on-place (c .before .before .before .before .before .before .before .before .before .before .before .before .before .before .before .before .before .before .before .before .before .before .args .cat .now) (c .before .before .before .before .before .before .before .before .before .before .before .before .before .before .before .before .before .before .before .before .before .before .args .tab .now) (c .before .before .before .before .before .before .before .before .before .before .before .before .before .before .before .before .before .before .before .before .before .before .args .pos) (c .before .before .before .before .before .before .before .before .before .before .before .before .before .before .before .before .before .before .before .before .before .before .pre .0 .position) (c .before .before .before .before .before .before .before .before .before .before .before .before .before .before .before .before .place .given .0 .0) (c .before .before .before .before .before .before .before .before .before .before .before .before .before .before .before .before .place .given .1)) (c .before .before .before .before .before .before .before .before .before .before .before .before .before .code-at2 .ensures) (c .before .before .before .before .before .before .before .before .before .before .before .before .before .before .code-at .ensures) (c .before .before .before .level .result) (c .before .before .level2 .result) (c .before .before .before .level .ensures) (c .before .before .level2 .ensures) (c .before .before .before .before .before .before .before .before .before .before .if2 .left) (omega (arith, c .before .if5 .left)) (omega (arith, c .if6 .left))))
+    returns
+    enum-known-place
+    enum-told
+    returns-2
+    code-at-requires
+    code-at-requires-2
+    returns-3
+    parent-requires
+    returns-4
+    parent-requires-2
+    returns-5
+    level-requires
+    level-requires-2
+    returns-6
+    returns-7
+    returns-8)

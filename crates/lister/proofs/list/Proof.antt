@@ -15,31 +15,107 @@ Inv-loop cat tab out₀ pos₀ left₀ out pos left = SoundFor cat tab pos × (l
 abbrev μ-loop : tie.MeasureT-loop
 μ-loop cat tab out₀ pos₀ left₀ out pos left = left
 
+refusal-requires : tie.Need-refusal-requires Inv-loop μ-loop
+refusal-requires c κs = search needs
+
+number-requires : tie.Need-number-requires Inv-loop μ-loop
+number-requires c κs = search needs
+
+slice-aggregate-last-line : tie.Need-slice-aggregate-last-line Inv-loop μ-loop
+slice-aggregate-last-line c = search needs
+
+last-line-requires : tie.Need-last-line-requires Inv-loop μ-loop
+last-line-requires c κs = search needs
+
+array-share-prefix-out : tie.Need-array-share-prefix-out Inv-loop μ-loop
+array-share-prefix-out c = omega (arith, c .before .last-line .ensures .1, c .before .last-line .ensures .0 .long)
+
+slice-aggregate-write-all : tie.Need-slice-aggregate-write-all Inv-loop μ-loop
+slice-aggregate-write-all c = sym (length-take-le (c .before .before .last-line .result)
+    (c .before .before .last-line .last .0) (omega
+    (arith, c .before .before .last-line .ensures .1, c .before .before .last-line .ensures .0 .long)))
+
+write-all-requires : tie.Need-write-all-requires Inv-loop μ-loop
+write-all-requires c κs = search needs
+
+returns : tie.Need-returns Inv-loop μ-loop
+returns c = search needs
+
+fresh-requires : tie.Need-fresh-requires Inv-loop μ-loop
+fresh-requires c κs = search needs
+
+count-requires : tie.Need-count-requires Inv-loop μ-loop
+count-requires c κs = search needs
+
+add-left : tie.Need-add-left Inv-loop μ-loop
+add-left c = search needs
+
+loop-holds : tie.Need-loop-holds Inv-loop μ-loop
+loop-holds c = let ·refusal = c .before .before .before .before .refusal in
+    let ·number = c .before .before .before .number in let ·if1 = c .before .before .if1 in (
+      rw (c .before .fresh .ensures) (listing-starts _ _
+          (sym (ap number (·refusal .ensures)) ∙ sym (·number .ensures) ∙ ·if1 .left) .1),
+      refl,
+    )
+
+slice-aggregate-next-line : tie.Need-slice-aggregate-next-line Inv-loop μ-loop
+slice-aggregate-next-line c = search needs
+
+next-line-requires : tie.Need-next-line-requires Inv-loop μ-loop
+next-line-requires c κs = (c .before .before .loop .inv .0, omega arith)
+
+array-share-prefix-out-2 : tie.Need-array-share-prefix-out-2 Inv-loop μ-loop
+array-share-prefix-out-2 c = c .before .next-line .ensures .fits
+
+slice-aggregate-write-all-2 : tie.Need-slice-aggregate-write-all-2 Inv-loop μ-loop
+slice-aggregate-write-all-2 c = let ·next-line = c .before .before .next-line in
+    sym (length-take-le _ _ (·next-line .ensures .fits))
+
+write-all-requires-2 : tie.Need-write-all-requires-2 Inv-loop μ-loop
+write-all-requires-2 c κs = search needs
+
+returns-2 : tie.Need-returns-2 Inv-loop μ-loop
+returns-2 c = search needs
+
+sub-left : tie.Need-sub-left Inv-loop μ-loop
+sub-left c = search needs
+
+loop-less : tie.Need-loop-less Inv-loop μ-loop
+loop-less c = omega arith
+
+loop-again : tie.Need-loop-again Inv-loop μ-loop
+loop-again c = let ·next-line = c .before .before .before .before .before .next-line in
+    let ·loop = c .before .before .before .before .before .before .before .before .loop in
+    (·next-line .ensures .sound, ·next-line .ensures .text .long ∙ ·loop .inv .1)
+
+returns-3 : tie.Need-returns-3 Inv-loop μ-loop
+returns-3 c = search needs
+
 pub list-spec : {M : Type 1} → statement M
 list-spec =
     tie.close
     (tie.spec
     Inv-loop
     μ-loop
-    (λ c κs. search needs)
-    (λ c κs. search needs)
-    (λ c. search needs)
-    (λ c κs. search needs)
-    (λ c. omega (arith, c .before .last-line .ensures .1, c .before .last-line .ensures .0 .long))
-    (λ c. sym (length-take-le (c .before .before .last-line .result) (c .before .before .last-line .last .0) (omega (arith, c .before .before .last-line .ensures .1, c .before .before .last-line .ensures .0 .long))))
-    (λ c κs. search needs)
-    (λ c. search needs)
-    (λ c κs. search needs)
-    (λ c κs. search needs)
-    (λ c. search needs)
-    (λ c. (rw (c .before .fresh .ensures) (listing-starts _ _ (sym (ap number (c .before .before .before .before .refusal .ensures)) ∙ sym (c .before .before .before .number .ensures) ∙ c .before .before .if1 .left) .1), refl))
-    (λ c. search needs)
-    (λ c κs. (c .before .before .loop .inv .0, omega arith))
-    (λ c. c .before .next-line .ensures .fits)
-    (λ c. sym (length-take-le _ _ (c .before .before .next-line .ensures .fits)))
-    (λ c κs. search needs)
-    (λ c. search needs)
-    (λ c. search needs)
-    (λ c. omega arith)
-    (λ c. (c .before .before .before .before .before .next-line .ensures .sound, c .before .before .before .before .before .next-line .ensures .text .long ∙ c .before .before .before .before .before .before .before .before .loop .inv .1))
-    (λ c. search needs))
+    refusal-requires
+    number-requires
+    slice-aggregate-last-line
+    last-line-requires
+    array-share-prefix-out
+    slice-aggregate-write-all
+    write-all-requires
+    returns
+    fresh-requires
+    count-requires
+    add-left
+    loop-holds
+    slice-aggregate-next-line
+    next-line-requires
+    array-share-prefix-out-2
+    slice-aggregate-write-all-2
+    write-all-requires-2
+    returns-2
+    sub-left
+    loop-less
+    loop-again
+    returns-3)

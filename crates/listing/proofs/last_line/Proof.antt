@@ -5,6 +5,32 @@ use borrow.Author.Needs.{needs}
 use Rattle.listing.proofs.last_line.Statement.{statement}
 use Rattle.listing.proofs.last_line.Tie as tie
 
-pub last-line-spec : {M : Type 1} → statement M
+put-letters-requires : tie.Need-put-letters-requires
+put-letters-requires c κs = search needs
+
+put-byte-requires : tie.Need-put-byte-requires
+put-byte-requires c κs = search needs
+
+same-length : tie.Need-same-length
+same-length c = search needs
+
+returns : tie.Need-returns
 unfolding lastLine
-last-line-spec = tie.close (tie.spec (λ c κs. search needs) (λ c κs. search needs) (λ c. search needs) (λ c. (wrote-then (c .before .before .before .before .before .before .put-letters .ensures .0) (c .before .before .put-byte .ensures), omega (arith, c .before .before .before .before .before .before .put-letters .ensures .1, c .before .before .put-byte .ensures .place))))
+returns c = (
+  wrote-then (c .before .before .before .before .before .before .put-letters .ensures .0)
+      (c .before .before .put-byte .ensures),
+  omega (
+    arith,
+    c .before .before .before .before .before .before .put-letters .ensures .1,
+    c .before .before .put-byte .ensures .place,
+  ),
+)
+
+pub last-line-spec : {M : Type 1} → statement M
+last-line-spec =
+    tie.close
+    (tie.spec
+    put-letters-requires
+    put-byte-requires
+    same-length
+    returns)

@@ -3,7 +3,36 @@ use borrow.Author.Needs.{needs}
 use Rattle.listing.proofs.refusal.Statement.{statement}
 use Rattle.listing.proofs.refusal.Tie as tie
 
+check-requires : tie.Need-check-requires
+check-requires c κs = search needs
+
+number-requires : tie.Need-number-requires
+number-requires c κs = search needs
+
+returns : tie.Need-returns
+returns c = let ·check = c .before .before .check in
+    refused-first _ _ _ _ (·check .ensures) (c .before .number .ensures) (c .if1 .taken)
+
+returns-2 : tie.Need-returns-2
+returns-2 c = let ·check = c .before .before .before .check in let ·number = c .before .before .number in
+    refused-long _ _ _ _ (·check .ensures) (·number .ensures) (c .before .if1 .left) (c .if2 .taken)
+
+check-requires-2 : tie.Need-check-requires-2
+check-requires-2 c κs = search needs
+
+returns-3 : tie.Need-returns-3
+returns-3 c = let ·check = c .before .before .before .before .check in
+    let ·number = c .before .before .before .number in let ·if1 = c .before .before .if1 in
+    refused-table _ _ _ _ (·check .ensures) (·number .ensures) (·if1 .left) (c .before .if2 .left) _
+    (c .check2 .ensures)
+
 pub refusal-spec : {M : Type 1} → statement M
 refusal-spec =
     tie.close
-    (tie.spec (λ c κs. search needs) (λ c κs. search needs) (λ c. refused-first _ _ _ _ (c .before .before .check .ensures) (c .before .number .ensures) (c .if1 .taken)) (λ c. refused-long _ _ _ _ (c .before .before .before .check .ensures) (c .before .before .number .ensures) (c .before .if1 .left) (c .if2 .taken)) (λ c κs. search needs) (λ c. refused-table _ _ _ _ (c .before .before .before .before .check .ensures) (c .before .before .before .number .ensures) (c .before .before .if1 .left) (c .before .if2 .left) _ (c .check2 .ensures)))
+    (tie.spec
+    check-requires
+    number-requires
+    returns
+    returns-2
+    check-requires-2
+    returns-3)

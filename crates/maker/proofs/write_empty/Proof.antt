@@ -8,21 +8,70 @@ use borrow.Author.Needs.{needs}
 use Rattle.maker.proofs.write_empty.Statement.{statement}
 use Rattle.maker.proofs.write_empty.Tie as tie
 
+slice-write-tab : tie.Need-slice-write-tab
+slice-write-tab c = search needs
+
+slice-write-tab-2 : tie.Need-slice-write-tab-2
+slice-write-tab-2 c = simp length-set (omega arith)
+
+slice-write-tab-3 : tie.Need-slice-write-tab-3
+slice-write-tab-3 c = simp length-set (omega arith)
+
+slice-write-tab-4 : tie.Need-slice-write-tab-4
+slice-write-tab-4 c = simp length-set (omega arith)
+
+slice-write-tab-5 : tie.Need-slice-write-tab-5
+slice-write-tab-5 c = simp length-set (omega arith)
+
+slice-write-tab-6 : tie.Need-slice-write-tab-6
+slice-write-tab-6 c = simp length-set (omega arith)
+
+slice-write-tab-7 : tie.Need-slice-write-tab-7
+slice-write-tab-7 c = simp length-set (omega arith)
+
+slice-write-tab-8 : tie.Need-slice-write-tab-8
+slice-write-tab-8 c = search needs
+
+sub-clear : tie.Need-sub-clear
+sub-clear c = search needs
+
+part-clear-start : tie.Need-part-clear-start
+part-clear-start c = search needs
+
+part-clear-end : tie.Need-part-clear-end
+part-clear-end c = search needs
+
+clear-requires : tie.Need-clear-requires
+clear-requires c κs = search needs
+
+same-length : tie.Need-same-length
+same-length c = let ·args = c .before .before .before .before .before .args in
+    let ·clear = c .before .before .clear in let ·pre = c .before .before .before .before .before .pre in
+    ap length (lent-tail (λ (l : List ℕ). replicate (length l) 0) (headed (·args .size) (·args .tab .now))
+    (·clear .last .0) 8 (·clear .ensures) ∙ written (·args .size) (·args .tab .now) (·pre)) ∙ emptied-length
+    (·args .size) (·args .tab .now) (·pre)
+
+returns : tie.Need-returns
+returns c = let ·args = c .before .before .before .before .before .args in let ·clear = c .before .before .clear in
+    let ·pre = c .before .before .before .before .before .pre in
+    lent-tail (λ (l : List ℕ). replicate (length l) 0) (headed (·args .size) (·args .tab .now)) (·clear .last .0) 8
+    (·clear .ensures) ∙ written (·args .size) (·args .tab .now) (·pre)
+
 pub write-empty-spec : {M : Type 1} → statement M
 write-empty-spec =
     tie.close
     (tie.spec
-    (λ c. search needs)
-    (λ c. simp length-set (omega arith))
-    (λ c. simp length-set (omega arith))
-    (λ c. simp length-set (omega arith))
-    (λ c. simp length-set (omega arith))
-    (λ c. simp length-set (omega arith))
-    (λ c. simp length-set (omega arith))
-    (λ c. search needs)
-    (λ c. search needs)
-    (λ c. search needs)
-    (λ c. search needs)
-    (λ c κs. search needs)
-    (λ c. ap length (lent-tail (λ (l : List ℕ). replicate (length l) 0) (headed (c .before .before .before .before .before .args .size) (c .before .before .before .before .before .args .tab .now)) (c .before .before .clear .last .0) 8 (c .before .before .clear .ensures) ∙ written (c .before .before .before .before .before .args .size) (c .before .before .before .before .before .args .tab .now) (c .before .before .before .before .before .pre)) ∙ emptied-length (c .before .before .before .before .before .args .size) (c .before .before .before .before .before .args .tab .now) (c .before .before .before .before .before .pre))
-    (λ c. lent-tail (λ (l : List ℕ). replicate (length l) 0) (headed (c .before .before .before .before .before .args .size) (c .before .before .before .before .before .args .tab .now)) (c .before .before .clear .last .0) 8 (c .before .before .clear .ensures) ∙ written (c .before .before .before .before .before .args .size) (c .before .before .before .before .before .args .tab .now) (c .before .before .before .before .before .pre)))
+    slice-write-tab
+    slice-write-tab-2
+    slice-write-tab-3
+    slice-write-tab-4
+    slice-write-tab-5
+    slice-write-tab-6
+    slice-write-tab-7
+    slice-write-tab-8
+    sub-clear
+    part-clear-start
+    part-clear-end
+    clear-requires
+    same-length
+    returns)

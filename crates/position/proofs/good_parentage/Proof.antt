@@ -3,23 +3,105 @@ use lib.ListN.{length}
 use Prim.Native.Nat.{_<_}
 use Rattle.rules.specs.Table.{count, listing}
 use Rattle.rules.proofs.Cells.{listing-length}
-use Rattle.position.proofs.Laws.{on-in, before-in, on-not, on-yes, before-not, before-yes}
+use Rattle.position.proofs.Tests.{on-in, before-in, on-not, on-yes, before-not, before-yes}
 use borrow.Author.Needs.{needs}
 use Rattle.position.proofs.good_parentage.Statement.{statement}
 use Rattle.position.proofs.good_parentage.Tie as tie
+
+enum-known-p : tie.Need-enum-known-p
+enum-known-p c = search needs
+
+enum-told : tie.Need-enum-told
+enum-told c = search needs
+
+returns : tie.Need-returns
+returns c = search needs
+
+enum-known-q : tie.Need-enum-known-q
+enum-known-q c = search needs
+
+returns-2 : tie.Need-returns-2
+returns-2 c =
+    let ·args = c .before .before .before .before .before .before .before .before .before .before .before .args in
+    let ·q = c .before .before .before .before .q in
+    let ·p = c .before .before .before .before .before .before .before .p in
+    let ·pre = c .before .before .before .before .before .before .before .before .before .before .before .pre in
+    on-not (·args .cat .now) (listing (·args .cat .now) (·args .tab .now)) (·args .q) (·args .p) (·q .given .0 .0)
+    (·p .given .0 .0) (·p .given .1) (·q .given .1)
+    (rw listing-length (on-in (·args .cat .now) (·args .tab .now) (·args .q) (·q .given .0 .0) (·q .given .1)
+    (·pre .1))) (c .if1 .taken)
+
+run-end-requires : tie.Need-run-end-requires
+run-end-requires c κs =
+    let ·args = c .before .before .before .before .before .before .before .before .before .before .before .args in (
+      c .before .before .before .before .before .before .before .before .before .before .before .pre .0,
+      omega (
+        arith,
+        on-in (·args .cat .now) (·args .tab .now) (·args .q) (c .before .before .before .before .q .given .0 .0)
+            (c .before .before .before .before .q .given .1)
+            (c .before .before .before .before .before .before .before .before .before .before .before .pre .1),
+        c .if1 .left,
+      ),
+    )
+
+enum-known-q-2 : tie.Need-enum-known-q-2
+enum-known-q-2 c = search needs
+
+returns-3 : tie.Need-returns-3
+returns-3 c =
+    let ·args = c .before .before .before .before .before .before .before .before .before .before .before .args in
+    let ·q2 = c .before .before .before .before .q2 in
+    let ·p = c .before .before .before .before .before .before .before .p in
+    before-not (·args .cat .now) (listing (·args .cat .now) (·args .tab .now)) (·args .q) (·args .p) (·q2 .given .0 .0)
+    (·p .given .0 .0) (·p .given .1) (·q2 .given .1) (c .if2 .taken)
+
+run-end-requires-2 : tie.Need-run-end-requires-2
+run-end-requires-2 c κs =
+    let ·args = c .before .before .before .before .before .before .before .before .before .before .before .args in (
+      c .before .before .before .before .before .before .before .before .before .before .before .pre .0,
+      omega (
+        arith,
+        before-in (·args .cat .now) (·args .tab .now) (·args .q)
+            (c .before .before .before .before .q2 .given .0 .0) (c .before .before .before .before .q2 .given .1)
+            (c .before .before .before .before .before .before .before .before .before .before .before .pre .1),
+        c .if2 .left,
+      ),
+    )
+
+returns-4 : tie.Need-returns-4
+returns-4 c =
+    let ·args = c .before .before .before .before .before .before .before .before .before .before .before .before
+    .before .before .args in let ·q = c .before .before .before .before .before .before .before .q in
+    let ·p = c .before .before .before .before .before .before .before .before .before .before .p in
+    let ·run-end = c .before .before .run-end in
+    let ·pre = c .before .before .before .before .before .before .before .before .before .before .before .before .before
+    .before .pre in let ·if1 = c .before .before .before .if1 in
+    on-yes (·args .cat .now) (listing (·args .cat .now) (·args .tab .now)) (·args .q) (·args .p) (·q .given .0 .0)
+    (·p .given .0 .0) (·p .given .1) (·run-end .result .0) (·q .given .1)
+    (rw listing-length (on-in (·args .cat .now) (·args .tab .now) (·args .q) (·q .given .0 .0) (·q .given .1)
+    (·pre .1))) (·if1 .left) (·run-end .ensures)
+
+returns-5 : tie.Need-returns-5
+returns-5 c =
+    let ·args = c .before .before .before .before .before .before .before .before .before .before .before .before
+    .before .before .args in let ·q2 = c .before .before .before .before .before .before .before .q2 in
+    let ·p = c .before .before .before .before .before .before .before .before .before .before .p in
+    let ·run-end2 = c .before .before .run-end2 in let ·if2 = c .before .before .before .if2 in
+    before-yes (·args .cat .now) (listing (·args .cat .now) (·args .tab .now)) (·args .q) (·args .p) (·q2 .given .0 .0)
+    (·p .given .0 .0) (·p .given .1) (·run-end2 .result .0) (·q2 .given .1) (·if2 .left) (·run-end2 .ensures)
 
 pub good-parentage-spec : {M : Type 1} → statement M
 good-parentage-spec =
     tie.close
     (tie.spec
-    (λ c. search needs)
-    (λ c. search needs)
-    (λ c. search needs)
-    (λ c. search needs)
-    (λ c. on-not (c .before .before .before .before .before .before .before .before .before .before .before .args .cat .now) (listing (c .before .before .before .before .before .before .before .before .before .before .before .args .cat .now) (c .before .before .before .before .before .before .before .before .before .before .before .args .tab .now)) (c .before .before .before .before .before .before .before .before .before .before .before .args .q) (c .before .before .before .before .before .before .before .before .before .before .before .args .p) (c .before .before .before .before .q .given .0 .0) (c .before .before .before .before .before .before .before .p .given .0 .0) (c .before .before .before .before .before .before .before .p .given .1) (c .before .before .before .before .q .given .1) (rw listing-length (on-in (c .before .before .before .before .before .before .before .before .before .before .before .args .cat .now) (c .before .before .before .before .before .before .before .before .before .before .before .args .tab .now) (c .before .before .before .before .before .before .before .before .before .before .before .args .q) (c .before .before .before .before .q .given .0 .0) (c .before .before .before .before .q .given .1) (c .before .before .before .before .before .before .before .before .before .before .before .pre .1))) (c .if1 .taken))
-    (λ c κs. (c .before .before .before .before .before .before .before .before .before .before .before .pre .0, omega (arith, on-in (c .before .before .before .before .before .before .before .before .before .before .before .args .cat .now) (c .before .before .before .before .before .before .before .before .before .before .before .args .tab .now) (c .before .before .before .before .before .before .before .before .before .before .before .args .q) (c .before .before .before .before .q .given .0 .0) (c .before .before .before .before .q .given .1) (c .before .before .before .before .before .before .before .before .before .before .before .pre .1), c .if1 .left)))
-    (λ c. search needs)
-    (λ c. before-not (c .before .before .before .before .before .before .before .before .before .before .before .args .cat .now) (listing (c .before .before .before .before .before .before .before .before .before .before .before .args .cat .now) (c .before .before .before .before .before .before .before .before .before .before .before .args .tab .now)) (c .before .before .before .before .before .before .before .before .before .before .before .args .q) (c .before .before .before .before .before .before .before .before .before .before .before .args .p) (c .before .before .before .before .q2 .given .0 .0) (c .before .before .before .before .before .before .before .p .given .0 .0) (c .before .before .before .before .before .before .before .p .given .1) (c .before .before .before .before .q2 .given .1) (c .if2 .taken))
-    (λ c κs. (c .before .before .before .before .before .before .before .before .before .before .before .pre .0, omega (arith, before-in (c .before .before .before .before .before .before .before .before .before .before .before .args .cat .now) (c .before .before .before .before .before .before .before .before .before .before .before .args .tab .now) (c .before .before .before .before .before .before .before .before .before .before .before .args .q) (c .before .before .before .before .q2 .given .0 .0) (c .before .before .before .before .q2 .given .1) (c .before .before .before .before .before .before .before .before .before .before .before .pre .1), c .if2 .left)))
-    (λ c. on-yes (c .before .before .before .before .before .before .before .before .before .before .before .before .before .before .args .cat .now) (listing (c .before .before .before .before .before .before .before .before .before .before .before .before .before .before .args .cat .now) (c .before .before .before .before .before .before .before .before .before .before .before .before .before .before .args .tab .now)) (c .before .before .before .before .before .before .before .before .before .before .before .before .before .before .args .q) (c .before .before .before .before .before .before .before .before .before .before .before .before .before .before .args .p) (c .before .before .before .before .before .before .before .q .given .0 .0) (c .before .before .before .before .before .before .before .before .before .before .p .given .0 .0) (c .before .before .before .before .before .before .before .before .before .before .p .given .1) (c .before .before .run-end .result .0) (c .before .before .before .before .before .before .before .q .given .1) (rw listing-length (on-in (c .before .before .before .before .before .before .before .before .before .before .before .before .before .before .args .cat .now) (c .before .before .before .before .before .before .before .before .before .before .before .before .before .before .args .tab .now) (c .before .before .before .before .before .before .before .before .before .before .before .before .before .before .args .q) (c .before .before .before .before .before .before .before .q .given .0 .0) (c .before .before .before .before .before .before .before .q .given .1) (c .before .before .before .before .before .before .before .before .before .before .before .before .before .before .pre .1))) (c .before .before .before .if1 .left) (c .before .before .run-end .ensures))
-    (λ c. before-yes (c .before .before .before .before .before .before .before .before .before .before .before .before .before .before .args .cat .now) (listing (c .before .before .before .before .before .before .before .before .before .before .before .before .before .before .args .cat .now) (c .before .before .before .before .before .before .before .before .before .before .before .before .before .before .args .tab .now)) (c .before .before .before .before .before .before .before .before .before .before .before .before .before .before .args .q) (c .before .before .before .before .before .before .before .before .before .before .before .before .before .before .args .p) (c .before .before .before .before .before .before .before .q2 .given .0 .0) (c .before .before .before .before .before .before .before .before .before .before .p .given .0 .0) (c .before .before .before .before .before .before .before .before .before .before .p .given .1) (c .before .before .run-end2 .result .0) (c .before .before .before .before .before .before .before .q2 .given .1) (c .before .before .before .if2 .left) (c .before .before .run-end2 .ensures)))
+    enum-known-p
+    enum-told
+    returns
+    enum-known-q
+    returns-2
+    run-end-requires
+    enum-known-q-2
+    returns-3
+    run-end-requires-2
+    returns-4
+    returns-5)

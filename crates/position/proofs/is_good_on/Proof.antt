@@ -5,14 +5,48 @@ use borrow.Author.Needs.{needs}
 use Rattle.position.proofs.is_good_on.Statement.{statement}
 use Rattle.position.proofs.is_good_on.Tie as tie
 
-pub is-good-on-spec : {M : Type 1} → statement M
+good-place-requires : tie.Need-good-place-requires
+good-place-requires c κs = search needs
+
+returns : tie.Need-returns
 unfolding goodPosition
+returns c = simp (sym (c .before .good-place .ensures) ∙ not-true _ (c .if1 .taken))
+
+good-parentage-requires : tie.Need-good-parentage-requires
+unfolding goodPosition
+good-parentage-requires c κs = let ·pre = c .before .before .before .before .pre in
+    (·pre, sym (c .before .good-place .ensures) ∙ not-false _ (c .if1 .left))
+
+returns-2 : tie.Need-returns-2
+unfolding goodPosition
+returns-2 c = let ·good-place = c .before .before .before .good-place in let ·if1 = c .before .before .if1 in
+    simp (
+      sym (·good-place .ensures) ∙ not-false _ (·if1 .left),
+      sym (c .before .good-parentage .ensures) ∙ not-true _
+          (c .if2 .taken),
+    )
+
+good-hold-requires : tie.Need-good-hold-requires
+good-hold-requires c κs = search needs
+
+returns-3 : tie.Need-returns-3
+unfolding goodPosition
+returns-3 c = let ·good-place = c .before .before .before .before .good-place in
+    let ·if1 = c .before .before .before .if1 in let ·good-parentage = c .before .before .good-parentage in
+    simp (
+      sym (·good-place .ensures) ∙ not-false _ (·if1 .left),
+      sym (·good-parentage .ensures) ∙ not-false _
+          (c .before .if2 .left),
+      c .good-hold .ensures,
+    )
+
+pub is-good-on-spec : {M : Type 1} → statement M
 is-good-on-spec =
     tie.close
     (tie.spec
-    (λ c κs. search needs)
-    (λ c. simp (sym (c .before .good-place .ensures) ∙ not-true _ (c .if1 .taken)))
-    (λ c κs. (c .before .before .before .before .pre, sym (c .before .good-place .ensures) ∙ not-false _ (c .if1 .left)))
-    (λ c. simp (sym (c .before .before .before .good-place .ensures) ∙ not-false _ (c .before .before .if1 .left), sym (c .before .good-parentage .ensures) ∙ not-true _ (c .if2 .taken)))
-    (λ c κs. search needs)
-    (λ c. simp (sym (c .before .before .before .before .good-place .ensures) ∙ not-false _ (c .before .before .before .if1 .left), sym (c .before .before .good-parentage .ensures) ∙ not-false _ (c .before .if2 .left), c .good-hold .ensures)))
+    good-place-requires
+    returns
+    good-parentage-requires
+    returns-2
+    good-hold-requires
+    returns-3)

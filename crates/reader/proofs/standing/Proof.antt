@@ -1,7 +1,21 @@
-use Rattle.reader.proofs.Laws.{standing-start, standing-on}
+use Rattle.reader.proofs.Stepping.{standing-start, standing-on}
 use borrow.Author.Needs.{needs}
 use Rattle.reader.proofs.standing.Statement.{statement}
 use Rattle.reader.proofs.standing.Tie as tie
 
+returns : tie.Need-returns
+returns c = standing-start _ (c .if1 .taken)
+
+sub-t6 : tie.Need-sub-t6
+sub-t6 c = search needs
+
+returns-2 : tie.Need-returns-2
+returns-2 c = standing-on _ (c .if1 .left)
+
 pub standing-spec : {M : Type 1} → statement M
-standing-spec = tie.close (tie.spec (λ c. standing-start _ (c .if1 .taken)) (λ c. search needs) (λ c. standing-on _ (c .if1 .left)))
+standing-spec =
+    tie.close
+    (tie.spec
+    returns
+    sub-t6
+    returns-2)

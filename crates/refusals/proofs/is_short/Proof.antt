@@ -4,6 +4,21 @@ use borrow.Author.Needs.{needs}
 use Rattle.refusals.proofs.is_short.Statement.{statement}
 use Rattle.refusals.proofs.is_short.Tie as tie
 
-pub is-short-spec : {M : Type 1} → statement M
+returns : tie.Need-returns
 unfolding tooShort
-is-short-spec = tie.close (tie.spec (λ c. simp (eq-eqb _ _ (c .if1 .taken))) (λ c. search needs) (λ c. simp (ne-eqb _ _ (c .if1 .left))))
+returns c = simp (eq-eqb _ _ (c .if1 .taken))
+
+sub-result : tie.Need-sub-result
+sub-result c = search needs
+
+returns-2 : tie.Need-returns-2
+unfolding tooShort
+returns-2 c = simp (ne-eqb _ _ (c .if1 .left))
+
+pub is-short-spec : {M : Type 1} → statement M
+is-short-spec =
+    tie.close
+    (tie.spec
+    returns
+    sub-result
+    returns-2)

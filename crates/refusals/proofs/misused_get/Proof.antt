@@ -6,15 +6,56 @@ use borrow.Author.Needs.{needs}
 use Rattle.refusals.proofs.misused_get.Statement.{statement}
 use Rattle.refusals.proofs.misused_get.Tie as tie
 
-pub misused-get-spec : {M : Type 1} → statement M
+is-short-requires : tie.Need-is-short-requires
+is-short-requires c κs = search needs
+
+returns : tie.Need-returns
 unfolding misusedGet
+returns c = simp (sym (c .before .is-short .ensures) ∙ c .if1 .taken)
+
+is-within-requires : tie.Need-is-within-requires
+is-within-requires c κs = search needs
+
+returns-2 : tie.Need-returns-2
+unfolding misusedGet
+returns-2 c = let ·is-short = c .before .before .before .is-short in let ·if1 = c .before .before .if1 in
+    simp (sym (·is-short .ensures) ∙ ·if1 .left, sym (c .before .is-within .ensures) ∙ not-true _ (c .if2 .taken))
+
+is-absent-requires : tie.Need-is-absent-requires
+is-absent-requires c κs = search needs
+
+returns-3 : tie.Need-returns-3
+unfolding misusedGet
+returns-3 c = let ·is-short = c .before .before .before .before .before .is-short in
+    let ·if1 = c .before .before .before .before .if1 in let ·is-within = c .before .before .before .is-within in
+    let ·if2 = c .before .before .if2 in
+    simp (
+      sym (·is-short .ensures) ∙ ·if1 .left,
+      sym (·is-within .ensures) ∙ not-false _ (·if2 .left),
+      sym
+          (c .before .is-absent .ensures) ∙ c .if3 .taken,
+    )
+
+returns-4 : tie.Need-returns-4
+unfolding misusedGet
+returns-4 c = let ·is-short = c .before .before .before .before .before .is-short in
+    let ·if1 = c .before .before .before .before .if1 in let ·is-within = c .before .before .before .is-within in
+    let ·if2 = c .before .before .if2 in
+    simp (
+      sym (·is-short .ensures) ∙ ·if1 .left,
+      sym (·is-within .ensures) ∙ not-false _ (·if2 .left),
+      sym
+          (c .before .is-absent .ensures) ∙ c .if3 .left,
+    )
+
+pub misused-get-spec : {M : Type 1} → statement M
 misused-get-spec =
     tie.close
     (tie.spec
-    (λ c κs. search needs)
-    (λ c. simp (sym (c .before .is-short .ensures) ∙ c .if1 .taken))
-    (λ c κs. search needs)
-    (λ c. simp (sym (c .before .before .before .is-short .ensures) ∙ c .before .before .if1 .left, sym (c .before .is-within .ensures) ∙ not-true _ (c .if2 .taken)))
-    (λ c κs. search needs)
-    (λ c. simp (sym (c .before .before .before .before .before .is-short .ensures) ∙ c .before .before .before .before .if1 .left, sym (c .before .before .before .is-within .ensures) ∙ not-false _ (c .before .before .if2 .left), sym (c .before .is-absent .ensures) ∙ c .if3 .taken))
-    (λ c. simp (sym (c .before .before .before .before .before .is-short .ensures) ∙ c .before .before .before .before .if1 .left, sym (c .before .before .before .is-within .ensures) ∙ not-false _ (c .before .before .if2 .left), sym (c .before .is-absent .ensures) ∙ c .if3 .left)))
+    is-short-requires
+    returns
+    is-within-requires
+    returns-2
+    is-absent-requires
+    returns-3
+    returns-4)

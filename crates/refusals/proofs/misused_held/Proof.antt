@@ -5,6 +5,46 @@ use borrow.Author.Needs.{needs}
 use Rattle.refusals.proofs.misused_held.Statement.{statement}
 use Rattle.refusals.proofs.misused_held.Tie as tie
 
-pub misused-held-spec : {M : Type 1} → statement M
+returns : tie.Need-returns
 unfolding misusedHeld
-misused-held-spec = tie.close (tie.spec (λ c. simp (ne-eqb _ _ (c .if1 .taken))) (λ c κs. search needs) (λ c. simp (eq-eqb _ _ (c .before .before .if1 .left), sym (c .before .is-short .ensures) ∙ c .if2 .taken)) (λ c. simp (eq-eqb _ _ (c .before .before .before .if1 .left), sym (c .before .before .is-short .ensures) ∙ c .before .if2 .left, not-true (c .before .before .before .before .before .before .args .pos .hold) (c .if3 .taken))) (λ c. simp (eq-eqb _ _ (c .before .before .before .if1 .left), sym (c .before .before .is-short .ensures) ∙ c .before .if2 .left, not-false (c .before .before .before .before .before .before .args .pos .hold) (c .if3 .left))))
+returns c = simp (ne-eqb _ _ (c .if1 .taken))
+
+is-short-requires : tie.Need-is-short-requires
+is-short-requires c κs = search needs
+
+returns-2 : tie.Need-returns-2
+unfolding misusedHeld
+returns-2 c = let ·if1 = c .before .before .if1 in
+    simp (eq-eqb _ _ (·if1 .left), sym (c .before .is-short .ensures) ∙ c .if2 .taken)
+
+returns-3 : tie.Need-returns-3
+unfolding misusedHeld
+returns-3 c = let ·if1 = c .before .before .before .if1 in let ·is-short = c .before .before .is-short in
+    let ·args = c .before .before .before .before .before .before .args in
+    simp (
+      eq-eqb _ _ (·if1 .left),
+      sym (·is-short .ensures) ∙ c .before .if2 .left,
+      not-true (·args .pos .hold)
+          (c .if3 .taken),
+    )
+
+returns-4 : tie.Need-returns-4
+unfolding misusedHeld
+returns-4 c = let ·if1 = c .before .before .before .if1 in let ·is-short = c .before .before .is-short in
+    let ·args = c .before .before .before .before .before .before .args in
+    simp (
+      eq-eqb _ _ (·if1 .left),
+      sym (·is-short .ensures) ∙ c .before .if2 .left,
+      not-false (·args .pos .hold)
+          (c .if3 .left),
+    )
+
+pub misused-held-spec : {M : Type 1} → statement M
+misused-held-spec =
+    tie.close
+    (tie.spec
+    returns
+    is-short-requires
+    returns-2
+    returns-3
+    returns-4)

@@ -7,15 +7,60 @@ use borrow.Author.Needs.{needs}
 use Rattle.refusals.proofs.misused_insert.Statement.{statement}
 use Rattle.refusals.proofs.misused_insert.Tie as tie
 
-pub misused-insert-spec : {M : Type 1} → statement M
+returns : tie.Need-returns
 unfolding misusedInsert
+returns c = simp (eq-eqb _ _ (c .if1 .taken))
+
+last-of-requires : tie.Need-last-of-requires
+last-of-requires c κs = search needs
+
+is-qualified-requires : tie.Need-is-qualified-requires
+is-qualified-requires c κs = search needs
+
+returns-2 : tie.Need-returns-2
+unfolding misusedInsert
+returns-2 c = let ·if1 = c .before .before .before .if1 in let ·last-of = c .before .before .last-of in
+    simp (
+      ne-eqb _ _ (·if1 .left),
+      sym (c .before .is-qualified .ensures ∙ ap
+          (λ (a : Argument). isQualified (a .qualification)) (·last-of .ensures)) ∙ c .if2 .taken,
+    )
+
+is-short-requires : tie.Need-is-short-requires
+is-short-requires c κs = search needs
+
+returns-3 : tie.Need-returns-3
+unfolding misusedInsert
+returns-3 c = let ·if1 = c .before .before .before .before .before .if1 in
+    let ·is-qualified = c .before .before .before .is-qualified in
+    let ·last-of = c .before .before .before .before .last-of in let ·if2 = c .before .before .if2 in
+    simp (
+      ne-eqb _ _ (·if1 .left),
+      sym (·is-qualified .ensures ∙ ap (λ (a : Argument). isQualified (a .qualification))
+          (·last-of .ensures)) ∙ ·if2 .left,
+      sym (c .before .is-short .ensures) ∙ c .if3 .taken,
+    )
+
+returns-4 : tie.Need-returns-4
+unfolding misusedInsert
+returns-4 c = let ·if1 = c .before .before .before .before .before .if1 in
+    let ·is-qualified = c .before .before .before .is-qualified in
+    let ·last-of = c .before .before .before .before .last-of in let ·if2 = c .before .before .if2 in
+    simp (
+      ne-eqb _ _ (·if1 .left),
+      sym (·is-qualified .ensures ∙ ap (λ (a : Argument). isQualified (a .qualification))
+          (·last-of .ensures)) ∙ ·if2 .left,
+      sym (c .before .is-short .ensures) ∙ c .if3 .left,
+    )
+
+pub misused-insert-spec : {M : Type 1} → statement M
 misused-insert-spec =
     tie.close
     (tie.spec
-    (λ c. simp (eq-eqb _ _ (c .if1 .taken)))
-    (λ c κs. search needs)
-    (λ c κs. search needs)
-    (λ c. simp (ne-eqb _ _ (c .before .before .before .if1 .left), sym (c .before .is-qualified .ensures ∙ ap (λ (a : Argument). isQualified (a .qualification)) (c .before .before .last-of .ensures)) ∙ c .if2 .taken))
-    (λ c κs. search needs)
-    (λ c. simp (ne-eqb _ _ (c .before .before .before .before .before .if1 .left), sym (c .before .before .before .is-qualified .ensures ∙ ap (λ (a : Argument). isQualified (a .qualification)) (c .before .before .before .before .last-of .ensures)) ∙ c .before .before .if2 .left, sym (c .before .is-short .ensures) ∙ c .if3 .taken))
-    (λ c. simp (ne-eqb _ _ (c .before .before .before .before .before .if1 .left), sym (c .before .before .before .is-qualified .ensures ∙ ap (λ (a : Argument). isQualified (a .qualification)) (c .before .before .before .before .last-of .ensures)) ∙ c .before .before .if2 .left, sym (c .before .is-short .ensures) ∙ c .if3 .left)))
+    returns
+    last-of-requires
+    is-qualified-requires
+    returns-2
+    is-short-requires
+    returns-3
+    returns-4)

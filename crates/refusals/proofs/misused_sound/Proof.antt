@@ -6,18 +6,95 @@ use borrow.Author.Needs.{needs}
 use Rattle.refusals.proofs.misused_sound.Statement.{statement}
 use Rattle.refusals.proofs.misused_sound.Tie as tie
 
+returns : tie.Need-returns
+returns c = let ·args = c .before .before .before .before .args in
+    number-none (·args .cat .now) (·args .pos) (·args .number) (·args .list .now) (·args .area .now) (c .if1 .taken)
+
+returns-2 : tie.Need-returns-2
+returns-2 c = let ·args = c .before .before .before .before .before .args in
+    number-above (·args .cat .now) (·args .pos) (·args .number) (·args .list .now) (·args .area .now) (c .if2 .taken)
+
+fault-requires : tie.Need-fault-requires
+fault-requires c κs = search needs
+
+number-requires : tie.Need-number-requires
+number-requires c κs = search needs
+
+returns-3 : tie.Need-returns-3
+returns-3 c = let ·args = c .before .before .before .before .before .before .before .before .args in
+    let ·if1 = c .before .before .before .before .if1 in let ·if2 = c .before .before .before .if2 in
+    let ·fault = c .before .before .fault in
+    list-faulty (·args .cat .now) (·args .pos) (·args .number) (·args .list .now) (·args .area .now) (·if1 .left)
+    (·if2 .left) (·fault .result) (·fault .ensures) (λ e. c .if3 .taken (c .before .number .ensures ∙ e))
+
+misused-get-requires : tie.Need-misused-get-requires
+misused-get-requires c κs =
+    let ·args = c .before .before .before .before .before .before .before .before .before .args in
+    let ·pre = c .before .before .before .before .before .before .before .before .before .pre in
+    sized-some (·args .cat .now) (·args .size) (·pre .0)
+
+returns-4 : tie.Need-returns-4
+returns-4 c = let ·args = c .before .before .before .before .before .before .before .before .before .before .args in
+    let ·pre = c .before .before .before .before .before .before .before .before .before .before .pre in
+    let ·fault = c .before .before .before .before .fault in let ·number = c .before .before .before .number in
+    let ·if3 = c .before .before .if3 in let ·if1 = c .before .before .before .before .before .before .if1 in
+    c .misused-get .ensures ∙ get-misused (·args .cat .now) (·args .pos) (·args .number) (·args .list .now)
+    (·args .area .now) (·args .size) (·pre .0)
+    (sound-list (·args .cat .now) (·args .list .now) (·fault .result) (·number .result) (·pre .1) (·fault .ensures)
+    (·number .ensures) (·if3 .left)) (·if1 .left) (c .before .if4 .taken)
+
+misused-insert-requires : tie.Need-misused-insert-requires
+misused-insert-requires c κs =
+    let ·args = c .before .before .before .before .before .before .before .before .before .before .args in
+    let ·pre = c .before .before .before .before .before .before .before .before .before .before .pre in
+    let ·fault = c .before .before .before .before .fault in let ·number = c .before .before .before .number in
+    let ·if3 = c .before .before .if3 in (
+      sized-some (·args .cat .now) (·args .size) (·pre .0),
+      sound-list (·args .cat .now) (·args .list .now)
+          (·fault .result) (·number .result) (·pre .1) (·fault .ensures) (·number .ensures) (·if3 .left),
+    )
+
+returns-5 : tie.Need-returns-5
+returns-5 c =
+    let ·args = c .before .before .before .before .before .before .before .before .before .before .before .args in
+    let ·pre = c .before .before .before .before .before .before .before .before .before .before .before .pre in
+    let ·fault = c .before .before .before .before .before .fault in
+    let ·number = c .before .before .before .before .number in let ·if3 = c .before .before .before .if3 in
+    c .misused-insert .ensures ∙ insert-misused (·args .cat .now) (·args .pos) (·args .number) (·args .list .now)
+    (·args .area .now) (·args .size) (·pre .0)
+    (sound-list (·args .cat .now) (·args .list .now) (·fault .result) (·number .result) (·pre .1) (·fault .ensures)
+    (·number .ensures) (·if3 .left)) (c .before .if5 .taken)
+
+misused-held-requires : tie.Need-misused-held-requires
+misused-held-requires c κs =
+    let ·args = c .before .before .before .before .before .before .before .before .before .before .args in
+    let ·pre = c .before .before .before .before .before .before .before .before .before .before .pre in
+    sized-some (·args .cat .now) (·args .size) (·pre .0)
+
+returns-6 : tie.Need-returns-6
+returns-6 c =
+    let ·args = c .before .before .before .before .before .before .before .before .before .before .before .args in
+    c .misused-held .ensures ∙ held-misused (·args .cat .now) (·args .pos) (·args .number) (·args .list .now)
+    (·args .area .now) (·args .size) (c .before .before .before .before .before .before .before .before .before .before
+    .before .pre .0) (sound-list (·args .cat .now) (·args .list .now)
+    (c .before .before .before .before .before .fault .result) (c .before .before .before .before .number .result)
+    (c .before .before .before .before .before .before .before .before .before .before .before .pre .1)
+    (c .before .before .before .before .before .fault .ensures) (c .before .before .before .before .number .ensures)
+    (c .before .before .before .if3 .left)) (let z : 7 < ·args .number = omega arith in z)
+    (c .before .before .before .before .before .before .if2 .left)
+
 pub misused-sound-spec : {M : Type 1} → statement M
 misused-sound-spec =
     tie.close
     (tie.spec
-    (λ c. number-none (c .before .before .before .before .args .cat .now) (c .before .before .before .before .args .pos) (c .before .before .before .before .args .number) (c .before .before .before .before .args .list .now) (c .before .before .before .before .args .area .now) (c .if1 .taken))
-    (λ c. number-above (c .before .before .before .before .before .args .cat .now) (c .before .before .before .before .before .args .pos) (c .before .before .before .before .before .args .number) (c .before .before .before .before .before .args .list .now) (c .before .before .before .before .before .args .area .now) (c .if2 .taken))
-    (λ c κs. search needs)
-    (λ c κs. search needs)
-    (λ c. list-faulty (c .before .before .before .before .before .before .before .before .args .cat .now) (c .before .before .before .before .before .before .before .before .args .pos) (c .before .before .before .before .before .before .before .before .args .number) (c .before .before .before .before .before .before .before .before .args .list .now) (c .before .before .before .before .before .before .before .before .args .area .now) (c .before .before .before .before .if1 .left) (c .before .before .before .if2 .left) (c .before .before .fault .result) (c .before .before .fault .ensures) (λ e. c .if3 .taken (c .before .number .ensures ∙ e)))
-    (λ c κs. sized-some (c .before .before .before .before .before .before .before .before .before .args .cat .now) (c .before .before .before .before .before .before .before .before .before .args .size) (c .before .before .before .before .before .before .before .before .before .pre .0))
-    (λ c. c .misused-get .ensures ∙ get-misused (c .before .before .before .before .before .before .before .before .before .before .args .cat .now) (c .before .before .before .before .before .before .before .before .before .before .args .pos) (c .before .before .before .before .before .before .before .before .before .before .args .number) (c .before .before .before .before .before .before .before .before .before .before .args .list .now) (c .before .before .before .before .before .before .before .before .before .before .args .area .now) (c .before .before .before .before .before .before .before .before .before .before .args .size) (c .before .before .before .before .before .before .before .before .before .before .pre .0) (sound-list (c .before .before .before .before .before .before .before .before .before .before .args .cat .now) (c .before .before .before .before .before .before .before .before .before .before .args .list .now) (c .before .before .before .before .fault .result) (c .before .before .before .number .result) (c .before .before .before .before .before .before .before .before .before .before .pre .1) (c .before .before .before .before .fault .ensures) (c .before .before .before .number .ensures) (c .before .before .if3 .left)) (c .before .before .before .before .before .before .if1 .left) (c .before .if4 .taken))
-    (λ c κs. (sized-some (c .before .before .before .before .before .before .before .before .before .before .args .cat .now) (c .before .before .before .before .before .before .before .before .before .before .args .size) (c .before .before .before .before .before .before .before .before .before .before .pre .0), sound-list (c .before .before .before .before .before .before .before .before .before .before .args .cat .now) (c .before .before .before .before .before .before .before .before .before .before .args .list .now) (c .before .before .before .before .fault .result) (c .before .before .before .number .result) (c .before .before .before .before .before .before .before .before .before .before .pre .1) (c .before .before .before .before .fault .ensures) (c .before .before .before .number .ensures) (c .before .before .if3 .left)))
-    (λ c. c .misused-insert .ensures ∙ insert-misused (c .before .before .before .before .before .before .before .before .before .before .before .args .cat .now) (c .before .before .before .before .before .before .before .before .before .before .before .args .pos) (c .before .before .before .before .before .before .before .before .before .before .before .args .number) (c .before .before .before .before .before .before .before .before .before .before .before .args .list .now) (c .before .before .before .before .before .before .before .before .before .before .before .args .area .now) (c .before .before .before .before .before .before .before .before .before .before .before .args .size) (c .before .before .before .before .before .before .before .before .before .before .before .pre .0) (sound-list (c .before .before .before .before .before .before .before .before .before .before .before .args .cat .now) (c .before .before .before .before .before .before .before .before .before .before .before .args .list .now) (c .before .before .before .before .before .fault .result) (c .before .before .before .before .number .result) (c .before .before .before .before .before .before .before .before .before .before .before .pre .1) (c .before .before .before .before .before .fault .ensures) (c .before .before .before .before .number .ensures) (c .before .before .before .if3 .left)) (c .before .if5 .taken))
-    (λ c κs. sized-some (c .before .before .before .before .before .before .before .before .before .before .args .cat .now) (c .before .before .before .before .before .before .before .before .before .before .args .size) (c .before .before .before .before .before .before .before .before .before .before .pre .0))
-    (λ c. c .misused-held .ensures ∙ held-misused (c .before .before .before .before .before .before .before .before .before .before .before .args .cat .now) (c .before .before .before .before .before .before .before .before .before .before .before .args .pos) (c .before .before .before .before .before .before .before .before .before .before .before .args .number) (c .before .before .before .before .before .before .before .before .before .before .before .args .list .now) (c .before .before .before .before .before .before .before .before .before .before .before .args .area .now) (c .before .before .before .before .before .before .before .before .before .before .before .args .size) (c .before .before .before .before .before .before .before .before .before .before .before .pre .0) (sound-list (c .before .before .before .before .before .before .before .before .before .before .before .args .cat .now) (c .before .before .before .before .before .before .before .before .before .before .before .args .list .now) (c .before .before .before .before .before .fault .result) (c .before .before .before .before .number .result) (c .before .before .before .before .before .before .before .before .before .before .before .pre .1) (c .before .before .before .before .before .fault .ensures) (c .before .before .before .before .number .ensures) (c .before .before .before .if3 .left)) (let z : 7 < c .before .before .before .before .before .before .before .before .before .before .before .args .number = omega arith in z) (c .before .before .before .before .before .before .if2 .left)))
+    returns
+    returns-2
+    fault-requires
+    number-requires
+    returns-3
+    misused-get-requires
+    returns-4
+    misused-insert-requires
+    returns-5
+    misused-held-requires
+    returns-6)

@@ -3,21 +3,76 @@ use Prim.Native.Nat.{ℕ}
 use borrow.Author.Tests.{not-true, not-false}
 use Rattle.rules.specs.Outcome.{unsound}
 use Rattle.cells.specs.Sound.{Sound}
-use Rattle.cells.proofs.Laws.{good-sound}
+use Rattle.cells.proofs.Located.{good-sound}
 use borrow.Author.Needs.{needs}
 use Rattle.refusals.proofs.unsound.Statement.{statement}
 use Rattle.refusals.proofs.unsound.Tie as tie
 
-pub unsound-spec : {M : Type 1} → statement M
+is-good-requires : tie.Need-is-good-requires
+is-good-requires c κs = search needs
+
+returns : tie.Need-returns
 unfolding unsound
+returns c = simp (sym (c .before .is-good .ensures) ∙ not-true _ (c .if1 .taken))
+
+is-good-on-requires : tie.Need-is-good-on-requires
+unfolding unsound
+is-good-on-requires c κs = sym (c .before .is-good .ensures) ∙ not-false _ (c .if1 .left)
+
+returns-2 : tie.Need-returns-2
+unfolding unsound
+returns-2 c = let ·is-good = c .before .before .before .is-good in let ·if1 = c .before .before .if1 in
+    simp (
+      sym (·is-good .ensures) ∙ not-false _ (·if1 .left),
+      sym (c .before .is-good-on .ensures) ∙ not-true _
+          (c .if2 .taken),
+    )
+
+cell-size-requires : tie.Need-cell-size-requires
+cell-size-requires c κs = search needs
+
+is-good-on-requires-2 : tie.Need-is-good-on-requires-2
+unfolding unsound
+is-good-on-requires-2 c κs = let ·args = c .before .before .before .before .before .before .before .args in
+    let ·is-good = c .before .before .before .before .is-good in let ·if1 = c .before .before .before .if1 in
+    let ·is-good-on = c .before .before .is-good-on in
+    rw (c .cell-size .ensures .0) (good-sound (·args .cat .now) (·args .tab .now)
+    (sym (·is-good .ensures) ∙ not-false _ (·if1 .left))
+    (sym (·is-good-on .ensures) ∙ not-false _ (c .before .if2 .left)))
+
+returns-3 : tie.Need-returns-3
+unfolding unsound
+returns-3 c = let ·is-good = c .before .before .before .before .before .before .is-good in
+    let ·if1 = c .before .before .before .before .before .if1 in
+    let ·is-good-on = c .before .before .before .before .is-good-on in let ·if2 = c .before .before .before .if2 in
+    simp (
+      sym (·is-good .ensures) ∙ not-false _ (·if1 .left),
+      sym (·is-good-on .ensures) ∙ not-false _ (·if2 .left),
+      sym
+          (c .before .is-good-on2 .ensures) ∙ not-true _ (c .if3 .taken),
+    )
+
+returns-4 : tie.Need-returns-4
+unfolding unsound
+returns-4 c = let ·is-good = c .before .before .before .before .before .before .is-good in
+    let ·if1 = c .before .before .before .before .before .if1 in
+    let ·is-good-on = c .before .before .before .before .is-good-on in let ·if2 = c .before .before .before .if2 in
+    simp (
+      sym (·is-good .ensures) ∙ not-false _ (·if1 .left),
+      sym (·is-good-on .ensures) ∙ not-false _ (·if2 .left),
+      sym
+          (c .before .is-good-on2 .ensures) ∙ not-false _ (c .if3 .left),
+    )
+
+pub unsound-spec : {M : Type 1} → statement M
 unsound-spec =
     tie.close
     (tie.spec
-    (λ c κs. search needs)
-    (λ c. simp (sym (c .before .is-good .ensures) ∙ not-true _ (c .if1 .taken)))
-    (λ c κs. sym (c .before .is-good .ensures) ∙ not-false _ (c .if1 .left))
-    (λ c. simp (sym (c .before .before .before .is-good .ensures) ∙ not-false _ (c .before .before .if1 .left), sym (c .before .is-good-on .ensures) ∙ not-true _ (c .if2 .taken)))
-    (λ c κs. search needs)
-    (λ c κs. rw (c .cell-size .ensures .0) (good-sound (c .before .before .before .before .before .before .before .args .cat .now) (c .before .before .before .before .before .before .before .args .tab .now) (sym (c .before .before .before .before .is-good .ensures) ∙ not-false _ (c .before .before .before .if1 .left)) (sym (c .before .before .is-good-on .ensures) ∙ not-false _ (c .before .if2 .left))))
-    (λ c. simp (sym (c .before .before .before .before .before .before .is-good .ensures) ∙ not-false _ (c .before .before .before .before .before .if1 .left), sym (c .before .before .before .before .is-good-on .ensures) ∙ not-false _ (c .before .before .before .if2 .left), sym (c .before .is-good-on2 .ensures) ∙ not-true _ (c .if3 .taken)))
-    (λ c. simp (sym (c .before .before .before .before .before .before .is-good .ensures) ∙ not-false _ (c .before .before .before .before .before .if1 .left), sym (c .before .before .before .before .is-good-on .ensures) ∙ not-false _ (c .before .before .before .if2 .left), sym (c .before .is-good-on2 .ensures) ∙ not-false _ (c .if3 .left))))
+    is-good-requires
+    returns
+    is-good-on-requires
+    returns-2
+    cell-size-requires
+    is-good-on-requires-2
+    returns-3
+    returns-4)

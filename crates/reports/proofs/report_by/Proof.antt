@@ -6,20 +6,94 @@ use borrow.Author.Needs.{needs}
 use Rattle.reports.proofs.report_by.Statement.{statement}
 use Rattle.reports.proofs.report_by.Tie as tie
 
+refusal-requires : tie.Need-refusal-requires
+refusal-requires c κs = search needs
+
+number-requires : tie.Need-number-requires
+number-requires c κs = search needs
+
+shows-nothing-requires : tie.Need-shows-nothing-requires
+shows-nothing-requires c κs = search needs
+
+returns : tie.Need-returns
+returns c = let ·refusal = c .before .before .before .refusal in let ·number = c .before .before .number in
+    whole-refused _ _ _ _ _ _ (·refusal .ensures) (·number .ensures) _ _ (c .shows-nothing .ensures)
+    (c .before .if1 .taken)
+
+slice-aggregate-join : tie.Need-slice-aggregate-join
+slice-aggregate-join c = search needs
+
+join-requires : tie.Need-join-requires
+join-requires c κs = let ·args = c .before .before .before .before .before .before .before .before .before .args in
+    let ·refusal = c .before .before .before .refusal in let ·number = c .before .before .number in
+    whole-joins _ (·args .tab .now) _ _ _ _ (·refusal .ensures) (·number .ensures) (c .before .if1 .left)
+
+shared-slice-read-wide : tie.Need-shared-slice-read-wide
+shared-slice-read-wide c =
+    let ·args = c .before .before .before .before .before .before .before .before .before .before .before .before .args
+    in let ·refusal = c .before .before .before .before .before .before .refusal in
+    let ·number = c .before .before .before .before .before .number in
+    let ·if1 = c .before .before .before .before .if1 in
+    five-in _ _ (·args .one .now) (·args .two .now) _ _ (·refusal .ensures) (·number .ensures) (·if1 .left)
+
+wide-requires : tie.Need-wide-requires
+wide-requires c κs = search needs
+
+array-share-prefix-list : tie.Need-array-share-prefix-list
+array-share-prefix-list c =
+    let ·args = c .before .before .before .before .before .before .before .before .before .before .before .before
+    .before .args in
+    omega (
+      arith,
+      c .before .before .before .join .ensures .0,
+      c .before .before .before .join .ensures .2,
+      whole-joins
+          _ (·args .tab .now) _ _ _ _ (c .before .before .before .before .before .before .before .refusal .ensures)
+          (c .before .before .before .before .before .before .number .ensures)
+          (c .before .before .before .before .before .if1 .left),
+    )
+
+slice-aggregate-shown-by : tie.Need-slice-aggregate-shown-by
+slice-aggregate-shown-by c = let ·join = c .before .before .before .before .join in
+    let ·args = c .before .before .before .before .before .before .before .before .before .before .before .before
+    .before .before .args in
+    ·join .ensures .0 ∙ sym (ap length (·join .ensures .1) ∙ length-append (·args .one .now) (·args .two .now))
+
+shown-by-requires : tie.Need-shown-by-requires
+shown-by-requires c κs =
+    let ·refusal = c .before .before .before .before .before .before .before .before .before .refusal in
+    let ·number = c .before .before .before .before .before .before .before .before .number in
+    let ·if1 = c .before .before .before .before .before .before .before .if1 in let ·wide = c .before .before .wide in
+    let ·join = c .before .before .before .before .before .join in (
+      whole-given _ _ _ _ _ _ (·refusal .ensures) (·number .ensures) (·if1 .left) _ (·wide .ensures .0),
+      ·join .ensures .1,
+    )
+
+same-length : tie.Need-same-length
+same-length c = search needs
+
+returns-2 : tie.Need-returns-2
+returns-2 c = let ·shown-by = c .before .before .shown-by in
+    let ·refusal = c .before .before .before .before .before .before .before .before .before .before .before .before
+    .refusal in
+    let ·number = c .before .before .before .before .before .before .before .before .before .before .before .number in
+    let ·if1 = c .before .before .before .before .before .before .before .before .before .before .if1 in
+    ·shown-by .ensures ∙ whole-shows _ _ _ _ _ _ (·refusal .ensures) (·number .ensures) (·if1 .left) _
+
 pub report-by-spec : {M : Type 1} → statement M
 report-by-spec =
     tie.close
     (tie.spec
-    (λ c κs. search needs)
-    (λ c κs. search needs)
-    (λ c κs. search needs)
-    (λ c. whole-refused _ _ _ _ _ _ (c .before .before .before .refusal .ensures) (c .before .before .number .ensures) _ _ (c .shows-nothing .ensures) (c .before .if1 .taken))
-    (λ c. search needs)
-    (λ c κs. whole-joins _ (c .before .before .before .before .before .before .before .before .before .args .tab .now) _ _ _ _ (c .before .before .before .refusal .ensures) (c .before .before .number .ensures) (c .before .if1 .left))
-    (λ c. five-in _ _ (c .before .before .before .before .before .before .before .before .before .before .before .before .args .one .now) (c .before .before .before .before .before .before .before .before .before .before .before .before .args .two .now) _ _ (c .before .before .before .before .before .before .refusal .ensures) (c .before .before .before .before .before .number .ensures) (c .before .before .before .before .if1 .left))
-    (λ c κs. search needs)
-    (λ c. omega (arith, c .before .before .before .join .ensures .0, c .before .before .before .join .ensures .2, whole-joins _ (c .before .before .before .before .before .before .before .before .before .before .before .before .before .args .tab .now) _ _ _ _ (c .before .before .before .before .before .before .before .refusal .ensures) (c .before .before .before .before .before .before .number .ensures) (c .before .before .before .before .before .if1 .left)))
-    (λ c. c .before .before .before .before .join .ensures .0 ∙ sym (ap length (c .before .before .before .before .join .ensures .1) ∙ length-append (c .before .before .before .before .before .before .before .before .before .before .before .before .before .before .args .one .now) (c .before .before .before .before .before .before .before .before .before .before .before .before .before .before .args .two .now)))
-    (λ c κs. (whole-given _ _ _ _ _ _ (c .before .before .before .before .before .before .before .before .before .refusal .ensures) (c .before .before .before .before .before .before .before .before .number .ensures) (c .before .before .before .before .before .before .before .if1 .left) _ (c .before .before .wide .ensures .0), c .before .before .before .before .before .join .ensures .1))
-    (λ c. search needs)
-    (λ c. c .before .before .shown-by .ensures ∙ whole-shows _ _ _ _ _ _ (c .before .before .before .before .before .before .before .before .before .before .before .before .refusal .ensures) (c .before .before .before .before .before .before .before .before .before .before .before .number .ensures) (c .before .before .before .before .before .before .before .before .before .before .if1 .left) _))
+    refusal-requires
+    number-requires
+    shows-nothing-requires
+    returns
+    slice-aggregate-join
+    join-requires
+    shared-slice-read-wide
+    wide-requires
+    array-share-prefix-list
+    slice-aggregate-shown-by
+    shown-by-requires
+    same-length
+    returns-2)

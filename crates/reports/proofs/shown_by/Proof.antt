@@ -5,24 +5,106 @@ use borrow.Author.Needs.{needs}
 use Rattle.reports.proofs.shown_by.Statement.{statement}
 use Rattle.reports.proofs.shown_by.Tie as tie
 
+count-requires : tie.Need-count-requires
+count-requires c κs = search needs
+
+mul-if1 : tie.Need-mul-if1
+mul-if1 c = search needs
+
+found-by-requires : tie.Need-found-by-requires
+found-by-requires c κs = search needs
+
+shows-requires : tie.Need-shows-requires
+shows-requires c κs = search needs
+
+same-length : tie.Need-same-length
+same-length c = search needs
+
+returns : tie.Need-returns
+returns c =
+    let ·args = c .before .before .before .before .before .before .before .before .before .before .before .before
+    .before .args in
+    shows-all _ _ _ _ _ (c .shows .ensures) (c .before .before .before .found-by .ensures .0)
+    (c .before .before .before .found-by .ensures .1)
+    (omega (
+      arith,
+      c .before .before .before .before .before .if1 .taken,
+      c .before .before .before .before .before .before .count .ensures .0,
+      picked-few (·args .cat .now) (·args .tab .now)
+          (·args .one .now ++ ·args .two .now),
+    ))
+
+slice-relend-prefix-found-by : tie.Need-slice-relend-prefix-found-by
+slice-relend-prefix-found-by c = search needs
+
+slice-aggregate-found-by : tie.Need-slice-aggregate-found-by
+slice-aggregate-found-by c = search needs
+
+found-by-requires-2 : tie.Need-found-by-requires-2
+found-by-requires-2 c κs = search needs
+
+mul-if2 : tie.Need-mul-if2
+mul-if2 c =
+    let ·args = c .before .before .before .before .before .before .before .before .before .before .before .before .args
+    in
+    omega (
+      arith,
+      c .before .before .found-by2 .ensures .0,
+      c .before .before .before .before .before .before .before .before .before .before .before .before .pre .0 .first
+          .sound .sized .few,
+      picked-few (·args .cat .now) (·args .tab .now) (·args .one .now ++ ·args .two .now),
+    )
+
+shows-nothing-requires : tie.Need-shows-nothing-requires
+shows-nothing-requires c κs = search needs
+
+same-length-2 : tie.Need-same-length-2
+same-length-2 c = search needs
+
+returns-2 : tie.Need-returns-2
+returns-2 c =
+    let ·args = c .before .before .before .before .before .before .before .before .before .before .before .before
+    .before .before .args in let ·found-by2 = c .before .before .before .before .found-by2 in
+    counted-short _ (·args .out .now) _ (·found-by2 .ensures .1) _ (c .shows-nothing .ensures) _
+    (·found-by2 .ensures .0) (c .before .if2 .taken)
+
+found-by-requires-3 : tie.Need-found-by-requires-3
+found-by-requires-3 c κs = search needs
+
+shows-requires-2 : tie.Need-shows-requires-2
+shows-requires-2 c κs = search needs
+
+same-length-3 : tie.Need-same-length-3
+same-length-3 c = search needs
+
+returns-3 : tie.Need-returns-3
+returns-3 c =
+    let ·args = c .before .before .before .before .before .before .before .before .before .before .before .before
+    .before .before .before .before .before .before .args in
+    let ·found-by2 = c .before .before .before .before .before .before .before .before .found-by2 in
+    let ·found-by3 = c .before .before .before .found-by3 in
+    let ·if2 = c .before .before .before .before .before .if2 in
+    counted-all _ (·args .out .now) _ (·found-by2 .ensures .1) _ _ _ (c .shows2 .ensures) (·found-by3 .ensures .0)
+    (·found-by3 .ensures .1) _ (·found-by2 .ensures .0) (·if2 .left)
+
 pub shown-by-spec : {M : Type 1} → statement M
 shown-by-spec =
     tie.close
     (tie.spec
-    (λ c κs. search needs)
-    (λ c. search needs)
-    (λ c κs. search needs)
-    (λ c κs. search needs)
-    (λ c. search needs)
-    (λ c. shows-all _ _ _ _ _ (c .shows .ensures) (c .before .before .before .found-by .ensures .0) (c .before .before .before .found-by .ensures .1) (omega (arith, c .before .before .before .before .before .if1 .taken, c .before .before .before .before .before .before .count .ensures .0, picked-few (c .before .before .before .before .before .before .before .before .before .before .before .before .before .args .cat .now) (c .before .before .before .before .before .before .before .before .before .before .before .before .before .args .tab .now) (c .before .before .before .before .before .before .before .before .before .before .before .before .before .args .one .now ++ c .before .before .before .before .before .before .before .before .before .before .before .before .before .args .two .now))))
-    (λ c. search needs)
-    (λ c. search needs)
-    (λ c κs. search needs)
-    (λ c. omega (arith, c .before .before .found-by2 .ensures .0, c .before .before .before .before .before .before .before .before .before .before .before .before .pre .0 .first .sound .sized .few, picked-few (c .before .before .before .before .before .before .before .before .before .before .before .before .args .cat .now) (c .before .before .before .before .before .before .before .before .before .before .before .before .args .tab .now) (c .before .before .before .before .before .before .before .before .before .before .before .before .args .one .now ++ c .before .before .before .before .before .before .before .before .before .before .before .before .args .two .now)))
-    (λ c κs. search needs)
-    (λ c. search needs)
-    (λ c. counted-short _ (c .before .before .before .before .before .before .before .before .before .before .before .before .before .before .args .out .now) _ (c .before .before .before .before .found-by2 .ensures .1) _ (c .shows-nothing .ensures) _ (c .before .before .before .before .found-by2 .ensures .0) (c .before .if2 .taken))
-    (λ c κs. search needs)
-    (λ c κs. search needs)
-    (λ c. search needs)
-    (λ c. counted-all _ (c .before .before .before .before .before .before .before .before .before .before .before .before .before .before .before .before .before .before .args .out .now) _ (c .before .before .before .before .before .before .before .before .found-by2 .ensures .1) _ _ _ (c .shows2 .ensures) (c .before .before .before .found-by3 .ensures .0) (c .before .before .before .found-by3 .ensures .1) _ (c .before .before .before .before .before .before .before .before .found-by2 .ensures .0) (c .before .before .before .before .before .if2 .left)))
+    count-requires
+    mul-if1
+    found-by-requires
+    shows-requires
+    same-length
+    returns
+    slice-relend-prefix-found-by
+    slice-aggregate-found-by
+    found-by-requires-2
+    mul-if2
+    shows-nothing-requires
+    same-length-2
+    returns-2
+    found-by-requires-3
+    shows-requires-2
+    same-length-3
+    returns-3)

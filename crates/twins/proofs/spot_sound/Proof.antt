@@ -1,7 +1,29 @@
-use Rattle.twins.proofs.Laws.{spot-unique, spot-other}
+use Rattle.twins.proofs.Passing.{spot-unique, spot-other}
 use borrow.Author.Needs.{needs}
 use Rattle.twins.proofs.spot_sound.Statement.{statement}
 use Rattle.twins.proofs.spot_sound.Tie as tie
 
+pass-row-requires : tie.Need-pass-row-requires
+pass-row-requires c κs = search needs
+
+key-kind-requires : tie.Need-key-kind-requires
+key-kind-requires c κs = search needs
+
+returns : tie.Need-returns
+returns c = let ·pre = c .before .before .before .before .before .before .pre in
+    let ·pass-row = c .before .before .pass-row in
+    spot-unique (·pre .0) (·pre .1) (·pass-row .ensures) (c .before .key-kind .ensures) (c .if1 .taken)
+
+returns-2 : tie.Need-returns-2
+returns-2 c = let ·pre = c .before .before .before .before .before .before .pre in
+    let ·pass-row = c .before .before .pass-row in
+    spot-other (·pre .0) (·pre .1) (·pass-row .ensures) (c .before .key-kind .ensures) (c .if1 .left)
+
 pub spot-sound-spec : {M : Type 1} → statement M
-spot-sound-spec = tie.close (tie.spec (λ c κs. search needs) (λ c κs. search needs) (λ c. spot-unique (c .before .before .before .before .before .before .pre .0) (c .before .before .before .before .before .before .pre .1) (c .before .before .pass-row .ensures) (c .before .key-kind .ensures) (c .if1 .taken)) (λ c. spot-other (c .before .before .before .before .before .before .pre .0) (c .before .before .before .before .before .before .pre .1) (c .before .before .pass-row .ensures) (c .before .key-kind .ensures) (c .if1 .left)))
+spot-sound-spec =
+    tie.close
+    (tie.spec
+    pass-row-requires
+    key-kind-requires
+    returns
+    returns-2)

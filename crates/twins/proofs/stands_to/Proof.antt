@@ -1,17 +1,49 @@
 use mathlib.Core.Path.{_∙_}
-use Rattle.twins.proofs.Laws.{new-deep, new-less, new-more, new-twin, type-same}
+use Rattle.twins.proofs.Passing.{new-deep, new-less, new-more, new-twin, type-same}
 use borrow.Author.Needs.{needs}
 use Rattle.twins.proofs.stands_to.Statement.{statement}
 use Rattle.twins.proofs.stands_to.Tie as tie
+
+code-at-requires : tie.Need-code-at-requires
+code-at-requires c κs = search needs
+
+returns : tie.Need-returns
+returns c = let ·code-at = c .before .before .before .code-at in
+    new-more _ _ _ _ (·code-at .ensures) (c .if1 .taken)
+
+key-order-with-requires : tie.Need-key-order-with-requires
+key-order-with-requires c κs =
+    let ·pre = c .before .before .before .before .before .before .before .before .before .before .pre in
+    let ·code-at = c .before .before .before .before .before .before .code-at in
+    (·pre .0, ·pre .1, type-same (·code-at .ensures) (c .if2 .taken))
+
+returns-2 : tie.Need-returns-2
+returns-2 c = let ·code-at = c .before .before .before .before .before .before .before .code-at in
+    c .key-order-with .ensures ∙ new-twin _ _ _ _ (·code-at .ensures) (c .before .if2 .taken)
+
+level-requires : tie.Need-level-requires
+level-requires c κs = search needs
+
+returns-3 : tie.Need-returns-3
+returns-3 c = let ·code-at = c .before .before .before .before .before .before .before .before .code-at in
+    let ·if1 = c .before .before .before .before .before .if1 in let ·if2 = c .before .before .if2 in
+    let ·pre = c .before .before .before .before .before .before .before .before .before .before .before .before .pre in
+    new-deep _ _ _ _ (·code-at .ensures) (·if1 .left) (·if2 .left) (·pre .2) (c .before .level .ensures) (c .if3 .taken)
+
+returns-4 : tie.Need-returns-4
+returns-4 c = let ·code-at = c .before .before .before .before .before .before .before .before .code-at in
+    let ·if1 = c .before .before .before .before .before .if1 in let ·if2 = c .before .before .if2 in
+    let ·pre = c .before .before .before .before .before .before .before .before .before .before .before .before .pre in
+    new-less _ _ _ _ (·code-at .ensures) (·if1 .left) (·if2 .left) (·pre .2) (c .before .level .ensures) (c .if3 .left)
 
 pub stands-to-spec : {M : Type 1} → statement M
 stands-to-spec =
     tie.close
     (tie.spec
-    (λ c κs. search needs)
-    (λ c. new-more _ _ _ _ (c .before .before .before .code-at .ensures) (c .if1 .taken))
-    (λ c κs. (c .before .before .before .before .before .before .before .before .before .before .pre .0, c .before .before .before .before .before .before .before .before .before .before .pre .1, type-same (c .before .before .before .before .before .before .code-at .ensures) (c .if2 .taken)))
-    (λ c. c .key-order-with .ensures ∙ new-twin _ _ _ _ (c .before .before .before .before .before .before .before .code-at .ensures) (c .before .if2 .taken))
-    (λ c κs. search needs)
-    (λ c. new-deep _ _ _ _ (c .before .before .before .before .before .before .before .before .code-at .ensures) (c .before .before .before .before .before .if1 .left) (c .before .before .if2 .left) (c .before .before .before .before .before .before .before .before .before .before .before .before .pre .2) (c .before .level .ensures) (c .if3 .taken))
-    (λ c. new-less _ _ _ _ (c .before .before .before .before .before .before .before .before .code-at .ensures) (c .before .before .before .before .before .if1 .left) (c .before .before .if2 .left) (c .before .before .before .before .before .before .before .before .before .before .before .before .pre .2) (c .before .level .ensures) (c .if3 .left)))
+    code-at-requires
+    returns
+    key-order-with-requires
+    returns-2
+    level-requires
+    returns-3
+    returns-4)

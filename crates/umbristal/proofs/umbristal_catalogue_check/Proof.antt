@@ -4,5 +4,19 @@ use borrow.Author.Needs.{needs}
 use Rattle.umbristal.proofs.umbristal_catalogue_check.Statement.{statement}
 use Rattle.umbristal.proofs.umbristal_catalogue_check.Tie as tie
 
+check-requires : tie.Need-check-requires
+check-requires c κs = search needs
+
+number-requires : tie.Need-number-requires
+number-requires c κs = search needs
+
+returns : tie.Need-returns
+returns c = c .number .ensures ∙ ap number (c .before .check .ensures)
+
 pub umbristal-catalogue-check-spec : {M : Type 1} → statement M
-umbristal-catalogue-check-spec = tie.close (tie.spec (λ c κs. search needs) (λ c κs. search needs) (λ c. c .number .ensures ∙ ap number (c .before .check .ensures)))
+umbristal-catalogue-check-spec =
+    tie.close
+    (tie.spec
+    check-requires
+    number-requires
+    returns)

@@ -3,6 +3,25 @@ use borrow.Author.Needs.{needs}
 use Rattle.umbristal.proofs.umbristal_report_joined.Statement.{statement}
 use Rattle.umbristal.proofs.umbristal_report_joined.Tie as tie
 
+joined-requires : tie.Need-joined-requires
+joined-requires c κs = search needs
+
+packed-report-requires : tie.Need-packed-report-requires
+packed-report-requires c κs = let ·joined = c .before .before .joined in
+    report-small _ _ _ _ _ _ _ (·joined .ensures)
+
+same-length : tie.Need-same-length
+same-length c = search needs
+
+returns : tie.Need-returns
+returns c = let ·joined = c .before .before .before .joined in
+    report-shown _ _ _ _ _ _ _ (·joined .ensures) _ (c .packed-report .ensures)
+
 pub umbristal-report-joined-spec : {M : Type 1} → statement M
 umbristal-report-joined-spec =
-    tie.close (tie.spec (λ c κs. search needs) (λ c κs. report-small _ _ _ _ _ _ _ (c .before .before .joined .ensures)) (λ c. search needs) (λ c. report-shown _ _ _ _ _ _ _ (c .before .before .before .joined .ensures) _ (c .packed-report .ensures)))
+    tie.close
+    (tie.spec
+    joined-requires
+    packed-report-requires
+    same-length
+    returns)

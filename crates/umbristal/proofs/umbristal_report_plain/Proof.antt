@@ -3,6 +3,25 @@ use borrow.Author.Needs.{needs}
 use Rattle.umbristal.proofs.umbristal_report_plain.Statement.{statement}
 use Rattle.umbristal.proofs.umbristal_report_plain.Tie as tie
 
+plain-requires : tie.Need-plain-requires
+plain-requires c κs = search needs
+
+packed-report-requires : tie.Need-packed-report-requires
+packed-report-requires c κs = let ·plain = c .before .before .plain in
+    report-small _ _ _ _ _ _ _ (·plain .ensures)
+
+same-length : tie.Need-same-length
+same-length c = search needs
+
+returns : tie.Need-returns
+returns c = let ·plain = c .before .before .before .plain in
+    report-shown _ _ _ _ _ _ _ (·plain .ensures) _ (c .packed-report .ensures)
+
 pub umbristal-report-plain-spec : {M : Type 1} → statement M
 umbristal-report-plain-spec =
-    tie.close (tie.spec (λ c κs. search needs) (λ c κs. report-small _ _ _ _ _ _ _ (c .before .before .plain .ensures)) (λ c. search needs) (λ c. report-shown _ _ _ _ _ _ _ (c .before .before .before .plain .ensures) _ (c .packed-report .ensures)))
+    tie.close
+    (tie.spec
+    plain-requires
+    packed-report-requires
+    same-length
+    returns)

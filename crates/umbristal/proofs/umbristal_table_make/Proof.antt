@@ -4,5 +4,24 @@ use borrow.Author.Needs.{needs}
 use Rattle.umbristal.proofs.umbristal_table_make.Statement.{statement}
 use Rattle.umbristal.proofs.umbristal_table_make.Tie as tie
 
+make-requires : tie.Need-make-requires
+make-requires c κs = search needs
+
+number-requires : tie.Need-number-requires
+number-requires c κs = search needs
+
+same-length : tie.Need-same-length
+same-length c = search needs
+
+returns : tie.Need-returns
+returns c = let ·make = c .before .before .before .make in
+    (c .number .ensures ∙ ap number (·make .ensures .0), ·make .ensures .1)
+
 pub umbristal-table-make-spec : {M : Type 1} → statement M
-umbristal-table-make-spec = tie.close (tie.spec (λ c κs. search needs) (λ c κs. search needs) (λ c. search needs) (λ c. (c .number .ensures ∙ ap number (c .before .before .before .make .ensures .0), c .before .before .before .make .ensures .1)))
+umbristal-table-make-spec =
+    tie.close
+    (tie.spec
+    make-requires
+    number-requires
+    same-length
+    returns)

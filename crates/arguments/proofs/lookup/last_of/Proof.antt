@@ -11,16 +11,54 @@ Inv-loop cat list last₀ last = Passed cat list last
 abbrev μ-loop : tie.MeasureT-loop
 μ-loop cat list last₀ last = length list - last .next
 
+loop-holds : tie.Need-loop-holds Inv-loop μ-loop
+loop-holds c = let ·args = c .before .before .args in let ·pre = c .before .before .pre in
+    passed-start (·args .cat .now) (·args .list .now) (·pre)
+
+shared-slice-read-t10 : tie.Need-shared-slice-read-t10 Inv-loop μ-loop
+shared-slice-read-t10 c = omega arith
+
+qualification-at-requires : tie.Need-qualification-at-requires Inv-loop μ-loop
+qualification-at-requires c κs = let ·args = c .before .before .before .before .before .before .args in
+    passed-room (·args .cat .now) (·args .list .now) (c .before .before .before .loop .last) (omega arith)
+    (c .before .before .before .loop .inv)
+
+next-at-requires : tie.Need-next-at-requires Inv-loop μ-loop
+next-at-requires c κs = let ·args = c .before .before .before .before .before .before .before .args in
+    passed-room (·args .cat .now) (·args .list .now) (c .before .before .before .before .loop .last) (omega arith)
+    (c .before .before .before .before .loop .inv)
+
+loop-less : tie.Need-loop-less Inv-loop μ-loop
+loop-less c = let ·args = c .before .before .before .before .before .before .before .before .args in
+    omega (
+      arith,
+      passed-onward (·args .cat .now) (·args .list .now)
+          (c .before .before .before .before .before .loop .last) (omega arith)
+          (c .before .before .before .before .before .loop .inv),
+      c .next-at .ensures,
+    )
+
+loop-again : tie.Need-loop-again Inv-loop μ-loop
+loop-again c = let ·args = c .before .before .before .before .before .before .before .before .args in
+    passed-next (·args .cat .now) (·args .list .now) (c .before .before .before .before .before .loop .last)
+    (omega arith) (c .before .before .before .before .before .loop .inv)
+    (cc (c .before .qualification-at .ensures, c .next-at .ensures))
+
+returns : tie.Need-returns Inv-loop μ-loop
+returns c = let ·args = c .before .before .before .before .before .args in
+    passed-end (·args .cat .now) (·args .list .now) (c .before .before .loop .last) (omega arith)
+    (c .before .before .loop .inv)
+
 pub last-of-spec : {M : Type 1} → statement M
 last-of-spec =
     tie.close
     (tie.spec
     Inv-loop
     μ-loop
-    (λ c. passed-start (c .before .before .args .cat .now) (c .before .before .args .list .now) (c .before .before .pre))
-    (λ c. omega arith)
-    (λ c κs. passed-room (c .before .before .before .before .before .before .args .cat .now) (c .before .before .before .before .before .before .args .list .now) (c .before .before .before .loop .last) (omega arith) (c .before .before .before .loop .inv))
-    (λ c κs. passed-room (c .before .before .before .before .before .before .before .args .cat .now) (c .before .before .before .before .before .before .before .args .list .now) (c .before .before .before .before .loop .last) (omega arith) (c .before .before .before .before .loop .inv))
-    (λ c. omega (arith, passed-onward (c .before .before .before .before .before .before .before .before .args .cat .now) (c .before .before .before .before .before .before .before .before .args .list .now) (c .before .before .before .before .before .loop .last) (omega arith) (c .before .before .before .before .before .loop .inv), c .next-at .ensures))
-    (λ c. passed-next (c .before .before .before .before .before .before .before .before .args .cat .now) (c .before .before .before .before .before .before .before .before .args .list .now) (c .before .before .before .before .before .loop .last) (omega arith) (c .before .before .before .before .before .loop .inv) (cc (c .before .qualification-at .ensures, c .next-at .ensures)))
-    (λ c. passed-end (c .before .before .before .before .before .args .cat .now) (c .before .before .before .before .before .args .list .now) (c .before .before .loop .last) (omega arith) (c .before .before .loop .inv)))
+    loop-holds
+    shared-slice-read-t10
+    qualification-at-requires
+    next-at-requires
+    loop-less
+    loop-again
+    returns)

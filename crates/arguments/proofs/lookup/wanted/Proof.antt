@@ -11,17 +11,63 @@ Inv-loop cat list t at₀ at = Sought cat list t at
 abbrev μ-loop : tie.MeasureT-loop
 μ-loop cat list t at₀ at = length list - at
 
+loop-holds : tie.Need-loop-holds Inv-loop μ-loop
+loop-holds c = let ·args = c .before .before .args in let ·pre = c .before .before .pre in
+    sought-start (·args .cat .now) (·args .list .now) (·args .t) (·pre)
+
+shared-slice-read-if1 : tie.Need-shared-slice-read-if1 Inv-loop μ-loop
+shared-slice-read-if1 c = omega arith
+
+qualification-at-requires : tie.Need-qualification-at-requires Inv-loop μ-loop
+qualification-at-requires c κs = let ·args = c .before .before .before .before .before .before .before .args in
+    let ·loop = c .before .before .before .before .loop in let ·loop-test = c .before .before .before .loop-test in
+    sought-room (·args .cat .now) (·args .list .now) (·args .t) (·loop .at) (·loop-test .taken) (·loop .inv)
+
+returns : tie.Need-returns Inv-loop μ-loop
+returns c = let ·args = c .before .before .before .before .before .before .before .before .args in
+    let ·loop = c .before .before .before .before .before .loop in
+    let ·loop-test = c .before .before .before .before .loop-test in
+    sought-here (·args .cat .now) (·args .list .now) (·args .t) (·loop .at) (·loop-test .taken) (·loop .inv)
+    (c .before .if1 .taken) (c .qualification-at .ensures)
+
+next-at-requires : tie.Need-next-at-requires Inv-loop μ-loop
+next-at-requires c κs = let ·args = c .before .before .before .before .before .before .before .args in
+    let ·loop = c .before .before .before .before .loop in let ·loop-test = c .before .before .before .loop-test in
+    sought-room (·args .cat .now) (·args .list .now) (·args .t) (·loop .at) (·loop-test .taken) (·loop .inv)
+
+loop-less : tie.Need-loop-less Inv-loop μ-loop
+loop-less c = let ·args = c .before .before .before .before .before .before .before .before .args in
+    omega (
+      arith,
+      sought-onward (·args .cat .now) (·args .list .now) (·args .t)
+          (c .before .before .before .before .before .loop .at) (c .before .before .before .before .loop-test .taken)
+          (c .before .before .before .before .before .loop .inv),
+      c .next-at .ensures,
+    )
+
+loop-again : tie.Need-loop-again Inv-loop μ-loop
+loop-again c = let ·args = c .before .before .before .before .before .before .before .before .args in
+    let ·loop = c .before .before .before .before .before .loop in
+    let ·loop-test = c .before .before .before .before .loop-test in
+    sought-next (·args .cat .now) (·args .list .now) (·args .t) (·loop .at) (·loop-test .taken) (·loop .inv)
+    (c .before .if1 .left) (c .next-at .ensures)
+
+returns-2 : tie.Need-returns-2 Inv-loop μ-loop
+returns-2 c = let ·args = c .before .before .before .before .args in
+    sought-end (·args .cat .now) (·args .list .now) (·args .t) (c .before .loop .at) (c .loop-test .left)
+    (c .before .loop .inv)
+
 pub wanted-spec : {M : Type 1} → statement M
 wanted-spec =
     tie.close
     (tie.spec
     Inv-loop
     μ-loop
-    (λ c. sought-start (c .before .before .args .cat .now) (c .before .before .args .list .now) (c .before .before .args .t) (c .before .before .pre))
-    (λ c. omega arith)
-    (λ c κs. sought-room (c .before .before .before .before .before .before .before .args .cat .now) (c .before .before .before .before .before .before .before .args .list .now) (c .before .before .before .before .before .before .before .args .t) (c .before .before .before .before .loop .at) (c .before .before .before .loop-test .taken) (c .before .before .before .before .loop .inv))
-    (λ c. sought-here (c .before .before .before .before .before .before .before .before .args .cat .now) (c .before .before .before .before .before .before .before .before .args .list .now) (c .before .before .before .before .before .before .before .before .args .t) (c .before .before .before .before .before .loop .at) (c .before .before .before .before .loop-test .taken) (c .before .before .before .before .before .loop .inv) (c .before .if1 .taken) (c .qualification-at .ensures))
-    (λ c κs. sought-room (c .before .before .before .before .before .before .before .args .cat .now) (c .before .before .before .before .before .before .before .args .list .now) (c .before .before .before .before .before .before .before .args .t) (c .before .before .before .before .loop .at) (c .before .before .before .loop-test .taken) (c .before .before .before .before .loop .inv))
-    (λ c. omega (arith, sought-onward (c .before .before .before .before .before .before .before .before .args .cat .now) (c .before .before .before .before .before .before .before .before .args .list .now) (c .before .before .before .before .before .before .before .before .args .t) (c .before .before .before .before .before .loop .at) (c .before .before .before .before .loop-test .taken) (c .before .before .before .before .before .loop .inv), c .next-at .ensures))
-    (λ c. sought-next (c .before .before .before .before .before .before .before .before .args .cat .now) (c .before .before .before .before .before .before .before .before .args .list .now) (c .before .before .before .before .before .before .before .before .args .t) (c .before .before .before .before .before .loop .at) (c .before .before .before .before .loop-test .taken) (c .before .before .before .before .before .loop .inv) (c .before .if1 .left) (c .next-at .ensures))
-    (λ c. sought-end (c .before .before .before .before .args .cat .now) (c .before .before .before .before .args .list .now) (c .before .before .before .before .args .t) (c .before .loop .at) (c .loop-test .left) (c .before .loop .inv)))
+    loop-holds
+    shared-slice-read-if1
+    qualification-at-requires
+    returns
+    next-at-requires
+    loop-less
+    loop-again
+    returns-2)

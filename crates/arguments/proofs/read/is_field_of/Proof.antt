@@ -7,7 +7,43 @@ use borrow.Author.Needs.{needs}
 use Rattle.arguments.proofs.read.is_field_of.Statement.{statement}
 use Rattle.arguments.proofs.read.is_field_of.Tie as tie
 
-pub is-field-of-spec : {M : Type 1} → statement M
+returns : tie.Need-returns
 unfolding isFieldOf
+returns c = let ·args = c .before .before .before .args in
+    simp (lt-leb 1 (·args .f .0) (omega arith))
+
+fields-requires : tie.Need-fields-requires
+fields-requires c κs = search needs
+
+returns-2 : tie.Need-returns-2
+unfolding isFieldOf
+returns-2 c = let ·args = c .before .before .before .before .before .before .args in
+    simp (
+      le-leb 1 (·args .f .0) (omega arith),
+      lt-leb (·args .f .0) (fields (·args .cat .now))
+          (omega (arith, c .before .before .fields .ensures)),
+    )
+
+field-type-requires : tie.Need-field-type-requires
+field-type-requires c κs = search needs
+
+returns-3 : tie.Need-returns-3
+unfolding isFieldOf
+returns-3 c = let ·args = c .before .before .before .before .before .before .before .before .before .args in
+    simp (
+      le-leb 1 (·args .f .0) (omega arith),
+      le-leb (·args .f .0) (fields (·args .cat .now))
+          (omega (arith, c .before .before .before .before .before .fields .ensures)),
+      sym
+          (c .before .before .field-type .ensures),
+    )
+
+pub is-field-of-spec : {M : Type 1} → statement M
 is-field-of-spec =
-    tie.close (tie.spec (λ c. simp (lt-leb 1 (c .before .before .before .args .f .0) (omega arith))) (λ c κs. search needs) (λ c. simp (le-leb 1 (c .before .before .before .before .before .before .args .f .0) (omega arith), lt-leb (c .before .before .before .before .before .before .args .f .0) (fields (c .before .before .before .before .before .before .args .cat .now)) (omega (arith, c .before .before .fields .ensures)))) (λ c κs. search needs) (λ c. simp (le-leb 1 (c .before .before .before .before .before .before .before .before .before .args .f .0) (omega arith), le-leb (c .before .before .before .before .before .before .before .before .before .args .f .0) (fields (c .before .before .before .before .before .before .before .before .before .args .cat .now)) (omega (arith, c .before .before .before .before .before .fields .ensures)), sym (c .before .before .field-type .ensures))))
+    tie.close
+    (tie.spec
+    returns
+    fields-requires
+    returns-2
+    field-type-requires
+    returns-3)

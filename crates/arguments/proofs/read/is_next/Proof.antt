@@ -5,7 +5,34 @@ use borrow.Author.Needs.{needs}
 use Rattle.arguments.proofs.read.is_next.Statement.{statement}
 use Rattle.arguments.proofs.read.is_next.Tie as tie
 
-pub is-next-spec : {M : Type 1} → statement M
+is-type-requires : tie.Need-is-type-requires
+is-type-requires c κs = search needs
+
+returns : tie.Need-returns
 unfolding goodNext
+returns c = simp (sym (c .before .is-type .ensures) ∙ not-true _ (c .if1 .taken))
+
+returns-2 : tie.Need-returns-2
+unfolding goodNext
+returns-2 c = let ·is-type = c .before .before .before .is-type in let ·if1 = c .before .before .if1 in
+    simp (sym (·is-type .ensures) ∙ not-false _ (·if1 .left), eq-eqb _ _ (c .if2 .taken))
+
+is-beneath-requires : tie.Need-is-beneath-requires
+is-beneath-requires c κs = search needs
+
+returns-3 : tie.Need-returns-3
+unfolding goodNext
+returns-3 c = let ·is-type = c .before .before .before .before .is-type in
+    let ·if1 = c .before .before .before .if1 in
+    simp (sym (·is-type .ensures) ∙ not-false _ (·if1 .left), ne-eqb _ _ (c .before .if2 .left))
+    (c .is-beneath .ensures)
+
+pub is-next-spec : {M : Type 1} → statement M
 is-next-spec =
-    tie.close (tie.spec (λ c κs. search needs) (λ c. simp (sym (c .before .is-type .ensures) ∙ not-true _ (c .if1 .taken))) (λ c. simp (sym (c .before .before .before .is-type .ensures) ∙ not-false _ (c .before .before .if1 .left), eq-eqb _ _ (c .if2 .taken))) (λ c κs. search needs) (λ c. simp (sym (c .before .before .before .before .is-type .ensures) ∙ not-false _ (c .before .before .before .if1 .left), ne-eqb _ _ (c .before .if2 .left)) (c .is-beneath .ensures)))
+    tie.close
+    (tie.spec
+    is-type-requires
+    returns
+    returns-2
+    is-beneath-requires
+    returns-3)

@@ -4,5 +4,23 @@ use borrow.Author.Needs.{needs}
 use Rattle.arguments.proofs.read.status_of.Statement.{statement}
 use Rattle.arguments.proofs.read.status_of.Tie as tie
 
+enum-told : tie.Need-enum-told
+enum-told c = search needs
+
+enum-known-read : tie.Need-enum-known-read
+enum-known-read c = search needs
+
+returns : tie.Need-returns
+returns c = search needs
+
+returns-2 : tie.Need-returns-2
+returns-2 c = sym (ap statusOf (c .before .read .given .1))
+
 pub status-of-spec : {M : Type 1} → statement M
-status-of-spec = tie.close (tie.spec (λ c. search needs) (λ c. search needs) (λ c. search needs) (λ c. sym (ap statusOf (c .before .read .given .1))))
+status-of-spec =
+    tie.close
+    (tie.spec
+    enum-told
+    enum-known-read
+    returns
+    returns-2)

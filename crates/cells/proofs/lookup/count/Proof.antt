@@ -3,6 +3,16 @@ use borrow.Author.Needs.{needs}
 use Rattle.cells.proofs.lookup.count.Statement.{statement}
 use Rattle.cells.proofs.lookup.count.Tie as tie
 
-pub count-spec : {M : Type 1} → statement M
+word-at-requires : tie.Need-word-at-requires
+word-at-requires c κs = search needs
+
+returns : tie.Need-returns
 unfolding count
-count-spec = tie.close (tie.spec (λ c κs. search needs) (λ c. c .word-at .ensures))
+returns c = c .word-at .ensures
+
+pub count-spec : {M : Type 1} → statement M
+count-spec =
+    tie.close
+    (tie.spec
+    word-at-requires
+    returns)

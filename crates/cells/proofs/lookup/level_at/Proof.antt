@@ -5,6 +5,21 @@ use borrow.Author.Needs.{needs}
 use Rattle.cells.proofs.lookup.level_at.Statement.{statement}
 use Rattle.cells.proofs.lookup.level_at.Tie as tie
 
-pub level-at-spec : {M : Type 1} → statement M
+code-at-requires : tie.Need-code-at-requires
+code-at-requires c κs = search needs
+
+level-requires : tie.Need-level-requires
+level-requires c κs = search needs
+
+returns : tie.Need-returns
 unfolding levelAt
-level-at-spec = tie.close (tie.spec (λ c κs. search needs) (λ c κs. search needs) (λ c. c .level .ensures ∙ ap (level (c .before .before .before .before .args .cat .now)) (c .before .code-at .ensures)))
+returns c = let ·args = c .before .before .before .before .args in
+    c .level .ensures ∙ ap (level (·args .cat .now)) (c .before .code-at .ensures)
+
+pub level-at-spec : {M : Type 1} → statement M
+level-at-spec =
+    tie.close
+    (tie.spec
+    code-at-requires
+    level-requires
+    returns)

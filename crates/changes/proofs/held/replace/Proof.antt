@@ -1,6 +1,6 @@
 use mathlib.Core.Path.{ap, _∙_}
 use Rattle.terms.specs.declared.Answer.{Answer}
-use Rattle.blocks.proofs.Tests.{told-no, told-yes}
+use Rattle.blocks.proofs.Negated.{told-no, told-yes}
 use Rattle.answers.specs.Ready.{made}
 use Rattle.changes.proofs.Changed.{held-cell, replace-differs, replace-ready, replace-done}
 use Rattle.changes.proofs.Told.{told-made}
@@ -8,18 +8,76 @@ use borrow.Author.Needs.{needs}
 use Rattle.changes.proofs.held.replace.Statement.{statement}
 use Rattle.changes.proofs.held.replace.Tie as tie
 
+cell-requires : tie.Need-cell-requires
+cell-requires c κs = search needs
+
+code-at-requires : tie.Need-code-at-requires
+code-at-requires c κs = let ·pre = c .before .before .before .before .before .pre in
+    (·pre .0 .sound .sized, held-cell (·pre .0) (c .before .cell .ensures))
+
+has-key-requires : tie.Need-has-key-requires
+has-key-requires c κs = let ·pre = c .before .before .before .before .before .before .before .pre in
+    let ·cell = c .before .before .before .cell in
+    (·pre .0 .sound, held-cell (·pre .0) (·cell .ensures), c .before .code-at .ensures, ·pre .1)
+
+bare-requires : tie.Need-bare-requires
+bare-requires c κs = search needs
+
+same-length : tie.Need-same-length
+same-length c = search needs
+
+returns : tie.Need-returns
+returns c = let ·args = c .before .before .before .before .before .before .before .before .before .before .args in
+    let ·pre = c .before .before .before .before .before .before .before .before .before .before .pre in
+    let ·cell = c .before .before .before .before .before .before .cell in
+    let ·code-at = c .before .before .before .before .code-at in let ·has-key = c .before .before .has-key in
+    ap (λ (r : Answer). made r (·args .tab .now) (·args .area .now)) (c .bare .ensures) ∙ replace-differs (·pre .0)
+    (·cell .ensures) (·code-at .ensures) (·args .area .now) (·pre .1)
+    (told-no (·has-key .ensures) (c .before .if1 .taken))
+
+replace-cell-sound-requires : tie.Need-replace-cell-sound-requires
+replace-cell-sound-requires c κs =
+    let ·pre = c .before .before .before .before .before .before .before .before .before .before .pre in
+    let ·cell = c .before .before .before .before .before .before .cell in
+    let ·code-at = c .before .before .before .before .code-at in
+    let ·args = c .before .before .before .before .before .before .before .before .before .before .args in
+    replace-ready (·pre .0) (·cell .ensures) (·code-at .ensures) (·args .area .now) (·pre .1)
+
+hold-dropped-requires : tie.Need-hold-dropped-requires
+hold-dropped-requires c κs = search needs
+
+told-requires : tie.Need-told-requires
+told-requires c κs = search needs
+
+same-length-2 : tie.Need-same-length-2
+same-length-2 c = search needs
+
+returns-2 : tie.Need-returns-2
+returns-2 c = let ·replace-cell-sound = c .before .before .before .before .replace-cell-sound in
+    let ·pre = c .before .before .before .before .before .before .before .before .before .before .before .before .before
+    .before .before .pre in
+    let ·cell = c .before .before .before .before .before .before .before .before .before .before .before .cell in
+    let ·code-at = c .before .before .before .before .before .before .before .before .before .code-at in
+    let ·args = c .before .before .before .before .before .before .before .before .before .before .before .before
+    .before .before .before .args in
+    let ·has-key = c .before .before .before .before .before .before .before .has-key in
+    let ·if1 = c .before .before .before .before .before .before .if1 in
+    told-made _ _ _ _ _ (c .told .ensures) (c .before .hold-dropped .ensures) (·replace-cell-sound .ensures) ∙
+    replace-done (·pre .0) (·cell .ensures) (·code-at .ensures) (·args .area .now) (·pre .1)
+    (told-yes (·has-key .ensures) (·if1 .left))
+
 pub replace-spec : {M : Type 1} → statement M
 replace-spec =
     tie.close
     (tie.spec
-    (λ c κs. search needs)
-    (λ c κs. (c .before .before .before .before .before .pre .0 .sound .sized, held-cell (c .before .before .before .before .before .pre .0) (c .before .cell .ensures)))
-    (λ c κs. (c .before .before .before .before .before .before .before .pre .0 .sound, held-cell (c .before .before .before .before .before .before .before .pre .0) (c .before .before .before .cell .ensures), c .before .code-at .ensures, c .before .before .before .before .before .before .before .pre .1))
-    (λ c κs. search needs)
-    (λ c. search needs)
-    (λ c. ap (λ (r : Answer). made r (c .before .before .before .before .before .before .before .before .before .before .args .tab .now) (c .before .before .before .before .before .before .before .before .before .before .args .area .now)) (c .bare .ensures) ∙ replace-differs (c .before .before .before .before .before .before .before .before .before .before .pre .0) (c .before .before .before .before .before .before .cell .ensures) (c .before .before .before .before .code-at .ensures) (c .before .before .before .before .before .before .before .before .before .before .args .area .now) (c .before .before .before .before .before .before .before .before .before .before .pre .1) (told-no (c .before .before .has-key .ensures) (c .before .if1 .taken)))
-    (λ c κs. replace-ready (c .before .before .before .before .before .before .before .before .before .before .pre .0) (c .before .before .before .before .before .before .cell .ensures) (c .before .before .before .before .code-at .ensures) (c .before .before .before .before .before .before .before .before .before .before .args .area .now) (c .before .before .before .before .before .before .before .before .before .before .pre .1))
-    (λ c κs. search needs)
-    (λ c κs. search needs)
-    (λ c. search needs)
-    (λ c. told-made _ _ _ _ _ (c .told .ensures) (c .before .hold-dropped .ensures) (c .before .before .before .before .replace-cell-sound .ensures) ∙ replace-done (c .before .before .before .before .before .before .before .before .before .before .before .before .before .before .before .pre .0) (c .before .before .before .before .before .before .before .before .before .before .before .cell .ensures) (c .before .before .before .before .before .before .before .before .before .code-at .ensures) (c .before .before .before .before .before .before .before .before .before .before .before .before .before .before .before .args .area .now) (c .before .before .before .before .before .before .before .before .before .before .before .before .before .before .before .pre .1) (told-yes (c .before .before .before .before .before .before .before .has-key .ensures) (c .before .before .before .before .before .before .if1 .left))))
+    cell-requires
+    code-at-requires
+    has-key-requires
+    bare-requires
+    same-length
+    returns
+    replace-cell-sound-requires
+    hold-dropped-requires
+    told-requires
+    same-length-2
+    returns-2)

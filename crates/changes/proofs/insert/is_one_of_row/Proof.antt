@@ -4,7 +4,41 @@ use borrow.Author.Needs.{needs}
 use Rattle.changes.proofs.insert.is_one_of_row.Statement.{statement}
 use Rattle.changes.proofs.insert.is_one_of_row.Tie as tie
 
+enum-known-parentage : tie.Need-enum-known-parentage
+enum-known-parentage c = search needs
+
+enum-told : tie.Need-enum-told
+enum-told c = search needs
+
+returns : tie.Need-returns
+returns c = search needs
+
+returns-2 : tie.Need-returns-2
+returns-2 c = let ·args = c .before .before .before .before .before .before .before .before .args in
+    let ·pre = c .before .before .before .before .before .before .before .before .pre in
+    let ·parentage = c .before .before .before .before .parentage in
+    above-later (·args .cat .now) (·args .tab .now) (·args .p .0) (·pre .1) (·args .parentage) _ (·parentage .given .1)
+    (c .if1 .taken)
+
+run-end-requires : tie.Need-run-end-requires
+run-end-requires c κs = search needs
+
+returns-3 : tie.Need-returns-3
+returns-3 c =
+    let ·args = c .before .before .before .before .before .before .before .before .before .before .before .args in
+    let ·pre = c .before .before .before .before .before .before .before .before .before .before .before .pre in
+    let ·parentage = c .before .before .before .before .before .before .before .parentage in
+    let ·if1 = c .before .before .before .if1 in let ·run-end = c .before .before .run-end in
+    above-within (·args .cat .now) (·args .tab .now) (·args .p .0) (·pre .1) (·args .parentage) _ _
+    (·parentage .given .1) (·if1 .left) (·run-end .ensures)
+
 pub is-one-of-row-spec : {M : Type 1} → statement M
 is-one-of-row-spec =
     tie.close
-    (tie.spec (λ c. search needs) (λ c. search needs) (λ c. search needs) (λ c. above-later (c .before .before .before .before .before .before .before .before .args .cat .now) (c .before .before .before .before .before .before .before .before .args .tab .now) (c .before .before .before .before .before .before .before .before .args .p .0) (c .before .before .before .before .before .before .before .before .pre .1) (c .before .before .before .before .before .before .before .before .args .parentage) _ (c .before .before .before .before .parentage .given .1) (c .if1 .taken)) (λ c κs. search needs) (λ c. above-within (c .before .before .before .before .before .before .before .before .before .before .before .args .cat .now) (c .before .before .before .before .before .before .before .before .before .before .before .args .tab .now) (c .before .before .before .before .before .before .before .before .before .before .before .args .p .0) (c .before .before .before .before .before .before .before .before .before .before .before .pre .1) (c .before .before .before .before .before .before .before .before .before .before .before .args .parentage) _ _ (c .before .before .before .before .before .before .before .parentage .given .1) (c .before .before .before .if1 .left) (c .before .before .run-end .ensures)))
+    (tie.spec
+    enum-known-parentage
+    enum-told
+    returns
+    returns-2
+    run-end-requires
+    returns-3)

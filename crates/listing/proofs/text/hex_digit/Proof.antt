@@ -4,6 +4,25 @@ use borrow.Author.Needs.{needs}
 use Rattle.listing.proofs.text.hex_digit.Statement.{statement}
 use Rattle.listing.proofs.text.hex_digit.Tie as tie
 
-pub hex-digit-spec : {M : Type 1} → statement M
+add-result : tie.Need-add-result
+add-result c = search needs
+
+add-result-2 : tie.Need-add-result-2
+add-result-2 c = search needs
+
+returns : tie.Need-returns
 unfolding hexDigit
-hex-digit-spec = tie.close (tie.spec (λ c. search needs) (λ c. search needs) (λ c. rw (lt-ltb (c .before .args .n) 10 (c .if1 .taken))) (λ c. rw (le-ltb (c .before .args .n) 10 (c .if1 .left))))
+returns c = rw (lt-ltb (c .before .args .n) 10 (c .if1 .taken))
+
+returns-2 : tie.Need-returns-2
+unfolding hexDigit
+returns-2 c = rw (le-ltb (c .before .args .n) 10 (c .if1 .left))
+
+pub hex-digit-spec : {M : Type 1} → statement M
+hex-digit-spec =
+    tie.close
+    (tie.spec
+    add-result
+    add-result-2
+    returns
+    returns-2)

@@ -3,6 +3,21 @@ use borrow.Author.Needs.{needs}
 use Rattle.listing.proofs.text.put_decimal.Statement.{statement}
 use Rattle.listing.proofs.text.put_decimal.Tie as tie
 
-pub put-decimal-spec : {M : Type 1} → statement M
+put-digits-requires : tie.Need-put-digits-requires
+put-digits-requires c κs = search needs
+
+same-length : tie.Need-same-length
+same-length c = search needs
+
+returns : tie.Need-returns
 unfolding decimal
-put-decimal-spec = tie.close (tie.spec (λ c κs. search needs) (λ c. search needs) (λ c. c .before .before .put-digits .ensures))
+returns c = let ·put-digits = c .before .before .put-digits in
+    ·put-digits .ensures
+
+pub put-decimal-spec : {M : Type 1} → statement M
+put-decimal-spec =
+    tie.close
+    (tie.spec
+    put-digits-requires
+    same-length
+    returns)

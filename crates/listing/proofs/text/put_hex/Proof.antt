@@ -9,10 +9,78 @@ use Rattle.listing.proofs.text.put_hex.Statement.{statement}
 use Rattle.listing.proofs.text.put_hex.Tie as tie
 
 abbrev Inv-loop : tie.InvT-loop
-Inv-loop out₀ at from next₀ i₀ out next i = (i ≤ length from) × (next ≡ at + 2 * i) × (at + 2 * length from ≤ length out₀) × Wrote at (hex (take i from)) out₀ next out
+Inv-loop out₀ at from next₀ i₀ out next i = (i ≤ length from) × (next ≡ at + 2 * i) ×
+    (at + 2 * length from ≤ length out₀) × Wrote at (hex (take i from)) out₀ next out
 
 abbrev μ-loop : tie.MeasureT-loop
 μ-loop out₀ at from next₀ i₀ out next i = length from - i
+
+loop-holds : tie.Need-loop-holds Inv-loop μ-loop
+loop-holds c = let ·args = c .before .before .args in
+    (omega arith, omega arith, omega arith, wrote-none _ _ _ (hex-none (·args .from .now)))
+
+shared-slice-read-hex-digit : tie.Need-shared-slice-read-hex-digit Inv-loop μ-loop
+shared-slice-read-hex-digit c = omega arith
+
+hex-digit-requires : tie.Need-hex-digit-requires Inv-loop μ-loop
+hex-digit-requires c κs = omega (arith, c .shared-slice-known2 .given (c .before .before .before .loop .i))
+
+put-byte-requires : tie.Need-put-byte-requires Inv-loop μ-loop
+put-byte-requires c κs = omega (arith, c .before .before .before .before .loop .inv .3 .long)
+
+shared-slice-read-hex-digit-2 : tie.Need-shared-slice-read-hex-digit-2 Inv-loop μ-loop
+shared-slice-read-hex-digit-2 c = omega arith
+
+hex-digit-requires-2 : tie.Need-hex-digit-requires-2 Inv-loop μ-loop
+hex-digit-requires-2 c κs = omega (
+  arith,
+  c .shared-slice-known3 .given
+      (c .before .before .before .before .before .before .before .before .before .loop .i),
+)
+
+put-byte-requires-2 : tie.Need-put-byte-requires-2 Inv-loop μ-loop
+put-byte-requires-2 c κs = omega (
+  arith,
+  c .before .before .before .before .before .before .before .before .before
+      .before .loop .inv .3 .long,
+  c .before .before .before .before .before .put-byte .ensures .long,
+  c .before .before .before .before .before .put-byte .ensures .place,
+)
+
+add-i : tie.Need-add-i Inv-loop μ-loop
+add-i c = omega arith
+
+loop-less : tie.Need-loop-less Inv-loop μ-loop
+loop-less c = omega arith
+
+loop-again : tie.Need-loop-again Inv-loop μ-loop
+loop-again c =
+    let ·args = c .before .before .before .before .before .before .before .before .before .before .before .before
+    .before .before .before .before .args in (
+      omega arith,
+      omega (
+        arith,
+        c .before .before .before .before .before .before .before .before .put-byte .ensures
+            .place,
+        c .before .before .put-byte2 .ensures .place,
+      ),
+      omega arith,
+      wrote-as
+          (wrote-then (c .before .before .before .before .before .before .before .before .before .before .before .before
+          .before .loop .inv .3) (wrote-then (c .before .before .before .before .before .before .before .before .put-byte
+          .ensures) (c .before .before .put-byte2 .ensures)))
+          (hex-turn (·args .from .now) (c .before .before .before .before .before .before .before .before .before .before
+          .before .before .before .loop .i) _ _ (c .before .before .before .before .before .before .before .before .before
+          .before .before .before .loop-test .taken)
+          (c .before .before .before .before .before .before .before .before .before .hex-digit .ensures)
+          (c .before .before .before .hex-digit2 .ensures)),
+    )
+
+same-length : tie.Need-same-length Inv-loop μ-loop
+same-length c = c .before .loop .inv .3 .long
+
+returns : tie.Need-returns Inv-loop μ-loop
+returns c = (wrote-as (c .before .loop .inv .3) (hex-all _ _ (c .loop-test .left)), omega arith)
 
 pub put-hex-spec : {M : Type 1} → statement M
 put-hex-spec =
@@ -20,15 +88,15 @@ put-hex-spec =
     (tie.spec
     Inv-loop
     μ-loop
-    (λ c. (omega arith, omega arith, omega arith, wrote-none _ _ _ (hex-none (c .before .before .args .from .now))))
-    (λ c. omega arith)
-    (λ c κs. omega (arith, c .shared-slice-known2 .given (c .before .before .before .loop .i)))
-    (λ c κs. omega (arith, c .before .before .before .before .loop .inv .3 .long))
-    (λ c. omega arith)
-    (λ c κs. omega (arith, c .shared-slice-known3 .given (c .before .before .before .before .before .before .before .before .before .loop .i)))
-    (λ c κs. omega (arith, c .before .before .before .before .before .before .before .before .before .before .loop .inv .3 .long, c .before .before .before .before .before .put-byte .ensures .long, c .before .before .before .before .before .put-byte .ensures .place))
-    (λ c. omega arith)
-    (λ c. omega arith)
-    (λ c. (omega arith, omega (arith, c .before .before .before .before .before .before .before .before .put-byte .ensures .place, c .before .before .put-byte2 .ensures .place), omega arith, wrote-as (wrote-then (c .before .before .before .before .before .before .before .before .before .before .before .before .before .loop .inv .3) (wrote-then (c .before .before .before .before .before .before .before .before .put-byte .ensures) (c .before .before .put-byte2 .ensures))) (hex-turn (c .before .before .before .before .before .before .before .before .before .before .before .before .before .before .before .before .args .from .now) (c .before .before .before .before .before .before .before .before .before .before .before .before .before .loop .i) _ _ (c .before .before .before .before .before .before .before .before .before .before .before .before .loop-test .taken) (c .before .before .before .before .before .before .before .before .before .hex-digit .ensures) (c .before .before .before .hex-digit2 .ensures))))
-    (λ c. c .before .loop .inv .3 .long)
-    (λ c. (wrote-as (c .before .loop .inv .3) (hex-all _ _ (c .loop-test .left)), omega arith)))
+    loop-holds
+    shared-slice-read-hex-digit
+    hex-digit-requires
+    put-byte-requires
+    shared-slice-read-hex-digit-2
+    hex-digit-requires-2
+    put-byte-requires-2
+    add-i
+    loop-less
+    loop-again
+    same-length
+    returns)

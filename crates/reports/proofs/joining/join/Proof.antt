@@ -4,15 +4,48 @@ use borrow.Author.Needs.{needs}
 use Rattle.reports.proofs.joining.join.Statement.{statement}
 use Rattle.reports.proofs.joining.join.Tie as tie
 
+put-requires : tie.Need-put-requires
+put-requires c κs = search needs
+
+sub-put : tie.Need-sub-put
+sub-put c = search needs
+
+part-put-start : tie.Need-part-put-start
+part-put-start c = search needs
+
+part-put-end : tie.Need-part-put-end
+part-put-end c = search needs
+
+put-requires-2 : tie.Need-put-requires-2
+put-requires-2 c κs = search needs
+
+add-result : tie.Need-add-result
+add-result c = search needs
+
+same-length : tie.Need-same-length
+same-length c = search needs
+
+returns : tie.Need-returns
+returns c =
+    let ·args = c .before .before .before .before .before .before .before .before .before .before .before .args in
+    let ·pre = c .before .before .before .before .before .before .before .before .before .before .before .pre in
+    let ·put = c .before .before .before .before .before .before .put in let ·put2 = c .before .before .put2 in (
+      refl,
+      both-front (·args .list .now) (·args .one .now) (·args .two .now) _ _ (·pre) (·put .ensures)
+          (·put2 .ensures),
+      both-long (·args .list .now) (·args .one .now) (·args .two .now) _ _ (·pre) (·put .ensures)
+          (·put2 .ensures),
+    )
+
 pub join-spec : {M : Type 1} → statement M
 join-spec =
     tie.close
     (tie.spec
-    (λ c κs. search needs)
-    (λ c. search needs)
-    (λ c. search needs)
-    (λ c. search needs)
-    (λ c κs. search needs)
-    (λ c. search needs)
-    (λ c. search needs)
-    (λ c. (refl, both-front (c .before .before .before .before .before .before .before .before .before .before .before .args .list .now) (c .before .before .before .before .before .before .before .before .before .before .before .args .one .now) (c .before .before .before .before .before .before .before .before .before .before .before .args .two .now) _ _ (c .before .before .before .before .before .before .before .before .before .before .before .pre) (c .before .before .before .before .before .before .put .ensures) (c .before .before .put2 .ensures), both-long (c .before .before .before .before .before .before .before .before .before .before .before .args .list .now) (c .before .before .before .before .before .before .before .before .before .before .before .args .one .now) (c .before .before .before .before .before .before .before .before .before .before .before .args .two .now) _ _ (c .before .before .before .before .before .before .before .before .before .before .before .pre) (c .before .before .before .before .before .before .put .ensures) (c .before .before .put2 .ensures))))
+    put-requires
+    sub-put
+    part-put-start
+    part-put-end
+    put-requires-2
+    add-result
+    same-length
+    returns)

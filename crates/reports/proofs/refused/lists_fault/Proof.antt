@@ -5,15 +5,53 @@ use borrow.Author.Needs.{needs}
 use Rattle.reports.proofs.refused.lists_fault.Statement.{statement}
 use Rattle.reports.proofs.refused.lists_fault.Tie as tie
 
+fault-requires : tie.Need-fault-requires
+fault-requires c κs = search needs
+
+number-requires : tie.Need-number-requires
+number-requires c κs = search needs
+
+returns : tie.Need-returns
+returns c = let ·fault = c .before .before .fault in
+    lists-first _ _ _ _ _ (·fault .ensures) (c .before .number .ensures) (c .if1 .taken)
+
+returns-2 : tie.Need-returns-2
+returns-2 c = let ·fault = c .before .before .before .fault in let ·number = c .before .before .number in
+    lists-no-first _ _ _ _ _ (·fault .ensures) (·number .ensures) (c .before .if1 .left) (c .if2 .taken)
+
+returns-3 : tie.Need-returns-3
+returns-3 c = let ·fault = c .before .before .before .before .fault in
+    let ·number = c .before .before .before .number in let ·if1 = c .before .before .if1 in
+    lists-no-second _ _ _ _ _ (·fault .ensures) (·number .ensures) (·if1 .left) (c .if3 .taken)
+
+last-of-requires : tie.Need-last-of-requires
+last-of-requires c κs = let ·args = c .before .before .before .before .before .before .before .before .args in
+    let ·fault = c .before .before .before .before .fault in let ·number = c .before .before .before .number in
+    let ·if1 = c .before .before .if1 in
+    let ·pre = c .before .before .before .before .before .before .before .before .pre in
+    lists-sound _ _ (·args .two .now) _ _ (·fault .ensures) (·number .ensures) (·if1 .left) (·pre)
+
+fault-behind-requires : tie.Need-fault-behind-requires
+fault-behind-requires c κs = search needs
+
+returns-4 : tie.Need-returns-4
+returns-4 c = let ·fault = c .before .before .before .before .before .before .fault in
+    let ·number = c .before .before .before .before .before .number in
+    let ·if1 = c .before .before .before .before .if1 in
+    let ·pre = c .before .before .before .before .before .before .before .before .before .before .pre in
+    let ·if2 = c .before .before .before .if2 in let ·if3 = c .before .before .if3 in
+    lists-behind _ _ _ _ _ (·fault .ensures) (·number .ensures) (·if1 .left) (·pre) (·if2 .left) (·if3 .left) _
+    (ap (λ (a : Argument). a .code) (c .before .last-of .ensures)) _ (c .fault-behind .ensures)
+
 pub lists-fault-spec : {M : Type 1} → statement M
 lists-fault-spec =
     tie.close
     (tie.spec
-    (λ c κs. search needs)
-    (λ c κs. search needs)
-    (λ c. lists-first _ _ _ _ _ (c .before .before .fault .ensures) (c .before .number .ensures) (c .if1 .taken))
-    (λ c. lists-no-first _ _ _ _ _ (c .before .before .before .fault .ensures) (c .before .before .number .ensures) (c .before .if1 .left) (c .if2 .taken))
-    (λ c. lists-no-second _ _ _ _ _ (c .before .before .before .before .fault .ensures) (c .before .before .before .number .ensures) (c .before .before .if1 .left) (c .if3 .taken))
-    (λ c κs. lists-sound _ _ (c .before .before .before .before .before .before .before .before .args .two .now) _ _ (c .before .before .before .before .fault .ensures) (c .before .before .before .number .ensures) (c .before .before .if1 .left) (c .before .before .before .before .before .before .before .before .pre))
-    (λ c κs. search needs)
-    (λ c. lists-behind _ _ _ _ _ (c .before .before .before .before .before .before .fault .ensures) (c .before .before .before .before .before .number .ensures) (c .before .before .before .before .if1 .left) (c .before .before .before .before .before .before .before .before .before .before .pre) (c .before .before .before .if2 .left) (c .before .before .if3 .left) _ (ap (λ (a : Argument). a .code) (c .before .last-of .ensures)) _ (c .fault-behind .ensures)))
+    fault-requires
+    number-requires
+    returns
+    returns-2
+    returns-3
+    last-of-requires
+    fault-behind-requires
+    returns-4)

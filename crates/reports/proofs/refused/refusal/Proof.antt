@@ -3,6 +3,31 @@ use borrow.Author.Needs.{needs}
 use Rattle.reports.proofs.refused.refusal.Statement.{statement}
 use Rattle.reports.proofs.refused.refusal.Tie as tie
 
+check-requires : tie.Need-check-requires
+check-requires c κs = search needs
+
+number-requires : tie.Need-number-requires
+number-requires c κs = search needs
+
+returns : tie.Need-returns
+returns c = let ·check = c .before .before .check in
+    refused-blocks _ _ _ _ (·check .ensures) (c .before .number .ensures) _ _ (c .if1 .taken)
+
+lists-fault-requires : tie.Need-lists-fault-requires
+lists-fault-requires c κs = let ·args = c .before .before .before .before .before .before .before .args in
+    let ·check = c .before .before .check in
+    blocks-good _ (·args .tab .now) _ _ (·check .ensures) (c .before .number .ensures) (c .if1 .left) .0
+
+returns-2 : tie.Need-returns-2
+returns-2 c = let ·check = c .before .before .before .check in let ·number = c .before .before .number in
+    refused-lists _ _ _ _ (·check .ensures) (·number .ensures) (c .before .if1 .left) _ _ _ (c .lists-fault .ensures)
+
 pub refusal-spec : {M : Type 1} → statement M
 refusal-spec =
-    tie.close (tie.spec (λ c κs. search needs) (λ c κs. search needs) (λ c. refused-blocks _ _ _ _ (c .before .before .check .ensures) (c .before .number .ensures) _ _ (c .if1 .taken)) (λ c κs. blocks-good _ (c .before .before .before .before .before .before .before .args .tab .now) _ _ (c .before .before .check .ensures) (c .before .number .ensures) (c .if1 .left) .0) (λ c. refused-lists _ _ _ _ (c .before .before .before .check .ensures) (c .before .before .number .ensures) (c .before .if1 .left) _ _ _ (c .lists-fault .ensures)))
+    tie.close
+    (tie.spec
+    check-requires
+    number-requires
+    returns
+    lists-fault-requires
+    returns-2)

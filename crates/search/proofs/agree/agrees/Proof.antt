@@ -1,20 +1,70 @@
 use mathlib.Core.Path.{sym, _∙_}
 use borrow.Author.Tests.{not-true, not-false}
-use Rattle.search.proofs.Laws.{agrees-not, agrees-implied, agrees-named, named-testable}
+use Rattle.search.proofs.Branches.{agrees-not, agrees-implied, agrees-named, named-testable}
 use borrow.Author.Needs.{needs}
 use Rattle.search.proofs.agree.agrees.Statement.{statement}
 use Rattle.search.proofs.agree.agrees.Tie as tie
+
+code-at-requires : tie.Need-code-at-requires
+code-at-requires c κs = search needs
+
+is-above-requires : tie.Need-is-above-requires
+is-above-requires c κs = search needs
+
+returns : tie.Need-returns
+returns c = let ·pre = c .before .before .before .before .before .before .pre in
+    let ·args = c .before .before .before .before .before .before .args in let ·code-at = c .before .before .code-at in
+    agrees-not (·pre .0) (·args .c .0) (·code-at .result) (·code-at .ensures)
+    (sym (c .before .is-above .ensures) ∙ not-true _ (c .if1 .taken))
+
+wanted-requires : tie.Need-wanted-requires
+wanted-requires c κs = search needs
+
+enum-told : tie.Need-enum-told
+enum-told c = search needs
+
+enum-known-q : tie.Need-enum-known-q
+enum-known-q c = search needs
+
+satisfies-requires : tie.Need-satisfies-requires
+satisfies-requires c κs =
+    let ·pre = c .before .before .before .before .before .before .before .before .before .before .pre in
+    let ·args = c .before .before .before .before .before .before .before .before .before .before .args in
+    let ·code-at = c .before .before .before .before .before .before .code-at in
+    let ·wanted = c .before .before .before .wanted in
+    named-testable (·pre .0) (·args .c .0) (·code-at .result) (·code-at .ensures) _ _ (·pre .1) (·wanted .ensures)
+    (c .before .q .given .1)
+
+returns-2 : tie.Need-returns-2
+returns-2 c = let ·pre = c .before .before .before .before .before .before .before .before .before .pre in
+    let ·args = c .before .before .before .before .before .before .before .before .before .args in
+    let ·code-at = c .before .before .before .before .before .code-at in
+    let ·is-above = c .before .before .before .before .is-above in let ·if1 = c .before .before .before .if1 in
+    let ·wanted = c .before .before .wanted in
+    agrees-implied (·pre .0) (·args .c .0) (·code-at .result) (·code-at .ensures) _
+    (sym (·is-above .ensures) ∙ not-false _ (·if1 .left)) (·wanted .ensures) (c .enum-told .given .1)
+
+returns-3 : tie.Need-returns-3
+returns-3 c =
+    let ·pre = c .before .before .before .before .before .before .before .before .before .before .before .pre in
+    let ·args = c .before .before .before .before .before .before .before .before .before .before .before .args in
+    let ·code-at = c .before .before .before .before .before .before .before .code-at in
+    let ·is-above = c .before .before .before .before .before .before .is-above in
+    let ·if1 = c .before .before .before .before .before .if1 in
+    let ·wanted = c .before .before .before .before .wanted in let ·q = c .before .before .q in
+    agrees-named (·pre .0) (·args .c .0) (·code-at .result) (·code-at .ensures) _ _ _
+    (sym (·is-above .ensures) ∙ not-false _ (·if1 .left)) (·wanted .ensures) (·q .given .1) (c .satisfies .ensures)
 
 pub agrees-spec : {M : Type 1} → statement M
 agrees-spec =
     tie.close
     (tie.spec
-    (λ c κs. search needs)
-    (λ c κs. search needs)
-    (λ c. let s = c .before .before .before .before .before .before in agrees-not (s .pre .0) (s .args .c .0) (c .before .before .code-at .result) (c .before .before .code-at .ensures) (sym (c .before .is-above .ensures) ∙ not-true _ (c .if1 .taken)))
-    (λ c κs. search needs)
-    (λ c. search needs)
-    (λ c. search needs)
-    (λ c κs. let s = c .before .before .before .before .before .before .before .before .before .before in named-testable (s .pre .0) (s .args .c .0) (c .before .before .before .before .before .before .code-at .result) (c .before .before .before .before .before .before .code-at .ensures) _ _ (s .pre .1) (c .before .before .before .wanted .ensures) (c .before .q .given .1))
-    (λ c. let s = c .before .before .before .before .before .before .before .before .before in agrees-implied (s .pre .0) (s .args .c .0) (c .before .before .before .before .before .code-at .result) (c .before .before .before .before .before .code-at .ensures) _ (sym (c .before .before .before .before .is-above .ensures) ∙ not-false _ (c .before .before .before .if1 .left)) (c .before .before .wanted .ensures) (c .enum-told .given .1))
-    (λ c. let s = c .before .before .before .before .before .before .before .before .before .before .before in agrees-named (s .pre .0) (s .args .c .0) (c .before .before .before .before .before .before .before .code-at .result) (c .before .before .before .before .before .before .before .code-at .ensures) _ _ _ (sym (c .before .before .before .before .before .before .is-above .ensures) ∙ not-false _ (c .before .before .before .before .before .if1 .left)) (c .before .before .before .before .wanted .ensures) (c .before .before .q .given .1) (c .satisfies .ensures)))
+    code-at-requires
+    is-above-requires
+    returns
+    wanted-requires
+    enum-told
+    enum-known-q
+    satisfies-requires
+    returns-2
+    returns-3)

@@ -1,15 +1,39 @@
-use Rattle.search.proofs.Laws.{implied-left, implied-named}
+use Rattle.search.proofs.Branches.{implied-left, implied-named}
 use borrow.Author.Needs.{needs}
 use Rattle.search.proofs.agree.is_implied.Statement.{statement}
 use Rattle.search.proofs.agree.is_implied.Tie as tie
+
+code-at-requires : tie.Need-code-at-requires
+code-at-requires c κs = search needs
+
+wanted-requires : tie.Need-wanted-requires
+wanted-requires c κs = search needs
+
+enum-told : tie.Need-enum-told
+enum-told c = search needs
+
+enum-told-2 : tie.Need-enum-told-2
+enum-told-2 c = search needs
+
+returns : tie.Need-returns
+returns c = let ·args = c .before .before .before .before .before .before .before .args in
+    let ·code-at = c .before .before .before .code-at in let ·wanted = c .before .before .wanted in
+    implied-left _ _ _ (·args .c .0) (·code-at .result) (·code-at .ensures) _ (·wanted .ensures)
+    (c .enum-told .given .1)
+
+returns-2 : tie.Need-returns-2
+returns-2 c = let ·args = c .before .before .before .before .before .before .before .args in
+    let ·code-at = c .before .before .before .code-at in let ·wanted = c .before .before .wanted in
+    implied-named _ _ _ (·args .c .0) (·code-at .result) (·code-at .ensures) _ (·wanted .ensures) _
+    (c .enum-told2 .given .1)
 
 pub is-implied-spec : {M : Type 1} → statement M
 is-implied-spec =
     tie.close
     (tie.spec
-    (λ c κs. search needs)
-    (λ c κs. search needs)
-    (λ c. search needs)
-    (λ c. search needs)
-    (λ c. implied-left _ _ _ (c .before .before .before .before .before .before .before .args .c .0) (c .before .before .before .code-at .result) (c .before .before .before .code-at .ensures) _ (c .before .before .wanted .ensures) (c .enum-told .given .1))
-    (λ c. implied-named _ _ _ (c .before .before .before .before .before .before .before .args .c .0) (c .before .before .before .code-at .result) (c .before .before .before .code-at .ensures) _ (c .before .before .wanted .ensures) _ (c .enum-told2 .given .1)))
+    code-at-requires
+    wanted-requires
+    enum-told
+    enum-told-2
+    returns
+    returns-2)

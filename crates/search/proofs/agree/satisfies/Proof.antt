@@ -9,12 +9,34 @@ use borrow.Author.Needs.{needs}
 use Rattle.search.proofs.agree.satisfies.Statement.{statement}
 use Rattle.search.proofs.agree.satisfies.Tie as tie
 
+enum-told : tie.Need-enum-told
+enum-told c = search needs
+
+enum-known-q : tie.Need-enum-known-q
+enum-known-q c = search needs
+
+passes-requires : tie.Need-passes-requires
+passes-requires c κs = let ·args = c .before .before .before .before .before .before .args in
+    let ·pre = c .before .before .before .before .before .before .pre in
+    subst (λ (q : Qualification). Testable (·args .cat .now) (·args .tab .now) (·args .list .now) (·args .size)
+    (·args .c .0) q) (c .before .q .given .1) (·pre)
+
+returns : tie.Need-returns
+returns c = search needs
+
+returns-2 : tie.Need-returns-2
+returns-2 c = let ·args = c .before .before .before .before .before .before .before .args in
+    let ·q = c .before .before .q in
+    c .passes .ensures ∙ ap (λ (q : Qualification). satisfies (·args .cat .now)
+    (segment (listing (·args .cat .now) (·args .tab .now)) (·args .c .0) .bytes)
+    (meant (·args .cat .now) (·args .list .now) q)) (sym (·q .given .1))
+
 pub satisfies-spec : {M : Type 1} → statement M
 satisfies-spec =
     tie.close
     (tie.spec
-    (λ c. search needs)
-    (λ c. search needs)
-    (λ c κs. let s = c .before .before .before .before .before .before in subst (λ (q : Qualification). Testable (s .args .cat .now) (s .args .tab .now) (s .args .list .now) (s .args .size) (s .args .c .0) q) (c .before .q .given .1) (s .pre))
-    (λ c. search needs)
-    (λ c. let s = c .before .before .before .before .before .before .before in c .passes .ensures ∙ ap (λ (q : Qualification). satisfies (s .args .cat .now) (segment (listing (s .args .cat .now) (s .args .tab .now)) (s .args .c .0) .bytes) (meant (s .args .cat .now) (s .args .list .now) q)) (sym (c .before .before .q .given .1))))
+    enum-told
+    enum-known-q
+    passes-requires
+    returns
+    returns-2)

@@ -1,24 +1,119 @@
 use native.Mathlib.Omega.{arith}
 use mathlib.Core.Path.{sym, _∙_}
-use Rattle.search.proofs.Laws.{kept-place, kept-list, kept-before, end-in, along-none, along-here, along-beneath}
+use Rattle.search.proofs.Branches.{kept-place, kept-list, kept-before, end-in, along-none, along-here, along-beneath}
 use borrow.Author.Needs.{needs}
 use Rattle.search.proofs.along.along.Statement.{statement}
 use Rattle.search.proofs.along.along.Tie as tie
+
+kept-requires : tie.Need-kept-requires
+kept-requires c κs = search needs
+
+enum-known-c : tie.Need-enum-known-c
+enum-known-c c = search needs
+
+enum-told : tie.Need-enum-told
+enum-told c = search needs
+
+count-requires : tie.Need-count-requires
+count-requires c κs = search needs
+
+first-match-requires : tie.Need-first-match-requires
+first-match-requires c κs = search needs
+
+returns : tie.Need-returns
+returns c = let ·pre = c .before .before .before .before .before .before .before .before .pre in
+    let ·args = c .before .before .before .before .before .before .before .before .args in
+    let ·enum-told = c .before .before .enum-told in let ·kept = c .before .before .before .before .kept in
+    c .first-match .ensures ∙ along-none (·pre .0) (·args .place) (c .before .count .result)
+    (c .before .count .ensures .0) (sym (·enum-told .given .1) ∙ ·kept .ensures)
+
+level-at-requires : tie.Need-level-at-requires
+level-at-requires c κs = let ·pre = c .before .before .before .before .before .before .before .pre in
+    let ·args = c .before .before .before .before .before .before .before .args in
+    let ·kept = c .before .before .before .kept in
+    (·pre .0 .sized, kept-place (·pre .0) (·args .place) _ (·pre .1) (sym (c .before .c .given .1) ∙ ·kept .ensures) .0)
+
+level-requires : tie.Need-level-requires
+level-requires c κs = search needs
+
+returns-2 : tie.Need-returns-2
+returns-2 c = let ·pre = c .before .before .before .before .before .before .before .before .before .before .pre in
+    let ·args = c .before .before .before .before .before .before .before .before .before .before .args in
+    let ·level-at = c .before .before .level-at in let ·c = c .before .before .before .before .c in
+    let ·kept = c .before .before .before .before .before .before .kept in
+    along-here (·pre .0) (·args .place) _ (·level-at .result) (sym (·c .given .1) ∙ ·kept .ensures) (·level-at .ensures)
+    (c .if1 .taken ∙ c .before .level .ensures)
+
+run-end-requires : tie.Need-run-end-requires
+run-end-requires c κs =
+    let ·pre = c .before .before .before .before .before .before .before .before .before .before .pre in
+    let ·args = c .before .before .before .before .before .before .before .before .before .before .args in
+    let ·c = c .before .before .before .before .c in
+    let ·kept = c .before .before .before .before .before .before .kept in (
+      record { catalogue = ·pre .0 .catalogue; table = ·pre .0 .table; sized = ·pre .0 .sized },
+      kept-place (·pre .0)
+          (·args .place) _ (·pre .1) (sym (·c .given .1) ∙ ·kept .ensures) .0,
+    )
+
+add-forward : tie.Need-add-forward
+add-forward c =
+    let ·args = c .before .before .before .before .before .before .before .before .before .before .before .args in
+    omega (
+      arith,
+      kept-place (c .before .before .before .before .before .before .before .before .before .before .before
+          .pre .0) (·args .place) _ (c .before .before .before .before .before .before .before .before .before .before .before
+          .pre .1) (sym (c .before .before .before .before .before .c .given .1) ∙
+          c .before .before .before .before .before .before .before .kept .ensures) .0,
+      c .before .before .before .before .before .before .before .before .before .before .before .pre .0 .sized .few,
+    )
+
+forward-requires : tie.Need-forward-requires
+forward-requires c κs =
+    let ·args = c .before .before .before .before .before .before .before .before .before .before .before .args in
+    (let w = kept-place (c .before .before .before .before .before .before .before .before .before .before .before .pre
+    .0) (·args .place) _ (c .before .before .before .before .before .before .before .before .before .before .before .pre
+    .1) (sym (c .before .before .before .before .before .c .given .1) ∙
+    c .before .before .before .before .before .before .before .kept .ensures) in (
+      c .before .before .before .before .before .before .before .before .before .before .before .pre .0,
+      kept-list
+          (c .before .before .before .before .before .before .before .before .before .before .before .pre .0) _ w,
+      omega (
+        arith,
+        end-in (c .before .before .before .before .before .before .before .before .before .before .before .pre .0) _
+            (w .0),
+        c .run-end .ensures,
+      ),
+      kept-before
+          (c .before .before .before .before .before .before .before .before .before .before .before .pre .0) _
+          (c .before .before .before .level-at .result) w (c .before .before .before .level-at .ensures),
+    ))
+
+returns-3 : tie.Need-returns-3
+returns-3 c =
+    let ·pre = c .before .before .before .before .before .before .before .before .before .before .before .before .pre in
+    let ·args = c .before .before .before .before .before .before .before .before .before .before .before .before .args
+    in let ·level-at = c .before .before .before .before .level-at in
+    let ·c = c .before .before .before .before .before .before .c in
+    let ·kept = c .before .before .before .before .before .before .before .before .kept in
+    let ·if1 = c .before .before .if1 in let ·level = c .before .before .before .level in
+    c .forward .ensures ∙ along-beneath (·pre .0) (·args .place) _ (·level-at .result)
+    (sym (·c .given .1) ∙ ·kept .ensures) (·level-at .ensures) _ (λ e. ·if1 .left (e ∙ sym (·level .ensures)))
+    (c .before .run-end .ensures)
 
 pub along-spec : {M : Type 1} → statement M
 along-spec =
     tie.close
     (tie.spec
-    (λ c κs. search needs)
-    (λ c. search needs)
-    (λ c. search needs)
-    (λ c κs. search needs)
-    (λ c κs. search needs)
-    (λ c. let s = c .before .before .before .before .before .before .before .before in c .first-match .ensures ∙ along-none (s .pre .0) (s .args .place) (c .before .count .result) (c .before .count .ensures .0) (sym (c .before .before .enum-told .given .1) ∙ c .before .before .before .before .kept .ensures))
-    (λ c κs. let s = c .before .before .before .before .before .before .before in (s .pre .0 .sized, kept-place (s .pre .0) (s .args .place) _ (s .pre .1) (sym (c .before .c .given .1) ∙ c .before .before .before .kept .ensures) .0))
-    (λ c κs. search needs)
-    (λ c. let s = c .before .before .before .before .before .before .before .before .before .before in along-here (s .pre .0) (s .args .place) _ (c .before .before .level-at .result) (sym (c .before .before .before .before .c .given .1) ∙ c .before .before .before .before .before .before .kept .ensures) (c .before .before .level-at .ensures) (c .if1 .taken ∙ c .before .level .ensures))
-    (λ c κs. let s = c .before .before .before .before .before .before .before .before .before .before in (record { catalogue = s .pre .0 .catalogue; table = s .pre .0 .table; sized = s .pre .0 .sized }, kept-place (s .pre .0) (s .args .place) _ (s .pre .1) (sym (c .before .before .before .before .c .given .1) ∙ c .before .before .before .before .before .before .kept .ensures) .0))
-    (λ c. let s = c .before .before .before .before .before .before .before .before .before .before .before in omega (arith, kept-place (s .pre .0) (s .args .place) _ (s .pre .1) (sym (c .before .before .before .before .before .c .given .1) ∙ c .before .before .before .before .before .before .before .kept .ensures) .0, s .pre .0 .sized .few))
-    (λ c κs. let s = c .before .before .before .before .before .before .before .before .before .before .before in (let w = kept-place (s .pre .0) (s .args .place) _ (s .pre .1) (sym (c .before .before .before .before .before .c .given .1) ∙ c .before .before .before .before .before .before .before .kept .ensures) in (s .pre .0, kept-list (s .pre .0) _ w, omega (arith, end-in (s .pre .0) _ (w .0), c .run-end .ensures), kept-before (s .pre .0) _ (c .before .before .before .level-at .result) w (c .before .before .before .level-at .ensures))))
-    (λ c. let s = c .before .before .before .before .before .before .before .before .before .before .before .before in c .forward .ensures ∙ along-beneath (s .pre .0) (s .args .place) _ (c .before .before .before .before .level-at .result) (sym (c .before .before .before .before .before .before .c .given .1) ∙ c .before .before .before .before .before .before .before .before .kept .ensures) (c .before .before .before .before .level-at .ensures) _ (λ e. c .before .before .if1 .left (e ∙ sym (c .before .before .before .level .ensures))) (c .before .run-end .ensures)))
+    kept-requires
+    enum-known-c
+    enum-told
+    count-requires
+    first-match-requires
+    returns
+    level-at-requires
+    level-requires
+    returns-2
+    run-end-requires
+    add-forward
+    forward-requires
+    returns-3)

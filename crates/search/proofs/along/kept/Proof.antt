@@ -1,14 +1,34 @@
-use Rattle.search.proofs.Laws.{on-cell, kept-path}
+use Rattle.search.proofs.Branches.{on-cell, kept-path}
 use borrow.Author.Needs.{needs}
 use Rattle.search.proofs.along.kept.Statement.{statement}
 use Rattle.search.proofs.along.kept.Tie as tie
+
+enum-known-place : tie.Need-enum-known-place
+enum-known-place c = search needs
+
+enum-told : tie.Need-enum-told
+enum-told c = search needs
+
+returns : tie.Need-returns
+returns c = search needs
+
+path-to-requires : tie.Need-path-to-requires
+path-to-requires c κs = let ·pre = c .before .before .before .before .before .before .pre in
+    let ·args = c .before .before .before .before .before .before .args in
+    (·pre .0, on-cell (·pre .0) (·args .place) _ (·pre .1) (c .before .place .given .1))
+
+returns-2 : tie.Need-returns-2
+returns-2 c = let ·pre = c .before .before .before .before .before .before .before .pre in
+    let ·args = c .before .before .before .before .before .before .before .args in
+    let ·place = c .before .before .place in
+    kept-path (·pre .0) (·args .place) _ (c .path-to .result) (·place .given .1) (c .path-to .ensures)
 
 pub kept-spec : {M : Type 1} → statement M
 kept-spec =
     tie.close
     (tie.spec
-    (λ c. search needs)
-    (λ c. search needs)
-    (λ c. search needs)
-    (λ c κs. let s = c .before .before .before .before .before .before in (s .pre .0, on-cell (s .pre .0) (s .args .place) _ (s .pre .1) (c .before .place .given .1)))
-    (λ c. let s = c .before .before .before .before .before .before .before in kept-path (s .pre .0) (s .args .place) _ (c .path-to .result) (c .before .before .place .given .1) (c .path-to .ensures)))
+    enum-known-place
+    enum-told
+    returns
+    path-to-requires
+    returns-2)

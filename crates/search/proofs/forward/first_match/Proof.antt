@@ -1,18 +1,51 @@
 use native.Mathlib.Omega.{arith}
-use Rattle.search.proofs.Laws.{first-none, all-match, before-cell}
+use Rattle.search.proofs.Branches.{first-none, all-match, before-cell}
 use borrow.Author.Needs.{needs}
 use Rattle.search.proofs.forward.first_match.Statement.{statement}
 use Rattle.search.proofs.forward.first_match.Tie as tie
+
+returns : tie.Need-returns
+returns c = first-none _ _ _ _ _ (c .if1 .taken)
+
+returns-2 : tie.Need-returns-2
+returns-2 c = let ·pre = c .before .before .before .before .before .before .pre in
+    let ·args = c .before .before .before .before .before .before .args in let ·if1 = c .before .before .if1 in
+    all-match (·pre .0) (·args .from) (·args .to) (c .if2 .taken) (·if1 .left)
+
+forward-requires : tie.Need-forward-requires
+forward-requires c κs = search needs
+
+returns-3 : tie.Need-returns-3
+returns-3 c = search needs
+
+sub-t11 : tie.Need-sub-t11
+sub-t11 c = search needs
+
+path-to-requires : tie.Need-path-to-requires
+path-to-requires c κs = search needs
+
+forward-requires-2 : tie.Need-forward-requires-2
+forward-requires-2 c κs = let ·args = c .before .before .before .before .before .before .before .before .args in (
+  c .before .before .before .before .before .before .before .before .pre .0,
+  omega arith,
+  c .before .before .before .before .before .before .before .before .pre .1,
+  before-cell
+      (c .before .before .before .before .before .before .before .before .pre .0) (·args .from) (c .path-to .result)
+      (c .before .if3 .left) (c .path-to .ensures),
+)
+
+returns-4 : tie.Need-returns-4
+returns-4 c = search needs
 
 pub first-match-spec : {M : Type 1} → statement M
 first-match-spec =
     tie.close
     (tie.spec
-    (λ c. first-none _ _ _ _ _ (c .if1 .taken))
-    (λ c. let s = c .before .before .before .before .before .before in all-match (s .pre .0) (s .args .from) (s .args .to) (c .if2 .taken) (c .before .before .if1 .left))
-    (λ c κs. search needs)
-    (λ c. search needs)
-    (λ c. search needs)
-    (λ c κs. search needs)
-    (λ c κs. let s = c .before .before .before .before .before .before .before .before in (s .pre .0, omega arith, s .pre .1, before-cell (s .pre .0) (s .args .from) (c .path-to .result) (c .before .if3 .left) (c .path-to .ensures)))
-    (λ c. search needs))
+    returns
+    returns-2
+    forward-requires
+    returns-3
+    sub-t11
+    path-to-requires
+    forward-requires-2
+    returns-4)

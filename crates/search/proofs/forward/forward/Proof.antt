@@ -6,15 +6,106 @@ use Prim.Native.Nat.{_-_}
 use Rattle.rules.specs.Matching.{firstMatch}
 use Rattle.rules.specs.Table.{listing}
 use Rattle.search.specs.Stretch.{levels, stretchBefore}
-use Rattle.search.proofs.Laws.{carried-cell, before-next, turn-found, turn-next, first-none}
+use Rattle.search.proofs.Branches.{carried-cell, before-next, turn-found, turn-next, first-none}
 use Rattle.search.proofs.forward.forward.Statement.{statement}
 use Rattle.search.proofs.forward.forward.Tie as tie
 
 abbrev Inv-loop : tie.InvT-loop
-Inv-loop cat tab size list t k from to last long₀ i₀ long i = (long ≡ stretchBefore cat (listing cat tab) (levels cat list t) i) × (firstMatch cat (listing cat tab) (levels cat list t) i to ≡ firstMatch cat (listing cat tab) (levels cat list t) from to)
+Inv-loop cat tab size list t k from to last long₀ i₀ long i =
+    (long ≡ stretchBefore cat (listing cat tab) (levels cat list t) i) ×
+    (firstMatch cat (listing cat tab) (levels cat list t) i to ≡ firstMatch cat (listing cat tab) (levels cat list t)
+    from to)
 
 abbrev μ-loop : tie.MeasureT-loop
 μ-loop cat tab size list t k from to last long₀ i₀ long i = to - i
+
+level-requires : tie.Need-level-requires Inv-loop μ-loop
+level-requires c κs = search needs
+
+loop-holds : tie.Need-loop-holds Inv-loop μ-loop
+loop-holds c = let ·pre = c .before .before .before .before .pre in
+    (·pre .3, refl)
+
+upcoming-requires : tie.Need-upcoming-requires Inv-loop μ-loop
+upcoming-requires c κs = (
+  c .before .before .before .before .before .before .pre .0,
+  c .before .before .before .before .before .before .pre .1,
+  c .before .before .before .before .before .before .pre .2,
+  c .before .loop .inv .0,
+  omega
+      (arith, c .loop-test .taken),
+)
+
+returns : tie.Need-returns Inv-loop μ-loop
+returns c = let ·loop = c .before .before .before .loop in
+    first-none _ _ _ _ _ (c .if1 .taken) ∙ c .before .upcoming .ensures .3 ∙ ·loop .inv .1
+
+level-at-requires : tie.Need-level-at-requires Inv-loop μ-loop
+level-at-requires c κs = (
+  c .before .before .before .before .before .before .before .before .pre .0 .sized,
+  omega
+      (arith, c .before .before .before .before .before .before .before .before .pre .2, c .if1 .left),
+)
+
+stretched-requires : tie.Need-stretched-requires Inv-loop μ-loop
+stretched-requires c κs = (
+  c .before .before .before .before .before .before .before .before .before .pre .0,
+  omega
+      (arith, c .before .before .before .before .before .before .before .before .before .pre .2, c .before .if1 .left),
+  c .level-at .ensures,
+  carried-cell (c .before .before .before .before .before .before .before .before .before .pre
+      .0) (c .before .before .upcoming .result) (c .before .before .before .before .loop .long)
+      (omega (
+        arith,
+        c .before .before .before .before .before .before .before .before .before .pre .2,
+        c .before .if1 .left,
+      )) (c .before .before .upcoming .ensures .2),
+)
+
+returns-2 : tie.Need-returns-2 Inv-loop μ-loop
+returns-2 c =
+    let ·pre = c .before .before .before .before .before .before .before .before .before .before .before .before .pre in
+    let ·upcoming = c .before .before .before .before .before .upcoming in
+    let ·level-at = c .before .before .before .level-at in let ·stretched = c .before .before .stretched in
+    let ·level = c .before .before .before .before .before .before .before .before .level in
+    let ·args = c .before .before .before .before .before .before .before .before .before .before .before .before .args
+    in let ·if1 = c .before .before .before .before .if1 in
+    let ·loop = c .before .before .before .before .before .before .before .loop in
+    turn-found (·pre .0) (·upcoming .result) (·level-at .result) (·stretched .result) (·level .result) (·args .to)
+    (·if1 .left) (·pre .2) (·pre .1) (·level-at .ensures) (·stretched .ensures) (·level .ensures)
+    (c .before .if2 .taken) (c .if3 .taken) ∙ ·upcoming .ensures .3 ∙ ·loop .inv .1
+
+add-i : tie.Need-add-i Inv-loop μ-loop
+add-i c = omega (
+  arith,
+  c .before .before .before .before .before .before .before .before .before .before .before
+      .pre .2,
+  c .before .before .before .if1 .left,
+)
+
+loop-less : tie.Need-loop-less Inv-loop μ-loop
+loop-less c = omega (
+  arith,
+  c .before .before .before .before .upcoming .ensures .0,
+  c .before .before .before .if1 .left,
+)
+
+loop-again : tie.Need-loop-again Inv-loop μ-loop
+loop-again c =
+    let ·pre = c .before .before .before .before .before .before .before .before .before .before .before .pre in
+    let ·upcoming = c .before .before .before .before .upcoming in let ·level-at = c .before .before .level-at in
+    let ·level = c .before .before .before .before .before .before .before .level in
+    let ·args = c .before .before .before .before .before .before .before .before .before .before .before .args in
+    let ·if1 = c .before .before .before .if1 in let ·loop = c .before .before .before .before .before .before .loop in (
+      before-next (·pre .0) (·upcoming .result) (c .before .stretched .result) (c .before .stretched .ensures),
+      turn-next
+          (·pre .0) (·upcoming .result) (·level-at .result) (c .before .stretched .result) (·level .result) (·args .to)
+          (·if1 .left) (·pre .2) (·pre .1) (·level-at .ensures) (c .before .stretched .ensures) (·level .ensures)
+          (⊎-elim (λ w a b. w .1 .left b) (λ w a b. w .left a) (c .if2 .came)) ∙ ·upcoming .ensures .3 ∙ ·loop .inv .1,
+    )
+
+returns-3 : tie.Need-returns-3 Inv-loop μ-loop
+returns-3 c = first-none _ _ _ _ _ (c .loop-test .left) ∙ c .before .loop .inv .1
 
 pub forward-spec : {M : Type 1} → statement M
 forward-spec =
@@ -22,14 +113,14 @@ forward-spec =
     (tie.spec
     Inv-loop
     μ-loop
-    (λ c κs. search needs)
-    (λ c. (c .before .before .before .before .pre .3, refl))
-    (λ c κs. (c .before .before .before .before .before .before .pre .0, c .before .before .before .before .before .before .pre .1, c .before .before .before .before .before .before .pre .2, c .before .loop .inv .0, omega (arith, c .loop-test .taken)))
-    (λ c. first-none _ _ _ _ _ (c .if1 .taken) ∙ c .before .upcoming .ensures .3 ∙ c .before .before .before .loop .inv .1)
-    (λ c κs. (c .before .before .before .before .before .before .before .before .pre .0 .sized, omega (arith, c .before .before .before .before .before .before .before .before .pre .2, c .if1 .left)))
-    (λ c κs. (c .before .before .before .before .before .before .before .before .before .pre .0, omega (arith, c .before .before .before .before .before .before .before .before .before .pre .2, c .before .if1 .left), c .level-at .ensures, carried-cell (c .before .before .before .before .before .before .before .before .before .pre .0) (c .before .before .upcoming .result) (c .before .before .before .before .loop .long) (omega (arith, c .before .before .before .before .before .before .before .before .before .pre .2, c .before .if1 .left)) (c .before .before .upcoming .ensures .2)))
-    (λ c. turn-found (c .before .before .before .before .before .before .before .before .before .before .before .before .pre .0) (c .before .before .before .before .before .upcoming .result) (c .before .before .before .level-at .result) (c .before .before .stretched .result) (c .before .before .before .before .before .before .before .before .level .result) (c .before .before .before .before .before .before .before .before .before .before .before .before .args .to) (c .before .before .before .before .if1 .left) (c .before .before .before .before .before .before .before .before .before .before .before .before .pre .2) (c .before .before .before .before .before .before .before .before .before .before .before .before .pre .1) (c .before .before .before .level-at .ensures) (c .before .before .stretched .ensures) (c .before .before .before .before .before .before .before .before .level .ensures) (c .before .if2 .taken) (c .if3 .taken) ∙ c .before .before .before .before .before .upcoming .ensures .3 ∙ c .before .before .before .before .before .before .before .loop .inv .1)
-    (λ c. omega (arith, c .before .before .before .before .before .before .before .before .before .before .before .pre .2, c .before .before .before .if1 .left))
-    (λ c. omega (arith, c .before .before .before .before .upcoming .ensures .0, c .before .before .before .if1 .left))
-    (λ c. (before-next (c .before .before .before .before .before .before .before .before .before .before .before .pre .0) (c .before .before .before .before .upcoming .result) (c .before .stretched .result) (c .before .stretched .ensures), turn-next (c .before .before .before .before .before .before .before .before .before .before .before .pre .0) (c .before .before .before .before .upcoming .result) (c .before .before .level-at .result) (c .before .stretched .result) (c .before .before .before .before .before .before .before .level .result) (c .before .before .before .before .before .before .before .before .before .before .before .args .to) (c .before .before .before .if1 .left) (c .before .before .before .before .before .before .before .before .before .before .before .pre .2) (c .before .before .before .before .before .before .before .before .before .before .before .pre .1) (c .before .before .level-at .ensures) (c .before .stretched .ensures) (c .before .before .before .before .before .before .before .level .ensures) (⊎-elim (λ w a b. w .1 .left b) (λ w a b. w .left a) (c .if2 .came)) ∙ c .before .before .before .before .upcoming .ensures .3 ∙ c .before .before .before .before .before .before .loop .inv .1))
-    (λ c. first-none _ _ _ _ _ (c .loop-test .left) ∙ c .before .loop .inv .1))
+    level-requires
+    loop-holds
+    upcoming-requires
+    returns
+    level-at-requires
+    stretched-requires
+    returns-2
+    add-i
+    loop-less
+    loop-again
+    returns-3)

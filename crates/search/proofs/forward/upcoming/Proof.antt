@@ -1,7 +1,24 @@
-use Rattle.search.proofs.Laws.{root-past}
+use Rattle.search.proofs.Branches.{root-past}
 use borrow.Author.Needs.{needs}
 use Rattle.search.proofs.forward.upcoming.Statement.{statement}
 use Rattle.search.proofs.forward.upcoming.Tie as tie
 
+returns : tie.Need-returns
+returns c = search needs
+
+next-root-requires : tie.Need-next-root-requires
+next-root-requires c κs = search needs
+
+returns-2 : tie.Need-returns-2
+returns-2 c = let ·pre = c .before .before .before .before .before .pre in
+    let ·args = c .before .before .before .before .before .args in
+    root-past (·pre .0) (·args .from) (·args .k) (·args .to) (c .next-root .result) (·pre .2) (·pre .1)
+    (c .before .if1 .left) (·pre .3) (c .next-root .ensures)
+
 pub upcoming-spec : {M : Type 1} → statement M
-upcoming-spec = tie.close (tie.spec (λ c. search needs) (λ c κs. search needs) (λ c. root-past (c .before .before .before .before .before .pre .0) (c .before .before .before .before .before .args .from) (c .before .before .before .before .before .args .k) (c .before .before .before .before .before .args .to) (c .next-root .result) (c .before .before .before .before .before .pre .2) (c .before .before .before .before .before .pre .1) (c .before .if1 .left) (c .before .before .before .before .before .pre .3) (c .next-root .ensures)))
+upcoming-spec =
+    tie.close
+    (tie.spec
+    returns
+    next-root-requires
+    returns-2)

@@ -1,17 +1,46 @@
 use native.Mathlib.Omega.{arith}
 use mathlib.Core.Path.{sym, _∙_}
-use Rattle.search.proofs.Laws.{level-some, stretch-short, stretch-on, stretch-off}
+use Rattle.search.proofs.Branches.{level-some, stretch-short, stretch-on, stretch-off}
 use borrow.Author.Tests.{not-true, not-false}
 use borrow.Author.Needs.{needs}
 use Rattle.search.proofs.stretch.stretched.Statement.{statement}
 use Rattle.search.proofs.stretch.stretched.Tie as tie
 
+sub-above : tie.Need-sub-above
+sub-above c = let ·args = c .before .before .before .args in
+    omega (
+      arith,
+      c .before .before .before .pre,
+      level-some (c .before .before .before .pre .0) (·args .c .0)
+          (c .before .before .before .pre .1),
+    )
+
+returns : tie.Need-returns
+returns c = let ·pre = c .before .before .before .before .pre in
+    let ·args = c .before .before .before .before .args in
+    stretch-short (·pre .0) (·args .c .0) (·args .k) (·args .l) (·pre .1) (·pre .2) (·pre .3) (c .if1 .taken)
+
+agrees-requires : tie.Need-agrees-requires
+agrees-requires c κs = search needs
+
+returns-2 : tie.Need-returns-2
+returns-2 c = let ·pre = c .before .before .before .before .before .before .pre in
+    let ·args = c .before .before .before .before .before .before .args in let ·if1 = c .before .before .if1 in
+    stretch-off (·pre .0) (·args .c .0) (·args .k) (·args .l) (·pre .1) (·pre .2) (·pre .3) (·if1 .left)
+    (sym (c .before .agrees .ensures) ∙ not-true _ (c .if2 .taken))
+
+returns-3 : tie.Need-returns-3
+returns-3 c = let ·pre = c .before .before .before .before .before .before .pre in
+    let ·args = c .before .before .before .before .before .before .args in let ·if1 = c .before .before .if1 in
+    stretch-on (·pre .0) (·args .c .0) (·args .k) (·args .l) (·pre .1) (·pre .2) (·pre .3) (·if1 .left)
+    (sym (c .before .agrees .ensures) ∙ not-false _ (c .if2 .left))
+
 pub stretched-spec : {M : Type 1} → statement M
 stretched-spec =
     tie.close
     (tie.spec
-    (λ c. let s = c .before .before .before in omega (arith, s .pre, level-some (s .pre .0) (s .args .c .0) (s .pre .1)))
-    (λ c. let s = c .before .before .before .before in stretch-short (s .pre .0) (s .args .c .0) (s .args .k) (s .args .l) (s .pre .1) (s .pre .2) (s .pre .3) (c .if1 .taken))
-    (λ c κs. search needs)
-    (λ c. let s = c .before .before .before .before .before .before in stretch-off (s .pre .0) (s .args .c .0) (s .args .k) (s .args .l) (s .pre .1) (s .pre .2) (s .pre .3) (c .before .before .if1 .left) (sym (c .before .agrees .ensures) ∙ not-true _ (c .if2 .taken)))
-    (λ c. let s = c .before .before .before .before .before .before in stretch-on (s .pre .0) (s .args .c .0) (s .args .k) (s .args .l) (s .pre .1) (s .pre .2) (s .pre .3) (c .before .before .if1 .left) (sym (c .before .agrees .ensures) ∙ not-false _ (c .if2 .left))))
+    sub-above
+    returns
+    agrees-requires
+    returns-2
+    returns-3)

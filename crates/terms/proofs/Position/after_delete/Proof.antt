@@ -3,7 +3,40 @@ use borrow.Author.Needs.{needs}
 use Rattle.terms.proofs.Position.after_delete.Statement.{statement}
 use Rattle.terms.proofs.Position.after_delete.Tie as tie
 
+enum-known-parentage : tie.Need-enum-known-parentage
+enum-known-parentage c = search needs
+
+enum-told : tie.Need-enum-told
+enum-told c = search needs
+
+returns : tie.Need-returns
+returns c = simp (c .enum-told .given .1)
+
+returns-2 : tie.Need-returns-2
+returns-2 c = let ·parentage = c .before .before .before .before .parentage in
+    simp (·parentage .given .1, lt-leb _ _ (c .if1 .taken))
+
+add-if2 : tie.Need-add-if2
+add-if2 c = search needs
+
+returns-3 : tie.Need-returns-3
+returns-3 c = let ·parentage = c .before .before .before .before .before .before .before .parentage in
+    let ·if1 = c .before .before .before .if1 in
+    simp (·parentage .given .1, le-leb _ _ (·if1 .left), le-ltb _ _ (c .if2 .taken))
+
+returns-4 : tie.Need-returns-4
+returns-4 c = let ·parentage = c .before .before .before .before .before .before .before .parentage in
+    let ·if1 = c .before .before .before .if1 in
+    simp (·parentage .given .1, le-leb _ _ (·if1 .left), lt-ltb _ _ (c .if2 .left))
+
 pub after-delete-spec : {M : Type 1} → statement M
 after-delete-spec =
     tie.close
-    (tie.spec (λ c. search needs) (λ c. search needs) (λ c. simp (c .enum-told .given .1)) (λ c. simp (c .before .before .before .before .parentage .given .1, lt-leb _ _ (c .if1 .taken))) (λ c. search needs) (λ c. simp (c .before .before .before .before .before .before .before .parentage .given .1, le-leb _ _ (c .before .before .before .if1 .left), le-ltb _ _ (c .if2 .taken))) (λ c. simp (c .before .before .before .before .before .before .before .parentage .given .1, le-leb _ _ (c .before .before .before .if1 .left), lt-ltb _ _ (c .if2 .left))))
+    (tie.spec
+    enum-known-parentage
+    enum-told
+    returns
+    returns-2
+    add-if2
+    returns-3
+    returns-4)

@@ -1,5 +1,15 @@
 use Rattle.terms.proofs.Position.after_insert.Statement.{statement}
 use Rattle.terms.proofs.Position.after_insert.Tie as tie
 
+returns : tie.Need-returns
+returns c = simp (c .if1 .taken)
+
+returns-2 : tie.Need-returns-2
+returns-2 c = simp (c .if1 .left)
+
 pub after-insert-spec : {M : Type 1} → statement M
-after-insert-spec = tie.close (tie.spec (λ c. simp (c .if1 .taken)) (λ c. simp (c .if1 .left)))
+after-insert-spec =
+    tie.close
+    (tie.spec
+    returns
+    returns-2)

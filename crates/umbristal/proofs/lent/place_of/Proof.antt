@@ -3,5 +3,25 @@ use borrow.Author.Needs.{needs}
 use Rattle.umbristal.proofs.lent.place_of.Statement.{statement}
 use Rattle.umbristal.proofs.lent.place_of.Tie as tie
 
+word-at-requires : tie.Need-word-at-requires
+word-at-requires c κs = search needs
+
+byte-at-requires : tie.Need-byte-at-requires
+byte-at-requires c κs = search needs
+
+returns : tie.Need-returns
+returns c = let ·args = c .before .before .before .before .args in let ·word-at = c .before .before .word-at in
+    place-on (·args .block .now) _ _ (c .before .byte-at .ensures) (·word-at .ensures .0) (c .if1 .taken)
+
+returns-2 : tie.Need-returns-2
+returns-2 c = let ·args = c .before .before .before .before .args in let ·word-at = c .before .before .word-at in
+    place-gap (·args .block .now) _ _ (c .before .byte-at .ensures) (·word-at .ensures .0) (c .if1 .left)
+
 pub place-of-spec : {M : Type 1} → statement M
-place-of-spec = tie.close (tie.spec (λ c κs. search needs) (λ c κs. search needs) (λ c. place-on (c .before .before .before .before .args .block .now) _ _ (c .before .byte-at .ensures) (c .before .before .word-at .ensures .0) (c .if1 .taken)) (λ c. place-gap (c .before .before .before .before .args .block .now) _ _ (c .before .byte-at .ensures) (c .before .before .word-at .ensures .0) (c .if1 .left)))
+place-of-spec =
+    tie.close
+    (tie.spec
+    word-at-requires
+    byte-at-requires
+    returns
+    returns-2)

@@ -7,28 +7,171 @@ use borrow.Author.Needs.{needs}
 use Rattle.update.proofs.edits.insert_cell_sound.Statement.{statement}
 use Rattle.update.proofs.edits.insert_cell_sound.Tie as tie
 
+count-requires : tie.Need-count-requires
+count-requires c κs = search needs
+
+add-n : tie.Need-add-n
+add-n c = search needs
+
+data-length-requires : tie.Need-data-length-requires
+data-length-requires c κs = search needs
+
+wide-requires : tie.Need-wide-requires
+wide-requires c κs = search needs
+
+mul-start : tie.Need-mul-start
+mul-start c = omega (
+  arith,
+  insert-end (c .before .before .before .before .before .before .before .before .pre)
+      (c .before .before .before .count .result) (c .before .before .before .count .ensures .0),
+)
+
+add-start : tie.Need-add-start
+add-start c = omega (
+  arith,
+  insert-end (c .before .before .before .before .before .before .before .before .pre)
+      (c .before .before .before .count .result) (c .before .before .before .count .ensures .0),
+)
+
+add-next : tie.Need-add-next
+add-next c = omega (
+  arith,
+  insert-end (c .before .before .before .before .before .before .before .before .pre)
+      (c .before .before .before .count .result) (c .before .before .before .count .ensures .0),
+)
+
+mul-end : tie.Need-mul-end
+mul-end c = omega (
+  arith,
+  insert-end (c .before .before .before .before .before .before .before .before .pre)
+      (c .before .before .before .count .result) (c .before .before .before .count .ensures .0),
+)
+
+add-end : tie.Need-add-end
+add-end c = omega (
+  arith,
+  insert-end (c .before .before .before .before .before .before .before .before .pre)
+      (c .before .before .before .count .result) (c .before .before .before .count .ensures .0),
+)
+
+sub-shift-up : tie.Need-sub-shift-up
+sub-shift-up c = omega (
+  arith,
+  insert-end (c .before .before .before .before .before .before .before .before .pre)
+      (c .before .before .before .count .result) (c .before .before .before .count .ensures .0),
+)
+
+part-shift-up-start : tie.Need-part-shift-up-start
+part-shift-up-start c = omega (
+  arith,
+  insert-end
+      (c .before .before .before .before .before .before .before .before .pre) (c .before .before .before .count .result)
+      (c .before .before .before .count .ensures .0),
+)
+
+part-shift-up-end : tie.Need-part-shift-up-end
+part-shift-up-end c = omega (
+  arith,
+  insert-end
+      (c .before .before .before .before .before .before .before .before .pre) (c .before .before .before .count .result)
+      (c .before .before .before .count .ensures .0),
+)
+
+shift-up-requires : tie.Need-shift-up-requires
+shift-up-requires c κs = simp (length-take, length-drop)
+    (omega (
+      arith,
+      insert-end (c .before .before .before .before .before .before .before .before .before .pre)
+          (c .before .before .before .before .count .result) (c .before .before .before .before .count .ensures .0),
+    ))
+
+sub-write-cell : tie.Need-sub-write-cell
+sub-write-cell c = search needs
+
+part-write-cell-start : tie.Need-part-write-cell-start
+part-write-cell-start c = search needs
+
+part-write-cell-end : tie.Need-part-write-cell-end
+part-write-cell-end c = omega (
+  arith,
+  insert-end
+      (c .before .before .before .before .before .before .before .before .before .before .before .before .pre)
+      (c .before .before .before .before .before .before .before .count .result)
+      (c .before .before .before .before .before .before .before .count .ensures .0),
+)
+
+slice-aggregate-write-cell : tie.Need-slice-aggregate-write-cell
+slice-aggregate-write-cell c = simp length-take
+    (omega (
+      arith,
+      insert-fits (c .before .before .before .before .before .before .before .before .before .before
+          .before .before .before .before .pre) (c .before .before .before .before .before .before .before .wide .result)
+          (c .before .before .before .before .before .before .before .wide .ensures .0 ∙
+          c .before .before .before .before .before .before .before .before .data-length .ensures),
+    ))
+
+write-cell-requires : tie.Need-write-cell-requires
+write-cell-requires c κs = simp (length-take, length-drop)
+    (omega (
+      arith,
+      insert-end (c .before .before .before .before .before .before .before .before .before .before .before
+          .before .before .before .pre) (c .before .before .before .before .before .before .before .before .before .count
+          .result) (c .before .before .before .before .before .before .before .before .before .count .ensures .0),
+      insert-fits
+          (c .before .before .before .before .before .before .before .before .before .before .before .before .before .before
+          .pre) (c .before .before .before .before .before .before .before .wide .result)
+          (c .before .before .before .before .before .before .before .wide .ensures .0 ∙
+          c .before .before .before .before .before .before .before .before .data-length .ensures),
+      c .before .before .before .tab .given,
+    ))
+
+set-count-requires : tie.Need-set-count-requires
+set-count-requires c κs = search needs
+
+same-length : tie.Need-same-length
+same-length c = search needs
+
+returns : tie.Need-returns
+returns c =
+    let ·pre = c .before .before .before .before .before .before .before .before .before .before .before .before .before
+    .before .before .before .before .before .before .before .before .pre in
+    let ·slice-known = c .before .before .before .before .before .before .before .before .before .before .before .before
+    .before .before .before .before .before .before .before .slice-known in
+    let ·count = c .before .before .before .before .before .before .before .before .before .before .before .before
+    .before .before .before .before .count in
+    let ·wide = c .before .before .before .before .before .before .before .before .before .before .before .before
+    .before .before .wide in
+    let ·shift-up = c .before .before .before .before .before .before .before .before .before .before .before .shift-up
+    in let ·write-cell = c .before .before .before .before .before .before .write-cell in
+    let ·set-count = c .before .before .set-count in
+    let ·data-length = c .before .before .before .before .before .before .before .before .before .before .before .before
+    .before .before .before .data-length in
+    insert-is (·pre) (λ (i : ℕ). ·slice-known .given i .fits) (·count .result) (·wide .result) (·shift-up .last .0)
+    (·write-cell .last .0) (·set-count .last .0) (·count .ensures .0) (·wide .ensures .0 ∙ ·data-length .ensures)
+    (·shift-up .ensures) (·write-cell .ensures) (·set-count .ensures)
+
 pub insert-cell-sound-spec : {M : Type 1} → statement M
 insert-cell-sound-spec =
     tie.close
     (tie.spec
-    (λ c κs. search needs)
-    (λ c. search needs)
-    (λ c κs. search needs)
-    (λ c κs. search needs)
-    (λ c. omega (arith, insert-end (c .before .before .before .before .before .before .before .before .pre) (c .before .before .before .count .result) (c .before .before .before .count .ensures .0)))
-    (λ c. omega (arith, insert-end (c .before .before .before .before .before .before .before .before .pre) (c .before .before .before .count .result) (c .before .before .before .count .ensures .0)))
-    (λ c. omega (arith, insert-end (c .before .before .before .before .before .before .before .before .pre) (c .before .before .before .count .result) (c .before .before .before .count .ensures .0)))
-    (λ c. omega (arith, insert-end (c .before .before .before .before .before .before .before .before .pre) (c .before .before .before .count .result) (c .before .before .before .count .ensures .0)))
-    (λ c. omega (arith, insert-end (c .before .before .before .before .before .before .before .before .pre) (c .before .before .before .count .result) (c .before .before .before .count .ensures .0)))
-    (λ c. omega (arith, insert-end (c .before .before .before .before .before .before .before .before .pre) (c .before .before .before .count .result) (c .before .before .before .count .ensures .0)))
-    (λ c. omega (arith, insert-end (c .before .before .before .before .before .before .before .before .pre) (c .before .before .before .count .result) (c .before .before .before .count .ensures .0)))
-    (λ c. omega (arith, insert-end (c .before .before .before .before .before .before .before .before .pre) (c .before .before .before .count .result) (c .before .before .before .count .ensures .0)))
-    (λ c κs. simp (length-take, length-drop) (omega (arith, insert-end (c .before .before .before .before .before .before .before .before .before .pre) (c .before .before .before .before .count .result) (c .before .before .before .before .count .ensures .0))))
-    (λ c. search needs)
-    (λ c. search needs)
-    (λ c. omega (arith, insert-end (c .before .before .before .before .before .before .before .before .before .before .before .before .pre) (c .before .before .before .before .before .before .before .count .result) (c .before .before .before .before .before .before .before .count .ensures .0)))
-    (λ c. simp length-take (omega (arith, insert-fits (c .before .before .before .before .before .before .before .before .before .before .before .before .before .before .pre) (c .before .before .before .before .before .before .before .wide .result) (c .before .before .before .before .before .before .before .wide .ensures .0 ∙ c .before .before .before .before .before .before .before .before .data-length .ensures))))
-    (λ c κs. simp (length-take, length-drop) (omega (arith, insert-end (c .before .before .before .before .before .before .before .before .before .before .before .before .before .before .pre) (c .before .before .before .before .before .before .before .before .before .count .result) (c .before .before .before .before .before .before .before .before .before .count .ensures .0), insert-fits (c .before .before .before .before .before .before .before .before .before .before .before .before .before .before .pre) (c .before .before .before .before .before .before .before .wide .result) (c .before .before .before .before .before .before .before .wide .ensures .0 ∙ c .before .before .before .before .before .before .before .before .data-length .ensures), c .before .before .before .tab .given)))
-    (λ c κs. search needs)
-    (λ c. search needs)
-    (λ c. insert-is (c .before .before .before .before .before .before .before .before .before .before .before .before .before .before .before .before .before .before .before .before .before .pre) (λ (i : ℕ). c .before .before .before .before .before .before .before .before .before .before .before .before .before .before .before .before .before .before .before .slice-known .given i .fits) (c .before .before .before .before .before .before .before .before .before .before .before .before .before .before .before .before .count .result) (c .before .before .before .before .before .before .before .before .before .before .before .before .before .before .wide .result) (c .before .before .before .before .before .before .before .before .before .before .before .shift-up .last .0) (c .before .before .before .before .before .before .write-cell .last .0) (c .before .before .set-count .last .0) (c .before .before .before .before .before .before .before .before .before .before .before .before .before .before .before .before .count .ensures .0) (c .before .before .before .before .before .before .before .before .before .before .before .before .before .before .wide .ensures .0 ∙ c .before .before .before .before .before .before .before .before .before .before .before .before .before .before .before .data-length .ensures) (c .before .before .before .before .before .before .before .before .before .before .before .shift-up .ensures) (c .before .before .before .before .before .before .write-cell .ensures) (c .before .before .set-count .ensures)))
+    count-requires
+    add-n
+    data-length-requires
+    wide-requires
+    mul-start
+    add-start
+    add-next
+    mul-end
+    add-end
+    sub-shift-up
+    part-shift-up-start
+    part-shift-up-end
+    shift-up-requires
+    sub-write-cell
+    part-write-cell-start
+    part-write-cell-end
+    slice-aggregate-write-cell
+    write-cell-requires
+    set-count-requires
+    same-length
+    returns)

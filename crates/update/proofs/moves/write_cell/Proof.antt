@@ -5,19 +5,59 @@ use borrow.Author.Needs.{needs}
 use Rattle.update.proofs.moves.write_cell.Statement.{statement}
 use Rattle.update.proofs.moves.write_cell.Tie as tie
 
+add-end : tie.Need-add-end
+add-end c = search needs
+
+sub-put : tie.Need-sub-put
+sub-put c = search needs
+
+part-put-start : tie.Need-part-put-start
+part-put-start c = search needs
+
+part-put-end : tie.Need-part-put-end
+part-put-end c = search needs
+
+put-requires : tie.Need-put-requires
+put-requires c κs = search needs
+
+sub-clear : tie.Need-sub-clear
+sub-clear c = search needs
+
+part-clear-start : tie.Need-part-clear-start
+part-clear-start c = search needs
+
+part-clear-end : tie.Need-part-clear-end
+part-clear-end c = search needs
+
+clear-requires : tie.Need-clear-requires
+clear-requires c κs = search needs
+
+slice-write-cell : tie.Need-slice-write-cell
+slice-write-cell c = search needs
+
+same-length : tie.Need-same-length
+same-length c = simp length-set (omega arith)
+
+returns : tie.Need-returns
+returns c = let ·args = c .before .before .before .before .before .before .before .before .before .before .args in
+    let ·put = c .before .before .before .before .before .before .put in let ·clear = c .before .before .clear in
+    let ·pre = c .before .before .before .before .before .before .before .before .before .before .pre in
+    cell-written (·args .cell .now) (·args .from .now) (·put .last .0) (·clear .last .0) (·args .t .0) (·pre)
+    (·put .ensures) (·clear .ensures)
+
 pub write-cell-spec : {M : Type 1} → statement M
 write-cell-spec =
     tie.close
     (tie.spec
-    (λ c. search needs)
-    (λ c. search needs)
-    (λ c. search needs)
-    (λ c. search needs)
-    (λ c κs. search needs)
-    (λ c. search needs)
-    (λ c. search needs)
-    (λ c. search needs)
-    (λ c κs. search needs)
-    (λ c. search needs)
-    (λ c. simp length-set (omega arith))
-    (λ c. cell-written (c .before .before .before .before .before .before .before .before .before .before .args .cell .now) (c .before .before .before .before .before .before .before .before .before .before .args .from .now) (c .before .before .before .before .before .before .put .last .0) (c .before .before .clear .last .0) (c .before .before .before .before .before .before .before .before .before .before .args .t .0) (c .before .before .before .before .before .before .before .before .before .before .pre) (c .before .before .before .before .before .before .put .ensures) (c .before .before .clear .ensures)))
+    add-end
+    sub-put
+    part-put-start
+    part-put-end
+    put-requires
+    sub-clear
+    part-clear-start
+    part-clear-end
+    clear-requires
+    slice-write-cell
+    same-length
+    returns)

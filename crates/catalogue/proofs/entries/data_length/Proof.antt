@@ -1,0 +1,18 @@
+use Rattle.rules.specs.Catalogue.{lengthOf}
+use borrow.Author.Needs.{needs}
+use Rattle.catalogue.proofs.entries.data_length.Statement.{statement}
+use Rattle.catalogue.proofs.entries.data_length.Tie as tie
+
+type-byte-requires : tie.Need-type-byte-requires
+type-byte-requires c κs = search needs
+
+returns : tie.Need-returns
+unfolding lengthOf
+returns c = c .type-byte .ensures
+
+pub data-length-spec : {M : Type 1} → statement M
+data-length-spec =
+    tie.close
+    (tie.spec
+    type-byte-requires
+    returns)

@@ -1,0 +1,18 @@
+use Rattle.rules.specs.Catalogue.{keyLength}
+use borrow.Author.Needs.{needs}
+use Rattle.catalogue.proofs.entries.key_length.Statement.{statement}
+use Rattle.catalogue.proofs.entries.key_length.Tie as tie
+
+type-byte-requires : tie.Need-type-byte-requires
+type-byte-requires c κs = search needs
+
+returns : tie.Need-returns
+unfolding keyLength
+returns c = c .type-byte .ensures
+
+pub key-length-spec : {M : Type 1} → statement M
+key-length-spec =
+    tie.close
+    (tie.spec
+    type-byte-requires
+    returns)

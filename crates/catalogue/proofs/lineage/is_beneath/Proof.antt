@@ -1,0 +1,27 @@
+use mathlib.Core.Path.{_≡_, ap, _∙_}
+use Rattle.terms.specs.declared.TypeCode.{TypeCode}
+use Rattle.forest.specs.Numbers.{isIn}
+use Rattle.rules.specs.Catalogue.{lineage, typeBeneath}
+use borrow.Author.Needs.{needs}
+use Rattle.catalogue.proofs.lineage.is_beneath.Statement.{statement}
+use Rattle.catalogue.proofs.lineage.is_beneath.Tie as tie
+
+parent-requires : tie.Need-parent-requires
+parent-requires c κs = search needs
+
+is-above-requires : tie.Need-is-above-requires
+is-above-requires c κs = search needs
+
+returns : tie.Need-returns
+unfolding typeBeneath
+returns c = let ·args = c .before .before .before .args in
+    c .is-above .ensures ∙ ap (λ (t : TypeCode). isIn (·args .u .0) (lineage (·args .cat .now) t))
+    (c .before .parent .ensures)
+
+pub is-beneath-spec : {M : Type 1} → statement M
+is-beneath-spec =
+    tie.close
+    (tie.spec
+    parent-requires
+    is-above-requires
+    returns)

@@ -1,0 +1,2 @@
+pub mod LeftToTest
+pub mod EntryTests

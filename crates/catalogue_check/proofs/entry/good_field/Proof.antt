@@ -1,0 +1,83 @@
+use mathlib.Core.Path.{sym}
+use Rattle.rules.specs.Catalogue.{goodField}
+use Rattle.blocks.proofs.Negated.{told-no, told-yes}
+use borrow.Author.Needs.{needs}
+use Rattle.catalogue_check.proofs.entry.good_field.Statement.{statement}
+use Rattle.catalogue_check.proofs.entry.good_field.Tie as tie
+
+field-type-requires : tie.Need-field-type-requires
+field-type-requires c κs = search needs
+
+is-type-requires : tie.Need-is-type-requires
+is-type-requires c κs = search needs
+
+returns : tie.Need-returns
+unfolding goodField
+returns c = let ·field-type = c .before .before .field-type in
+    simp (sym (·field-type .ensures), told-no (c .before .is-type .ensures) (c .if1 .taken))
+
+field-start-requires : tie.Need-field-start-requires
+field-start-requires c κs = search needs
+
+field-length-requires : tie.Need-field-length-requires
+field-length-requires c κs = search needs
+
+data-length-requires : tie.Need-data-length-requires
+data-length-requires c κs = search needs
+
+good-span-requires : tie.Need-good-span-requires
+good-span-requires c κs = search needs
+
+returns-2 : tie.Need-returns-2
+unfolding goodField
+returns-2 c = let ·field-type = c .before .before .before .before .before .before .before .field-type in
+    let ·is-type = c .before .before .before .before .before .before .is-type in
+    let ·if1 = c .before .before .before .before .before .if1 in
+    let ·field-start = c .before .before .before .before .field-start in
+    let ·field-length = c .before .before .before .field-length in let ·data-length = c .before .before .data-length in
+    simp (
+      sym (·field-type .ensures),
+      told-yes (·is-type .ensures) (·if1 .left),
+      sym (·field-start .ensures),
+      sym
+          (·field-length .ensures),
+      sym (·data-length .ensures),
+      told-no (c .before .good-span .ensures) (c .if2 .taken),
+    )
+
+field-byte-requires : tie.Need-field-byte-requires
+field-byte-requires c κs = search needs
+
+returns-3 : tie.Need-returns-3
+unfolding goodField
+returns-3 c = let ·field-type = c .before .before .before .before .before .before .before .before .field-type in
+    let ·is-type = c .before .before .before .before .before .before .before .is-type in
+    let ·if1 = c .before .before .before .before .before .before .if1 in
+    let ·field-start = c .before .before .before .before .before .field-start in
+    let ·field-length = c .before .before .before .before .field-length in
+    let ·data-length = c .before .before .before .data-length in let ·good-span = c .before .before .good-span in
+    simp (
+      sym (·field-type .ensures),
+      told-yes (·is-type .ensures) (·if1 .left),
+      sym (·field-start .ensures),
+      sym
+          (·field-length .ensures),
+      sym (·data-length .ensures),
+      told-yes (·good-span .ensures) (c .before .if2 .left),
+      c .field-byte .ensures,
+    )
+
+pub good-field-spec : {M : Type 1} → statement M
+good-field-spec =
+    tie.close
+    (tie.spec
+    field-type-requires
+    is-type-requires
+    returns
+    field-start-requires
+    field-length-requires
+    data-length-requires
+    good-span-requires
+    returns-2
+    field-byte-requires
+    returns-3)

@@ -1,0 +1,25 @@
+use native.Mathlib.Omega.{arith}
+use borrow.Author.Tests.{le-leb, lt-leb}
+use Rattle.rules.specs.Catalogue.{lengthOf}
+use borrow.Author.Needs.{needs}
+use Rattle.catalogue_check.proofs.entry.good_length.Statement.{statement}
+use Rattle.catalogue_check.proofs.entry.good_length.Tie as tie
+
+data-length-requires : tie.Need-data-length-requires
+data-length-requires c κs = search needs
+
+returns : tie.Need-returns
+returns c = let ·args = c .before .before .before .args in
+    simp (lt-leb 1 (lengthOf (·args .cat .now) (·args .t)) (omega arith))
+
+returns-2 : tie.Need-returns-2
+returns-2 c = let ·args = c .before .before .before .args in
+    simp (le-leb 1 (lengthOf (·args .cat .now) (·args .t)) (omega arith), c .before .data-length .ensures)
+
+pub good-length-spec : {M : Type 1} → statement M
+good-length-spec =
+    tie.close
+    (tie.spec
+    data-length-requires
+    returns
+    returns-2)

@@ -1,0 +1,88 @@
+use Rattle.rules.specs.Catalogue.{goodType}
+use Rattle.blocks.proofs.Negated.{told-no, told-yes}
+use borrow.Author.Needs.{needs}
+use Rattle.catalogue_check.proofs.entry.good_type.Statement.{statement}
+use Rattle.catalogue_check.proofs.entry.good_type.Tie as tie
+
+good-parent-requires : tie.Need-good-parent-requires
+good-parent-requires c κs = search needs
+
+returns : tie.Need-returns
+unfolding goodType
+returns c = simp (told-no (c .before .good-parent .ensures) (c .if1 .taken))
+
+good-length-requires : tie.Need-good-length-requires
+good-length-requires c κs = search needs
+
+returns-2 : tie.Need-returns-2
+unfolding goodType
+returns-2 c = let ·good-parent = c .before .before .before .good-parent in let ·if1 = c .before .before .if1 in
+    simp (told-yes (·good-parent .ensures) (·if1 .left), told-no (c .before .good-length .ensures) (c .if2 .taken))
+
+good-key-requires : tie.Need-good-key-requires
+good-key-requires c κs = search needs
+
+returns-3 : tie.Need-returns-3
+unfolding goodType
+returns-3 c = let ·good-parent = c .before .before .before .before .before .good-parent in
+    let ·if1 = c .before .before .before .before .if1 in let ·good-length = c .before .before .before .good-length in
+    let ·if2 = c .before .before .if2 in
+    simp (
+      told-yes (·good-parent .ensures) (·if1 .left),
+      told-yes (·good-length .ensures) (·if2 .left),
+      told-no
+          (c .before .good-key .ensures) (c .if3 .taken),
+    )
+
+ends-in-zeros-requires : tie.Need-ends-in-zeros-requires
+ends-in-zeros-requires c κs = search needs
+
+returns-4 : tie.Need-returns-4
+unfolding goodType
+returns-4 c = let ·good-parent = c .before .before .before .before .before .before .before .good-parent in
+    let ·if1 = c .before .before .before .before .before .before .if1 in
+    let ·good-length = c .before .before .before .before .before .good-length in
+    let ·if2 = c .before .before .before .before .if2 in let ·good-key = c .before .before .before .good-key in
+    let ·if3 = c .before .before .if3 in
+    simp (
+      told-yes (·good-parent .ensures) (·if1 .left),
+      told-yes (·good-length .ensures) (·if2 .left),
+      told-yes
+          (·good-key .ensures) (·if3 .left),
+      told-no (c .before .ends-in-zeros .ensures) (c .if4 .taken),
+    )
+
+level-requires : tie.Need-level-requires
+level-requires c κs = search needs
+
+returns-5 : tie.Need-returns-5
+unfolding goodType
+returns-5 c = let ·good-parent = c .before .before .before .before .before .before .before .before .good-parent in
+    let ·if1 = c .before .before .before .before .before .before .before .if1 in
+    let ·good-length = c .before .before .before .before .before .before .good-length in
+    let ·if2 = c .before .before .before .before .before .if2 in
+    let ·good-key = c .before .before .before .before .good-key in let ·if3 = c .before .before .before .if3 in
+    let ·ends-in-zeros = c .before .before .ends-in-zeros in
+    simp (
+      told-yes (·good-parent .ensures) (·if1 .left),
+      told-yes (·good-length .ensures) (·if2 .left),
+      told-yes
+          (·good-key .ensures) (·if3 .left),
+      told-yes (·ends-in-zeros .ensures) (c .before .if4 .left),
+      c .level .ensures,
+    )
+
+pub good-type-spec : {M : Type 1} → statement M
+good-type-spec =
+    tie.close
+    (tie.spec
+    good-parent-requires
+    returns
+    good-length-requires
+    returns-2
+    good-key-requires
+    returns-3
+    ends-in-zeros-requires
+    returns-4
+    level-requires
+    returns-5)

@@ -1,0 +1,127 @@
+// The check of one entry of a catalogue, of a type and of a field. Like the lookups, these take any slice and any number.
+use blocks::wide;
+use catalogue::entries::data_length;
+use catalogue::entries::key_kind;
+use catalogue::entries::key_length;
+use catalogue::entries::key_start;
+use catalogue::entries::parent;
+use catalogue::entry_bytes::field_byte;
+use catalogue::entry_bytes::type_byte;
+use catalogue::fields::field_length;
+use catalogue::fields::field_start;
+use catalogue::fields::field_type;
+use catalogue::lineage::is_above;
+use catalogue::lineage::level;
+use catalogue::type_range::is_type;
+use terms::FieldNumber;
+use terms::TypeCode;
+ghost use mathlib.Core.Path.{_≡_};
+ghost use mathlib.Core.Bool.{_&&_};
+ghost use Prim.Native.Nat.{_+_, _*_};
+ghost use lib.Dec.{leb};
+ghost use Rattle.rules.specs.Block.{part, zeros};
+ghost use Rattle.rules.specs.Catalogue.{lengthOf, goodSpan, goodKey, goodParent, goodType, goodField};
+
+// "start and length are at least 1 and start + length - 1 is at most L": the sum is taken in wide numbers, where it cannot wrap.
+fn good_span(start: u8, long: u8, most: u8) -> bool
+    ensures { λ r. ⌜ r ≡ goodSpan start long most ⌝ }
+{
+    if start == 0 {
+        return false;
+    }
+    if long == 0 {
+        return false;
+    }
+    wide(start) + wide(long) - 1 <= wide(most)
+}
+
+// "With kind 0, start and length are 0."
+fn good_key(cat: &[u8], t: TypeCode) -> bool
+    ensures { λ r. ⌜ r ≡ goodKey (now (cat .entry)) t ⌝ }
+{
+    let kind = key_kind(cat, t);
+    let start = key_start(cat, t);
+    let long = key_length(cat, t);
+    if kind == 0 {
+        if start != 0 {
+            return false;
+        }
+        return long == 0;
+    }
+    if 2 < kind {
+        return false;
+    }
+    good_span(start, long, data_length(cat, t))
+}
+
+// "Type 1 has parent 0 and no other has. The parent of type k > 1 is k - 1 or an ancestor of k - 1."
+fn good_parent(cat: &[u8], k: u8) -> bool
+    ensures { λ r. ⌜ r ≡ goodParent (now (cat .entry)) k ⌝ }
+{
+    let above = parent(cat, TypeCode(k));
+    if k == 0 {
+        return false;
+    }
+    if k == 1 {
+        return above.0 == 0;
+    }
+    is_above(cat, above, TypeCode(k - 1))
+}
+
+// "data length L, 1 to 120"
+fn good_length(cat: &[u8], t: TypeCode) -> bool
+    ensures { λ r. ⌜ r ≡ (leb 1 (lengthOf (now (cat .entry)) t) && leb (lengthOf (now (cat .entry)) t) 120) ⌝ }
+{
+    let long = data_length(cat, t);
+    if long == 0 {
+        return false;
+    }
+    long <= 120
+}
+
+// "three zero bytes"
+fn ends_in_zeros(cat: &[u8], t: TypeCode) -> bool
+    ensures { λ r. ⌜ r ≡ zeros (part (now (cat .entry)) (8 * t .0 + 5) 3) ⌝ }
+{
+    if type_byte(cat, t, 5) != 0 {
+        return false;
+    }
+    if type_byte(cat, t, 6) != 0 {
+        return false;
+    }
+    type_byte(cat, t, 7) == 0
+}
+
+pub fn good_type(cat: &[u8], k: u8) -> bool
+    ensures { λ r. ⌜ r ≡ goodType (now (cat .entry)) k ⌝ }
+{
+    if !good_parent(cat, k) {
+        return false;
+    }
+    if !good_length(cat, TypeCode(k)) {
+        return false;
+    }
+    if !good_key(cat, TypeCode(k)) {
+        return false;
+    }
+    if !ends_in_zeros(cat, TypeCode(k)) {
+        return false;
+    }
+    level(cat, TypeCode(k)) <= 15
+}
+
+// "type code from 1 to T, start, length (same rule against that type's L), zero byte"
+pub fn good_field(cat: &[u8], f: u8) -> bool
+    ensures { λ r. ⌜ r ≡ goodField (now (cat .entry)) f ⌝ }
+{
+    let t = field_type(cat, FieldNumber(f));
+    if !is_type(cat, t) {
+        return false;
+    }
+    let start = field_start(cat, FieldNumber(f));
+    let long = field_length(cat, FieldNumber(f));
+    if !good_span(start, long, data_length(cat, t)) {
+        return false;
+    }
+    field_byte(cat, FieldNumber(f), 3) == 0
+}

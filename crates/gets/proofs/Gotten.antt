@@ -1,0 +1,319 @@
+-- The gets, branch by branch: what was found or not, and its status. Assumes nothing.
+use mathlib.Core.Path.{_≡_, refl, ap, sym, _∙_}
+use mathlib.Core.Bool.{Bool, true, false, _&&_, not}
+use mathlib.Core.List.{List, [], _∷_, _++_}
+use Prim.Native.Nat.{ℕ, zero, suc, _+_, _-_, _*_, _<_, _≤_}
+use native.Mathlib.Omega.{arith}
+use lib.Dec.{ltb, eqb}
+use lib.ListN.{length, take, drop}
+use borrow.Author.Tests.{lt-ltb, le-ltb, eq-eqb, ne-eqb, ltb-true, ltb-false, eqb-true, eqb-false}
+use Rattle.terms.specs.declared.TypeCode.{TypeCode}
+use Rattle.terms.specs.declared.CellNumber.{CellNumber}
+use Rattle.terms.specs.declared.Place.{Place}
+use Rattle.terms.specs.declared.Place.the-variants.{On, Before}
+use Rattle.terms.specs.declared.Parentage.{Parentage}
+use Rattle.terms.specs.declared.Parentage.the-variants.{Absent, Of}
+use Rattle.terms.specs.declared.Position.{Position}
+use Rattle.terms.specs.declared.Status.{Status}
+use Rattle.terms.specs.declared.Status.the-variants.{Blank, GA, GK, GB, GE}
+use Rattle.terms.specs.declared.Answer.{Answer}
+use Rattle.terms.specs.declared.Found.{Found}
+use Rattle.terms.specs.declared.Found.the-variants.{At, Nothing}
+use Rattle.terms.specs.Choice.{pick}
+use Rattle.terms.specs.Names.{code, cell, sameType}
+use Rattle.terms.specs.Moves.{afterPlace, isAbsent, movedOnto}
+use Rattle.forest.specs.Forest.{inside, outside, side}
+use Rattle.forest.specs.Good.{on, off, is}
+use Rattle.forest.specs.Runs.{under, under-in, under-out}
+use Rattle.forest.specs.Numbers.{range}
+use Rattle.rules.specs.Block.{Bytes}
+use Rattle.rules.specs.Catalogue.{types, parentOf, lengthOf, isType, level, typeBeneath}
+use Rattle.rules.specs.Cells.{Segment, segment, long as segmentLong, levelAt, runAt, endAt}
+use Rattle.rules.specs.Table.{count, listing}
+use Rattle.rules.specs.Arguments.{Level, ListRead, listRead, lastArgument, complete, getLevels}
+use Rattle.rules.specs.Matching.{firstMatch, along}
+use Rattle.rules.specs.Calls.{bare, afterMiss, answerOf, missStatus, levelStatus, getUnique, getNext, getNextWithin}
+use Rattle.rules.proofs.Cells.{listing-length}
+use Rattle.catalogue.proofs.Hierarchy.{type-range, cell-holds, level-child, level-least, beneath-later}
+use Rattle.cells.specs.Sound.{Sound}
+use Rattle.cells.proofs.Located.{type-of, bytes-of, end-within}
+use Rattle.cells.proofs.Ancestry.{sound-listing, own-type, run-beneath}
+use Rattle.arguments.specs.Sound.{SoundList}
+use Rattle.arguments.proofs.Sound.{list-empty, last-asks}
+use Rattle.arguments.proofs.Complete.{complete-length}
+use Rattle.encoding.proofs.Bytes.{table-known}
+use Rattle.search.specs.Good.{Good}
+use Rattle.search.proofs.Branches.{first-none, all-match, known-last}
+use Rattle.search.proofs.Levels.{get-levels}
+use Rattle.answers.specs.Told.{told}
+use Rattle.answers.specs.Ready.{Ready, left, gotAt, missedStatus}
+
+-- a cell's data lies within the cell
+pub data-fits : {cat tab : Bytes} {size : ℕ} → Sound cat tab size → (i : ℕ) → i < count tab → suc (lengthOf cat (segment (listing cat tab) i .code)) ≤ size
+data-fits {cat} {tab} {size} s i l =
+    let k : isType cat (segment (listing cat tab) i .code) ≡ true = rw (type-of cat tab i l) (table-known cat tab (s .table) i l) in
+    let r = type-range cat (segment (listing cat tab) i .code) k in
+    omega (arith, cell-holds cat (s .catalogue) (segment (listing cat tab) i .code) (r .0) (r .1), s .sized .is)
+
+-- what a get writes and answers, once cell i is found: `from` are the bytes that are put over the front of the area
+pub got-is : {cat tab : Bytes} {size : ℕ} → Sound cat tab size → (i : ℕ) → i < count tab → (s : Status) (parentage : Parentage) (hold : Bool) (area out : Bytes) (r : Answer)
+    (p : Position) (t : TypeCode) (start long : ℕ) → start ≡ 9 + i * size → long ≡ lengthOf cat t → t ≡ segment (listing cat tab) i .code
+    → p ≡ movedOnto i parentage hold → r ≡ told cat s p t 0
+    → out ≡ take (start + long - start) (drop start tab) ++ drop (length (take (start + long - start) (drop start tab))) area
+    → left r out ≡ gotAt cat (listing cat tab) s parentage hold i area
+unfolding told answerOf segmentLong
+got-is {cat} {tab} {size} snd i l s parentage hold area out r p t start long e f g h k o =
+    let n : start + long - start ≡ lengthOf cat (segment (listing cat tab) i .code) = omega (arith, f ∙ ap (lengthOf cat) g) in
+    let m : start ≡ suc (8 + i * size) = omega arith in
+    let b : take (start + long - start) (drop start tab) ≡ segment (listing cat tab) i .bytes =
+    ap (λ (x : ℕ). take x (drop start tab)) n ∙ ap (λ (x : ℕ). take (lengthOf cat (segment (listing cat tab) i .code)) (drop x tab)) m ∙ sym (bytes-of (snd .sized) i l) in
+    rw (o, b, k, h, g)
+
+module _ {cat tab : Bytes} {size : ℕ} {pos : Position} {list : Bytes} (r : Ready cat tab size pos list) where
+  abbrev cs : List Segment
+  cs = listing cat tab
+
+  abbrev ls : List Level
+  ls = getLevels cat list (listRead cat list .arguments)
+
+  abbrev last : TypeCode
+  last = lastArgument (listRead cat list .arguments) .code
+
+  sound-list : SoundList cat list
+  sound-list = record { catalogue = r .sound .catalogue; read = r .asked }
+
+  pub search-good : (t : TypeCode) → t ≡ last → Good cat tab list size t
+  search-good t e = record {
+    catalogue = r .sound .catalogue;
+    table = r .sound .table;
+    sized = r .sound .sized;
+    sound = r .asked;
+    known = rw e (known-last cat list sound-list);
+  }
+
+  levels-of : (t : TypeCode) → t ≡ last → complete cat list (listRead cat list .arguments) t ≡ ls
+  levels-of t e = rw e (sym (get-levels cat list (listRead cat list .arguments)))
+
+  levels-none : length list ≡ 0 → ls ≡ []
+  levels-none e = ap (λ (l : ListRead). getLevels cat list (l .arguments)) (list-empty cat list e)
+
+  levels-some : (length list ≡ 0 → ⊥) → 0 < length ls
+  levels-some n =
+      let a = last-asks cat list sound-list (omega arith) in
+      let k = type-range cat last (a .type) in
+      omega (
+        arith,
+        ap length (get-levels cat list (listRead cat list .arguments)),
+        complete-length cat list (listRead cat list .arguments) last,
+        level-least cat (r .sound .catalogue) last (k .0) (k .1),
+      )
+
+  miss-filled : (m : List Level) → 0 < length m → missStatus m ≡ GE
+  miss-filled [] h = absurd (omega arith)
+  miss-filled (l ∷ m) h = refl
+
+  status-filled : (m : List Level) (q : Place) (i : ℕ) → 0 < length m → levelStatus cat cs m q i ≡ Blank
+  status-filled [] q i h = absurd (omega arith)
+  status-filled (l ∷ m) q i h = refl
+
+  pub miss-status : missedStatus list ≡ missStatus ls
+  miss-status = go (eqb (length list) 0) refl
+    where
+      go : (b : Bool) → eqb (length list) 0 ≡ b → missedStatus list ≡ missStatus ls
+      go true e = rw (e, levels-none (eqb-true (length list) 0 e))
+      go false e = rw e (sym (miss-filled ls (levels-some (eqb-false (length list) 0 e))))
+
+  module _ (i : ℕ) where
+    pub status-named : (length list ≡ 0 → ⊥) → Blank ≡ levelStatus cat cs ls (pos .place) i
+    status-named n = sym (status-filled ls (pos .place) i (levels-some n))
+
+    pub status-gap : (q : CellNumber) → length list ≡ 0 → pos .place ≡ Before q → Blank ≡ levelStatus cat cs ls (pos .place) i
+    status-gap q e f = rw (levels-none e, f)
+
+    module _ (q : CellNumber) (was here : ℕ) (e : length list ≡ 0) (f : pos .place ≡ On q) (w : was ≡ levelAt cat cs (q .0)) (h : here ≡ levelAt cat cs i) where
+      pub status-less : here < was → GA ≡ levelStatus cat cs ls (pos .place) i
+      status-less l = rw (levels-none e, f, lt-ltb (levelAt cat cs i) (levelAt cat cs (q .0)) (omega arith))
+
+      pub status-more : was < here → Blank ≡ levelStatus cat cs ls (pos .place) i
+      status-more l = rw (levels-none e, f, le-ltb (levelAt cat cs i) (levelAt cat cs (q .0)) (omega arith), ne-eqb (levelAt cat cs i) (levelAt cat cs (q .0)) (λ z. omega arith))
+
+      module _ (s : here ≡ was) (t u : TypeCode) (x : t ≡ segment cs i .code) (y : u ≡ segment cs (q .0) .code) where
+        level-same : levelStatus cat cs ls (pos .place) i ≡ pick (not (sameType t u)) GK Blank
+        level-same =
+            rw (
+              levels-none e,
+              f,
+              le-ltb (levelAt cat cs i) (levelAt cat cs (q .0)) (omega arith),
+              eq-eqb (levelAt cat cs i) (levelAt cat cs (q .0)) (omega arith),
+              x,
+              y,
+            )
+
+        pub status-twin : t .0 ≡ u .0 → Blank ≡ levelStatus cat cs ls (pos .place) i
+        status-twin z = rw (level-same, eq-eqb (t .0) (u .0) z)
+
+        pub status-other : (t .0 ≡ u .0 → ⊥) → GK ≡ levelStatus cat cs ls (pos .place) i
+        status-other z = rw (level-same, ne-eqb (t .0) (u .0) z)
+
+    -- the same from the codes: t is the type of cell i, which was found, and u that of the place
+    module _ (q : CellNumber) (t u : TypeCode) (e : length list ≡ 0) (f : pos .place ≡ On q) (l : i < count tab) (m : q .0 < count tab) (x : t ≡ segment cs i .code) (y : u ≡ segment cs (q .0) .code) where
+      found-type : (1 ≤ t .0) × (t .0 ≤ types cat)
+      found-type = rw x (own-type cat cs (r .sound .catalogue) (sound-listing (r .sound)) i (omega (arith, listing-length cat tab)))
+
+      place-type : (1 ≤ u .0) × (u .0 ≤ types cat)
+      place-type = rw y (own-type cat cs (r .sound .catalogue) (sound-listing (r .sound)) (q .0) (omega (arith, listing-length cat tab)))
+
+      found-level : level cat t ≡ levelAt cat cs i
+      unfolding levelAt
+      found-level = ap (level cat) x
+
+      place-level : level cat u ≡ levelAt cat cs (q .0)
+      unfolding levelAt
+      place-level = ap (level cat) y
+
+      pub codes-same : t .0 ≡ u .0 → Blank ≡ levelStatus cat cs ls (pos .place) i
+      codes-same z = status-twin q (level cat u) (level cat t) e f place-level found-level (ap (λ (v : ℕ). level cat (code v)) z) t u x y z
+
+      module _ (p : TypeCode) (g : p ≡ parentOf cat t) where
+        above-found : level cat t ≡ suc (level cat p)
+        above-found = level-child cat (r .sound .catalogue) t (found-type .0) (found-type .1) ∙ ap (λ (v : TypeCode). suc (level cat v)) (sym g)
+
+        pub codes-child : p .0 ≡ u .0 → Blank ≡ levelStatus cat cs ls (pos .place) i
+        codes-child z =
+            let h : level cat p ≡ level cat u = ap (λ (v : ℕ). level cat (code v)) z in
+            status-more q (level cat u) (level cat t) e f place-level found-level (omega (arith, above-found))
+
+        pub codes-sibling : (o : TypeCode) → o ≡ parentOf cat u → (t .0 ≡ u .0 → ⊥) → p .0 ≡ o .0 → GK ≡ levelStatus cat cs ls (pos .place) i
+        codes-sibling o k n z =
+            let a : level cat u ≡ suc (level cat o) = level-child cat (r .sound .catalogue) u (place-type .0) (place-type .1) ∙ ap (λ (v : TypeCode). suc (level cat v)) (sym k) in
+            let b : level cat p ≡ level cat o = ap (λ (v : ℕ). level cat (code v)) z in
+            status-other q (level cat u) (level cat t) e f place-level found-level (omega (arith, above-found)) t u x y n
+
+      module _ (was here : ℕ) (v : was ≡ level cat u) (w : here ≡ level cat t) where
+        pub levels-less : here < was → GA ≡ levelStatus cat cs ls (pos .place) i
+        levels-less h = status-less q was here e f (v ∙ place-level) (w ∙ found-level) h
+
+        pub levels-more : was < here → Blank ≡ levelStatus cat cs ls (pos .place) i
+        levels-more h = status-more q was here e f (v ∙ place-level) (w ∙ found-level) h
+
+        pub levels-same : (t .0 ≡ u .0 → ⊥) → was ≤ here → here ≤ was → GK ≡ levelStatus cat cs ls (pos .place) i
+        levels-same n a b = status-other q was here e f (v ∙ place-level) (w ∙ found-level) (omega arith) t u x y n
+
+  module _ (area : Bytes) (hold : Bool) (t : TypeCode) (found : Found) (te : t ≡ last) where
+    module _ (e : found ≡ along cat cs (complete cat list (listRead cat list .arguments) t) (pos .place)) where
+      along-is : along cat cs ls (pos .place) ≡ found
+      along-is = ap (λ (l : List Level). along cat cs l (pos .place)) (sym (levels-of t te)) ∙ sym e
+
+      pub unique-found : (c : CellNumber) → found ≡ At c → gotAt cat cs Blank (Of c) hold (c .0) area ≡ getUnique cat cs pos area hold ls
+      unfolding getUnique
+      unique-found c f = rw (along-is ∙ f)
+
+      pub unique-missed : found ≡ Nothing → left (bare GE (afterMiss GE pos)) area ≡ getUnique cat cs pos area hold ls
+      unfolding getUnique
+      unique-missed f = rw (along-is ∙ f)
+
+    module _ (from : ℕ) (fe : from ≡ afterPlace (pos .place)) (to : ℕ) (e : found ≡ firstMatch cat cs (complete cat list (listRead cat list .arguments) t) from to) where
+      first-is : firstMatch cat cs ls (afterPlace (pos .place)) to ≡ found
+      first-is = ap (λ (l : List Level). firstMatch cat cs l (afterPlace (pos .place)) to) (sym (levels-of t te)) ∙ ap (λ (n : ℕ). firstMatch cat cs (complete cat list (listRead cat list .arguments) t) n to) (sym fe) ∙ sym e
+
+      pub next-found : (c : CellNumber) (s : Status) → to ≡ length cs → found ≡ At c → s ≡ levelStatus cat cs ls (pos .place) (c .0)
+          → gotAt cat cs s (Of c) hold (c .0) area ≡ getNext cat cs pos area hold ls
+      unfolding getNext
+      next-found c s n f z = rw (← n, first-is ∙ f, z)
+
+      pub next-missed : (s : Status) → to ≡ length cs → found ≡ Nothing → s ≡ missedStatus list → left (bare s (afterMiss s pos)) area ≡ getNext cat cs pos area hold ls
+      unfolding getNext
+      next-missed s n f z = rw (← n, first-is ∙ f, z, miss-status)
+
+      pub within-found : (p c : CellNumber) (s : Status) → pos .parentage ≡ Of p → to ≡ endAt cat cs (p .0) → found ≡ At c → s ≡ levelStatus cat cs ls (pos .place) (c .0)
+          → gotAt cat cs s (Of p) hold (c .0) area ≡ getNextWithin cat cs pos area hold ls
+      unfolding getNextWithin
+      within-found p c s x n f z = rw (x, ← n, first-is ∙ f, z)
+
+      pub within-missed : (p : CellNumber) → pos .parentage ≡ Of p → to ≡ endAt cat cs (p .0) → found ≡ Nothing → left (bare GE (afterMiss GE pos)) area ≡ getNextWithin cat cs pos area hold ls
+      unfolding getNextWithin
+      within-missed p x n f = rw (x, ← n, first-is ∙ f)
+
+-- with an empty list the cell after the place is the match
+module _ {cat tab : Bytes} {size : ℕ} {pos : Position} {list : Bytes} (r : Ready cat tab size pos list) (area : Bytes) (hold : Bool) (none : length list ≡ 0) (i : ℕ) (at : i ≡ afterPlace (pos .place)) (n : ℕ) (to : n ≡ count tab) where
+  abbrev lastCode : TypeCode
+  lastCode = lastArgument (listRead cat list .arguments) .code
+
+  no-code : lastCode .0 ≡ 0
+  no-code = ap (λ (l : ListRead). lastArgument (l .arguments) .code .0) (list-empty cat list none)
+
+  to-end : n ≡ length (listing cat tab)
+  to-end = to ∙ sym (listing-length cat tab)
+
+  pub cell-found : (s : Status) → i < n → s ≡ levelStatus cat (listing cat tab) (getLevels cat list (listRead cat list .arguments)) (pos .place) i
+      → gotAt cat (listing cat tab) s (Of (cell i)) hold i area ≡ getNext cat (listing cat tab) pos area hold (getLevels cat list (listRead cat list .arguments))
+  cell-found s l e =
+      next-found r area hold lastCode (At (cell i)) refl i at n (all-match (search-good r lastCode refl) i n no-code l) (cell i) s to-end refl e
+
+  pub cell-missed : n ≤ i → left (bare GB (afterMiss GB pos)) area ≡ getNext cat (listing cat tab) pos area hold (getLevels cat list (listRead cat list .arguments))
+  cell-missed l =
+      next-missed r area hold lastCode Nothing refl i at n (first-none cat (listing cat tab) (complete cat list (listRead cat list .arguments) lastCode) i n l) GB to-end refl (sym (ap (λ (b : Bool). pick b GB GE) (eq-eqb (length list) 0 none)))
+
+-- the cell that a run comes up to is in it where its type is beneath that of the run's first cell
+under-stop : (lev : ℕ → ℕ) (m n s : ℕ) → under lev m (range s n) < n → lev (s + under lev m (range s n)) ≤ m
+unfolding under
+under-stop lev m zero s l = absurd (omega arith)
+under-stop lev m (suc n) s l = elim (side m (lev s)) [
+  | inside h ↦
+      let e : under lev m (range s (suc n)) ≡ suc (under lev m (range (suc s) n)) = under-in lev m s (range (suc s) n) h in
+      let z : s + under lev m (range s (suc n)) ≡ suc s + under lev m (range (suc s) n) = omega arith in
+      rw z (under-stop lev m n (suc s) (omega arith))
+  | outside h ↦
+      let e : under lev m (range s (suc n)) ≡ 0 = under-out lev m s (range (suc s) n) h in
+      let z : s + under lev m (range s (suc n)) ≡ s = omega arith in
+      rw z h
+]
+
+end-stop : (cat : Bytes) (cs : List Segment) (p : ℕ) → endAt cat cs p < length cs → levelAt cat cs (endAt cat cs p) ≤ levelAt cat cs p
+unfolding endAt runAt
+end-stop cat cs p l =
+    let n : ℕ = length cs - suc p in
+    let z : p + suc (under (levelAt cat cs) (levelAt cat cs p) (range (suc p) (length cs - suc p))) ≡ suc p + under (levelAt cat cs) (levelAt cat cs p) (range (suc p) (length cs - suc p)) = omega arith in
+    rw z (under-stop (levelAt cat cs) (levelAt cat cs p) (length cs - suc p) (suc p) (omega arith))
+
+module _ {cat tab : Bytes} {size : ℕ} (s : Sound cat tab size) (p i : ℕ) (l : p < i) (m : i ≤ endAt cat (listing cat tab) p) (k : p < count tab) where
+  pub within-none : count tab ≤ i → false ≡ ltb i (endAt cat (listing cat tab) p)
+  within-none h = sym (le-ltb i (endAt cat (listing cat tab) p) (omega (arith, end-within cat (listing cat tab) p (omega (arith, listing-length cat tab)), listing-length cat tab)))
+
+  pub within-type : (t u : TypeCode) (b : Bool) → i < count tab → t ≡ segment (listing cat tab) i .code → u ≡ segment (listing cat tab) p .code → b ≡ typeBeneath cat t u → b ≡ ltb i (endAt cat (listing cat tab) p)
+  unfolding levelAt
+  within-type t u b h x y e = elim (side i (endAt cat (listing cat tab) p)) [
+    | inside w ↦ e ∙ rw (x, y) (run-beneath cat (listing cat tab) (s .catalogue) (sound-listing s) i (omega (arith, listing-length cat tab)) p l w) ∙ sym (lt-ltb i (endAt cat (listing cat tab) p) w)
+    | outside w ↦
+        let z : i ≡ endAt cat (listing cat tab) p = omega arith in
+        let o = own-type cat (listing cat tab) (s .catalogue) (sound-listing s) i (omega (arith, listing-length cat tab)) in
+        let v : levelAt cat (listing cat tab) i ≤ levelAt cat (listing cat tab) p = rw z (end-stop cat (listing cat tab) p (omega (arith, listing-length cat tab))) in
+        let f : typeBeneath cat t u ≡ false = (elim (is (typeBeneath cat t u)) [
+          | on q ↦ absurd (omega (arith, beneath-later cat (s .catalogue) t u (rw x (o .0)) (rw x (o .1)) q .2, ap (level cat) x, ap (level cat) y))
+          | off q ↦ q
+        ]) in
+        e ∙ f ∙ sym (le-ltb i (endAt cat (listing cat tab) p) w)
+  ]
+
+pub cell-in-run : (cat tab : Bytes) (p i : ℕ) → p < count tab → ltb i (endAt cat (listing cat tab) p) ≡ true → i < count tab
+cell-in-run cat tab p i k e = omega (arith, ltb-true i (endAt cat (listing cat tab) p) e, end-within cat (listing cat tab) p (omega (arith, listing-length cat tab)), listing-length cat tab)
+
+-- GNP with an empty list: the cell after the place is the match, if it lies in the parentage's run
+module _ {cat tab : Bytes} {size : ℕ} {pos : Position} {list : Bytes} (r : Ready cat tab size pos list) (area : Bytes) (hold : Bool) (none : length list ≡ 0) (i : ℕ) (at : i ≡ afterPlace (pos .place)) (p : CellNumber) (x : pos .parentage ≡ Of p) (b : Bool) (w : b ≡ ltb i (endAt cat (listing cat tab) (p .0))) where
+  abbrev noType : TypeCode
+  noType = lastArgument (listRead cat list .arguments) .code
+
+  no-type : noType .0 ≡ 0
+  no-type = ap (λ (l : ListRead). lastArgument (l .arguments) .code .0) (list-empty cat list none)
+
+  pub cell-within : (s : Status) → b ≡ true → s ≡ levelStatus cat (listing cat tab) (getLevels cat list (listRead cat list .arguments)) (pos .place) i
+      → gotAt cat (listing cat tab) s (Of p) hold i area ≡ getNextWithin cat (listing cat tab) pos area hold (getLevels cat list (listRead cat list .arguments))
+  cell-within s l e =
+      within-found r area hold noType (At (cell i)) refl i at (endAt cat (listing cat tab) (p .0)) (all-match (search-good r noType refl) i (endAt cat (listing cat tab) (p .0)) no-type (ltb-true i (endAt cat (listing cat tab) (p .0)) (sym w ∙ l))) p (cell i) s x refl refl e
+
+  pub cell-outside : b ≡ false → left (bare GE (afterMiss GE pos)) area ≡ getNextWithin cat (listing cat tab) pos area hold (getLevels cat list (listRead cat list .arguments))
+  cell-outside l =
+      within-missed r area hold noType Nothing refl i at (endAt cat (listing cat tab) (p .0)) (first-none cat (listing cat tab) (complete cat list (listRead cat list .arguments) noType) i (endAt cat (listing cat tab) (p .0)) (ltb-false i (endAt cat (listing cat tab) (p .0)) (sym w ∙ l))) p x refl refl
+
+pub absent-not : (pos : Position) → pos .parentage ≡ Absent → isAbsent (pos .parentage) ≡ false → ⊥
+absent-not pos e h = let z : true ≡ false = rw e at h in let y : _≡_ {A = ℕ} 1 0 = ap (λ (b : Bool). pick b 1 0) z in omega arith

@@ -1,5 +1,0 @@
-pub mod Steps
-pub mod Written
-pub mod Way
-pub mod Tested
-pub mod Outer

@@ -1,3 +1,0 @@
-pub mod Shown
-pub mod Onward
-pub mod Given

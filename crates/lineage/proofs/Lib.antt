@@ -1,3 +1,0 @@
-pub mod Chains
-pub mod Hierarchy
-pub mod Laws

@@ -1,3 +1,0 @@
-pub mod Loops
-pub mod Reading
-pub mod Demand3

@@ -1,0 +1,3 @@
+pub mod Loops
+pub mod Plain
+pub mod Demand3

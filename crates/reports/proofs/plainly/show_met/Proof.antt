@@ -1,0 +1,40 @@
+use mathlib.Core.Path.{_∙_}
+use Rattle.reports.proofs.Tested.{met-yes, met-no}
+use borrow.Author.Needs.{needs}
+use Rattle.reports.proofs.plainly.show_met.Statement.{statement}
+use Rattle.reports.proofs.plainly.show_met.Tie as tie
+
+meets-requires : tie.Need-meets-requires
+meets-requires c κs = search needs
+
+returns : tie.Need-returns
+returns c = (
+  met-no _ _ _ _ (c .before .meets .ensures) (c .if1 .taken),
+  met-no _ _ _ _ (c .before .meets .ensures)
+      (c .if1 .taken),
+)
+
+put-hit-requires : tie.Need-put-hit-requires
+put-hit-requires c κs = search needs
+
+add-result : tie.Need-add-result
+add-result c = search needs
+
+same-length : tie.Need-same-length
+same-length c = search needs
+
+returns-2 : tie.Need-returns-2
+returns-2 c = let ·meets = c .before .before .before .before .before .meets in
+    let ·if1 = c .before .before .before .before .if1 in let ·put-hit = c .before .before .put-hit in
+    (met-yes _ _ _ _ (·meets .ensures) (·if1 .left), ·put-hit .ensures ∙ met-yes _ _ _ _ (·meets .ensures) (·if1 .left))
+
+pub show-met-spec : {M : Type 1} → statement M
+show-met-spec =
+    tie.close
+    (tie.spec
+    meets-requires
+    returns
+    put-hit-requires
+    add-result
+    same-length
+    returns-2)

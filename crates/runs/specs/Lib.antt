@@ -1,1 +1,0 @@
--- Nothing beyond what `cells` says of a lent table.

@@ -1,0 +1,425 @@
+-- The laws of a search, in the shape of the code's branches: over good blocks, with what the code has read. Assumes nothing.
+use mathlib.Core.Path.{_≡_, refl, ap, sym, _∙_, subst}
+use mathlib.Core.Bool.{Bool, true, false, _&&_}
+use mathlib.Core.List.{List, [], _∷_, reverse}
+use mathlib.Core.Logic.{inl, inr}
+use Prim.Native.Nat.{ℕ, zero, suc, _+_, _-_, _<_, _≤_}
+use native.Mathlib.Numerals.{add-one}
+use native.Mathlib.Omega.{arith}
+use lib.Dec.{leb, eqb}
+use lib.ListN.{length, drop}
+use borrow.Author.Tests.{le-leb, lt-leb, eq-eqb, ne-eqb, ltb-true, eqb-true, eqb-false}
+use Rattle.terms.specs.declared.TypeCode.{TypeCode}
+use Rattle.terms.specs.declared.CellNumber.{CellNumber}
+use Rattle.terms.specs.declared.Qualification.{Qualification}
+use Rattle.terms.specs.declared.Qualification.the-variants.{None, Test}
+use Rattle.terms.specs.declared.Argument.{Argument}
+use Rattle.terms.specs.declared.Place.{Place}
+use Rattle.terms.specs.declared.Place.the-variants.{On, Before}
+use Rattle.terms.specs.declared.Found.{Found}
+use Rattle.terms.specs.declared.Found.the-variants.{At, Nothing}
+use Rattle.terms.specs.Choice.{pick}
+use Rattle.terms.specs.Names.{cell}
+use Rattle.forest.specs.Forest.{inside, outside, side}
+use Rattle.forest.specs.Good.{on, off, is, both-left, both-right}
+use Rattle.forest.specs.Numbers.{ancestors, isIn, range}
+use Rattle.forest.specs.Types as Types
+use Rattle.rules.specs.Block.{Bytes, byte, marked, every, zeros}
+use Rattle.rules.specs.Catalogue.{types, parentOf, isType, lineage, level}
+use Rattle.rules.specs.Cells.{Segment, segment, levelAt, endAt, rowAt, goodListing}
+use Rattle.rules.specs.Table.{count, listing, room, cellSize, cellStart, goodRoom, padded, goodTable}
+use Rattle.rules.specs.Arguments.{Level, ListRead, listRead, lastArgument, askedOf, meant}
+use Rattle.rules.specs.Matching.{satisfies, isImplied, pathTo, matches, seek, firstMatch, keptOn, kept, soughtBeneath, along}
+use Rattle.rules.specs.Position.{goodPlace}
+use Rattle.rules.proofs.Catalogue.{par, good-lower}
+use Rattle.rules.proofs.Cells.{listing-length}
+use Rattle.rules.proofs.Search.{seek-none, seek-here, seek-next}
+use Rattle.catalogue.proofs.Hierarchy.{parent-least, parent-before, level-child, level-least}
+use Rattle.cells.specs.Lent.{nearest, parentAt}
+use Rattle.cells.proofs.Located.{end-within}
+use Rattle.cells.proofs.Ancestry.{own-type}
+use Rattle.search.specs.declared.Reached.{Reached}
+use Rattle.search.specs.Stretch.{levels, agreesAlone, stretch, stretchBefore, Carried}
+use Rattle.search.specs.Good.{Good, Testable, NextRoot, reached, Above}
+use Rattle.search.proofs.Rows.{Regular, back-parts}
+use Rattle.search.proofs.Carry.{headAgrees, headImplied, kept-none, stretch-within, stretch-le, carried-before, carried-parent, carried-root, next-short, next-on, next-off, full-agrees, match-yes, match-not, kept-short, kept-full}
+use Rattle.search.proofs.Levels.{regular, agrees-own, implied-own}
+use Rattle.arguments.specs.declared.Wanted.{Wanted}
+use Rattle.arguments.specs.declared.Wanted.the-variants.{Implied, Named}
+use Rattle.arguments.specs.Sound.{SoundList, GoodQualification, wantedOf, meaning}
+use Rattle.arguments.proofs.Complete.{asked-wanted, complete-length}
+use Rattle.arguments.proofs.Above.{type-first, type-last}
+use Rattle.arguments.proofs.Sound.{wanted-asks, last-asks, list-empty}
+
+not-implied : (cat list : Bytes) (q : Qualification) → isImplied (meant cat list q) ≡ false
+not-implied cat list None = refl
+not-implied cat list (Test o f v) = refl
+
+-- whether the type of cell i is left out: u is that type and w what the list wants of it, as the code has read them
+module _ (cat tab list : Bytes) (i : ℕ) (u : TypeCode) (e : u ≡ segment (listing cat tab) i .code) (w : Wanted) (f : w ≡ wantedOf (listRead cat list .arguments) u) where
+  abbrev isLeftOut : Bool
+  isLeftOut = isImplied (askedOf cat list (listRead cat list .arguments) (segment (listing cat tab) i .code))
+
+  asked-own : isLeftOut ≡ isImplied (meaning cat list w)
+  asked-own =
+      ap isImplied
+      (ap (askedOf cat list (listRead cat list .arguments)) (sym e) ∙ asked-wanted cat list (listRead cat list .arguments) u ∙ ap (meaning cat list) (sym f))
+
+  pub implied-left : w ≡ Implied → true ≡ isLeftOut
+  implied-left x = sym (asked-own ∙ ap (λ (v : Wanted). isImplied (meaning cat list v)) x)
+
+  pub implied-named : (q : Qualification) → w ≡ Named q → false ≡ isLeftOut
+  implied-named q x = sym (asked-own ∙ ap (λ (v : Wanted). isImplied (meaning cat list v)) x ∙ not-implied cat list q)
+
+-- the first match before e, cell by cell
+module _ (cat : Bytes) (cs : List Segment) (ls : List Level) (i e : ℕ) where
+  pub first-none : e ≤ i → Nothing ≡ firstMatch cat cs ls i e
+  unfolding firstMatch
+  first-none h = let z : e - i ≡ 0 = omega arith in sym (ap (seek cat cs ls i) z ∙ seek-none cat cs ls i)
+
+  pub first-here : i < e → matches cat cs ls i ≡ true → At (cell i) ≡ firstMatch cat cs ls i e
+  unfolding firstMatch
+  first-here h m = sym (seek-here cat cs ls i (e - i) (omega arith) m)
+
+  pub first-next : i < e → matches cat cs ls i ≡ false → firstMatch cat cs ls (i + 1) e ≡ firstMatch cat cs ls i e
+  unfolding firstMatch
+  first-next h m =
+      let z : e - suc i ≡ e - i - 1 = omega arith in
+      rw add-one (sym (seek-next cat cs ls i (e - i) (omega arith) m ∙ sym (ap (seek cat cs ls (suc i)) z)))
+
+pub every-match : (cat : Bytes) (cs : List Segment) (i : ℕ) → matches cat cs [] i ≡ true
+unfolding matches
+every-match cat cs i = refl
+
+-- the parent that climbing finds
+module _ (cat : Bytes) (cs : List Segment) (i : ℕ) where
+  pub parent-none : Nothing ≡ parentAt cat cs i → ancestors (levelAt cat cs) i ≡ []
+  unfolding parentAt
+  parent-none e = elim (back-parts (levelAt cat cs) (levelAt cat cs i) i) [
+    | inl f ↦ f
+    | inr r ↦ absurd (let z : Nothing ≡ At (cell (r .0)) = e ∙ ap nearest (r .3) in let y : _≡_ {A = ℕ} 0 1 = cc in omega arith)
+  ]
+
+  pub parent-some : (c : CellNumber) → At c ≡ parentAt cat cs i → (c .0 < i) × (ancestors (levelAt cat cs) i ≡ c .0 ∷ ancestors (levelAt cat cs) (c .0))
+  unfolding parentAt
+  parent-some c e = elim (back-parts (levelAt cat cs) (levelAt cat cs i) i) [
+    | inl f ↦ absurd (let z : At c ≡ Nothing = e ∙ ap nearest f in let y : _≡_ {A = ℕ} 0 1 = cc in omega arith)
+    | inr r ↦
+        let z : At c ≡ At (cell (r .0)) = e ∙ ap nearest (r .3) in
+        let y : c ≡ cell (r .0) = cc in
+        rw y (r .1, r .3)
+  ]
+
+module _ {cat tab list : Bytes} {size : ℕ} {t : TypeCode} (g : Good cat tab list size t) where
+  abbrev cs : List Segment
+  cs = listing cat tab
+
+  abbrev ls : List Level
+  ls = levels cat list t
+
+  abbrev lev : ℕ → ℕ
+  lev = levelAt cat cs
+
+  good-cells : goodListing cat cs ≡ true
+  unfolding goodTable
+  good-cells = both-right (goodRoom cat tab && marked 0x54 tab && eqb (byte tab 5) (cellSize cat) && leb (count tab) (room cat tab) && every (padded cat tab) (range 0 (count tab)) && zeros (drop (cellStart cat (count tab)) tab)) (goodListing cat cs) (g .table)
+
+  pub steps : Regular lev (count tab)
+  steps i h = regular cat (g .catalogue) cs good-cells i (omega (arith, listing-length cat tab))
+
+  pub level-some : (i : ℕ) → i < count tab → 1 ≤ lev i
+  level-some i h = steps i h .0
+
+  last-level : length ls ≡ level cat t
+  last-level = complete-length cat list (listRead cat list .arguments) t
+
+  pub some-level : 0 < t .0 → 0 < length ls
+  unfolding level lineage
+  some-level h = omega (arith, last-level, ap length (Types.lineage-step (par cat) (types cat) (good-lower cat (g .catalogue)) (t .0) h (g .known)))
+
+  no-level : t .0 ≡ 0 → length ls ≡ 0
+  unfolding level lineage Types.lineage Types.lineageFrom
+  no-level e = last-level ∙ ap (λ (n : ℕ). length (Types.lineage (par cat) n)) e
+
+  pub sound-list : SoundList cat list
+  sound-list = record { catalogue = g .catalogue; read = g .sound }
+
+  -- one segment against the list: u is its type and w what the list wants of that, as the code has read them
+  module _ (i : ℕ) (u : TypeCode) (e : u ≡ segment cs i .code) where
+    abbrev bytesOf : Bytes
+    bytesOf = segment cs i .bytes
+
+    abbrev given : List Argument
+    given = listRead cat list .arguments
+
+    own-test : isIn (u .0) (lineage cat t) ≡ true → agreesAlone cat list t (segment cs i) ≡ satisfies cat bytesOf (askedOf cat list given u)
+    unfolding agreesAlone
+    own-test a = rw (sym e, a)
+
+    pub agrees-not : isIn (u .0) (lineage cat t) ≡ false → false ≡ agreesAlone cat list t (segment cs i)
+    unfolding agreesAlone
+    agrees-not a = rw (sym e, a)
+
+    pub agrees-implied : (w : Wanted) → isIn (u .0) (lineage cat t) ≡ true → w ≡ wantedOf given u → w ≡ Implied → true ≡ agreesAlone cat list t (segment cs i)
+    agrees-implied w a f x = sym (own-test a ∙ ap (satisfies cat bytesOf) (asked-wanted cat list given u ∙ ap (meaning cat list) (sym f ∙ x)))
+
+    pub agrees-named : (w : Wanted) (q : Qualification) (b : Bool) → isIn (u .0) (lineage cat t) ≡ true → w ≡ wantedOf given u → w ≡ Named q
+        → b ≡ satisfies cat bytesOf (meant cat list q) → b ≡ agreesAlone cat list t (segment cs i)
+    agrees-named w q b a f x y = y ∙ sym (own-test a ∙ ap (satisfies cat bytesOf) (asked-wanted cat list given u ∙ ap (meaning cat list) (sym f ∙ x)))
+
+    pub named-testable : (w : Wanted) (q : Qualification) → i < count tab → w ≡ wantedOf given u → w ≡ Named q → Testable cat tab list size i q
+    named-testable w q h f x = record {
+      catalogue = g .catalogue;
+      sized = g .sized;
+      cell = h;
+      tests = subst (λ (v : TypeCode). GoodQualification cat list v q) e (wanted-asks cat list sound-list u q (sym f ∙ x) .test);
+    }
+
+  -- one cell: l is its level, as the code has read it
+  module _ (i k l : ℕ) (h : i < count tab) (e : l ≡ lev i) where
+    agrees-cell : headAgrees cat cs (drop (lev i - 1) ls) i ≡ agreesAlone cat list t (segment cs i)
+    unfolding agreesAlone
+    agrees-cell = agrees-own cat list (listRead cat list .arguments) cs i (g .catalogue) t (g .known) (level-some i h)
+
+    pub stretch-short : Carried cat cs ls i k → k < l - 1 → k ≡ stretch cat cs ls i
+    stretch-short c x = next-short cat cs ls (count tab) steps i k h c (omega arith)
+
+    pub stretch-on : Carried cat cs ls i k → l - 1 ≤ k → agreesAlone cat list t (segment cs i) ≡ true → l ≡ stretch cat cs ls i
+    stretch-on c x a = e ∙ next-on cat cs ls (count tab) steps i k h c (omega arith) (agrees-cell ∙ a)
+
+    pub stretch-off : Carried cat cs ls i k → l - 1 ≤ k → agreesAlone cat list t (segment cs i) ≡ false → l - 1 ≡ stretch cat cs ls i
+    stretch-off c x a = ap (λ (n : ℕ). n - 1) e ∙ next-off cat cs ls (count tab) steps i k h c (omega arith) (agrees-cell ∙ a)
+
+  -- a cell of another type than the root's lies beneath a root: with nothing carried its stretch is nothing
+  pub stretch-none : (i k : ℕ) (u : TypeCode) → i < count tab → Carried cat cs ls i k → k ≡ 0 → u ≡ segment cs i .code → (u .0 ≡ 1 → ⊥) → 0 ≡ stretch cat cs ls i
+  unfolding levelAt
+  stretch-none i k u h c z e n =
+      let o = own-type cat cs (g .catalogue) good-cells i (omega (arith, listing-length cat tab)) in
+      let m : u .0 ≡ segment cs i .code .0 = ap (λ (x : TypeCode). x .0) e in
+      let v : TypeCode = segment cs i .code in
+      let p : 1 ≤ parentOf cat v .0 = parent-least cat (g .catalogue) v (omega (arith, o .0)) (o .1) in
+      let b : parentOf cat v .0 < v .0 = parent-before cat (g .catalogue) v (o .0) (o .1) in
+      let l : 2 ≤ lev i = omega (arith, level-child cat (g .catalogue) v (o .0) (o .1), level-least cat (g .catalogue) (parentOf cat v) p (omega (arith, o .1))) in
+      sym z ∙ stretch-short i k (lev i) h refl c (omega arith)
+
+  -- one cell more on a path
+  module _ (i l long : ℕ) (r : Reached) (h : i < count tab) (a : Above cat cs ls i r) (e : l ≡ lev i) (f : long ≡ stretch cat cs ls i) where
+    abbrev leftOut : Bool
+    leftOut = isImplied (askedOf cat list (listRead cat list .arguments) (segment cs i .code))
+
+    together : (q : Found) → q ≡ keptOn cat cs ls (pathTo cat cs i) Nothing → record { long = long; kept = q } ≡ reached cat cs ls i
+    unfolding reached
+    together q x = rw (f, x)
+
+    pub reached-short : long < l → record { long = long; kept = r .kept } ≡ reached cat cs ls i
+    reached-short x = together (r .kept) (a .kept ∙ sym (kept-short cat cs ls (count tab) steps i h (omega arith)))
+
+    whole : l ≤ long → stretch cat cs ls i ≡ lev i
+    whole x = omega (arith, stretch-le cat cs ls (count tab) steps i h)
+
+    own-kept : l ≤ long → keptOn cat cs ls (pathTo cat cs i) Nothing ≡ pick leftOut (At (cell i)) (r .kept)
+    unfolding agreesAlone
+    own-kept x =
+        let y : agreesAlone cat list t (segment cs i) ≡ true = sym (agrees-cell i (r .long) l h e) ∙ full-agrees cat cs ls (count tab) steps i (r .long) h (a .long) (whole x) in
+        let z : isIn (segment cs i .code .0) (lineage cat t) ≡ true = both-left (isIn (segment cs i .code .0) (lineage cat t)) (satisfies cat (segment cs i .bytes) (askedOf cat list (listRead cat list .arguments) (segment cs i .code))) y in
+        kept-full cat cs ls (count tab) steps i h (whole x)
+        ∙ ap (λ (b : Bool). pick b (At (cell i)) (keptOn cat cs ls (reverse (ancestors lev i)) Nothing)) (implied-own cat list (listRead cat list .arguments) cs i (g .catalogue) t (g .known) (level-some i h) z)
+        ∙ ap (pick leftOut (At (cell i))) (sym (a .kept))
+
+    pub reached-implied : l ≤ long → leftOut ≡ true → record { long = long; kept = At (cell i) } ≡ reached cat cs ls i
+    reached-implied x n = together (At (cell i)) (sym (own-kept x ∙ ap (λ (b : Bool). pick b (At (cell i)) (r .kept)) n))
+
+    pub reached-named : l ≤ long → leftOut ≡ false → record { long = long; kept = r .kept } ≡ reached cat cs ls i
+    reached-named x n = together (r .kept) (sym (own-kept x ∙ ap (λ (b : Bool). pick b (At (cell i)) (r .kept)) n))
+
+  -- the path above a cell: none, or the path to its parent
+  module _ (i : ℕ) (h : i < count tab) where
+    pub above-root : Nothing ≡ parentAt cat cs i → Above cat cs ls i (record { long = 0; kept = Nothing })
+    above-root e =
+        let f = parent-none cat cs i e in
+        record { long = carried-root cat cs ls (count tab) steps i h f; kept = sym (ap (λ (p : List ℕ). keptOn cat cs ls (reverse p) Nothing) f ∙ kept-none cat cs ls Nothing) }
+
+    pub above-parent : (p : CellNumber) (r : Reached) → At p ≡ parentAt cat cs i → r ≡ reached cat cs ls (p .0) → Above cat cs ls i r
+    unfolding reached pathTo rowAt
+    above-parent p r e f =
+        let y = parent-some cat cs i p e .1 in
+        rw f (record { long = carried-parent cat cs ls (count tab) steps i (p .0) h y; kept = sym (ap (λ (q : List ℕ). keptOn cat cs ls (reverse q) Nothing) y) })
+
+  -- the pass forward: what is carried, and what a turn finds
+  pub carried-cell : (i k : ℕ) → i < count tab → k ≡ stretchBefore cat cs ls i → Carried cat cs ls i k
+  carried-cell i k h e = rw e (carried-before cat cs ls (count tab) steps i h)
+
+  pub before-next : (i long : ℕ) → long ≡ stretch cat cs ls i → long ≡ stretchBefore cat cs ls (i + 1)
+  before-next i long e = rw add-one e
+
+  pub before-first : (i : ℕ) → i ≡ 0 → 0 ≡ stretchBefore cat cs ls i
+  before-first i e = rw e
+
+  pub before-cell : (i : ℕ) (r : Reached) → (i ≡ 0 → ⊥) → r ≡ reached cat cs ls (i - 1) → r .long ≡ stretchBefore cat cs ls i
+  unfolding reached
+  before-cell zero r n e = absurd (n refl)
+  before-cell (suc i) r n e = let z : suc i - 1 ≡ i = omega arith in ap (λ (x : Reached). x .long) e ∙ ap (stretch cat cs ls) z
+
+  module _ (i l long last to : ℕ) (h : i < to) (w : to ≤ count tab) (s : 0 < t .0) (e : l ≡ lev i) (f : long ≡ stretch cat cs ls i) (z : last ≡ level cat t) where
+    pub turn-found : l ≡ last → long ≡ last → At (cell i) ≡ firstMatch cat cs ls i to
+    turn-found a b =
+        first-here cat cs ls i to h (match-yes cat cs ls (count tab) steps i (omega arith) (some-level s) (omega (arith, last-level)) (omega (arith, last-level)))
+
+    pub turn-next : (l ≡ last → long ≡ last → ⊥) → firstMatch cat cs ls (i + 1) to ≡ firstMatch cat cs ls i to
+    turn-next n =
+        first-next cat cs ls i to h (match-not cat cs ls (count tab) steps i (omega arith) (some-level s) (λ a b. n (omega (arith, last-level)) (omega (arith, last-level))))
+
+  -- where nothing is carried, a cell of another type than the root's is passed over
+  pub root-next : (i k to : ℕ) (u : TypeCode) → i < to → to ≤ count tab → 0 < t .0 → k ≡ 0 → k ≡ stretchBefore cat cs ls i → u ≡ segment cs i .code → (u .0 ≡ 1 → ⊥)
+      → (k ≡ stretchBefore cat cs ls (i + 1)) × (firstMatch cat cs ls (i + 1) to ≡ firstMatch cat cs ls i to)
+  root-next i k to u h w s z b e n =
+      let f : 0 ≡ stretch cat cs ls i = stretch-none i k u (omega arith) (carried-cell i k (omega arith) b) z e n in
+      (before-next i k (z ∙ f), turn-next i (lev i) 0 (level cat t) to h w s refl f refl (λ a y. omega (arith, some-level s, last-level)))
+
+  roots-past : (n i k to : ℕ) → i + n ≤ to → to ≤ count tab → 0 < t .0 → k ≡ 0 → k ≡ stretchBefore cat cs ls i → ((j : ℕ) → i ≤ j → j < i + n → segment cs j .code .0 ≡ 1 → ⊥)
+      → (k ≡ stretchBefore cat cs ls (i + n)) × (firstMatch cat cs ls (i + n) to ≡ firstMatch cat cs ls i to)
+  roots-past zero i k to h w s z b n = let e : i + 0 ≡ i = omega arith in rw e (b, refl)
+  roots-past (suc m) i k to h w s z b n =
+      let e : i + suc m ≡ i + 1 + m = omega arith in
+      let f = root-next i k to (segment cs i .code) (omega arith) w s z b refl (n i (omega arith) (omega arith)) in
+      let g = roots-past m (i + 1) k to (omega arith) w s z (f .0) (λ j a c. n j (omega arith) (omega arith)) in
+      rw e (g .0, g .1 ∙ f .1)
+
+  pub root-past : (i k to r : ℕ) → to ≤ count tab → 0 < t .0 → k ≡ 0 → k ≡ stretchBefore cat cs ls i → NextRoot cs i to r
+      → (i ≤ r) × (r ≤ to) × (k ≡ stretchBefore cat cs ls r) × (firstMatch cat cs ls r to ≡ firstMatch cat cs ls i to)
+  root-past i k to r w s z b n =
+      let e : i + (r - i) ≡ r = omega (arith, n .least) in
+      let g = rw e at (roots-past (r - i) i k to (omega (arith, n .most)) w s z b (λ j a c. n .others j a (omega arith))) in
+      (n .least, n .most, g .0, g .1)
+
+  -- LAW: the stretch of a cell, from the stretch of the cell before it
+  pub stretch-next : (i : ℕ) → suc i < count tab
+      → stretch cat cs ls (suc i) ≡ pick (leb (lev (suc i) - 1) (stretch cat cs ls i)) (pick (agreesAlone cat list t (segment cs (suc i))) (lev (suc i)) (lev (suc i) - 1)) (stretch cat cs ls i)
+  stretch-next i h =
+      let k = stretch cat cs ls i in
+      let c = carried-before cat cs ls (count tab) steps (suc i) h in
+      elim (side k (lev (suc i) - 1)) [
+        | inside l ↦ rw (lt-leb (lev (suc i) - 1) k l) (sym (stretch-short (suc i) k (lev (suc i)) h refl c l))
+        | outside l ↦ rw (le-leb (lev (suc i) - 1) k l) (elim (is (agreesAlone cat list t (segment cs (suc i)))) [
+          | on a ↦ rw a (sym (stretch-on (suc i) k (lev (suc i)) h refl c l a))
+          | off a ↦ rw a (sym (stretch-off (suc i) k (lev (suc i)) h refl c l a))
+        ])
+      ]
+
+  -- LAW: and whether it matches, from that number
+  pub match-stretch : (i : ℕ) → i < count tab → 0 < t .0 → matches cat cs ls i ≡ (eqb (lev i) (length ls) && eqb (stretch cat cs ls i) (length ls))
+  match-stretch i h s = elim (is (eqb (lev i) (length ls))) [
+    | on a ↦ rw a (elim (is (eqb (stretch cat cs ls i) (length ls))) [
+      | on b ↦ rw b (match-yes cat cs ls (count tab) steps i h (some-level s) (eqb-true (lev i) (length ls) a) (eqb-true (stretch cat cs ls i) (length ls) b))
+      | off b ↦ rw b (match-not cat cs ls (count tab) steps i h (some-level s) (λ x y. eqb-false (stretch cat cs ls i) (length ls) b y))
+    ])
+    | off a ↦ rw a (match-not cat cs ls (count tab) steps i h (some-level s) (λ x y. eqb-false (lev i) (length ls) a x))
+  ]
+
+  -- "The empty list matches every segment."
+  pub all-match : (i to : ℕ) → t .0 ≡ 0 → i < to → At (cell i) ≡ firstMatch cat cs ls i to
+  all-match i to e h = first-here cat cs ls i to h (none ls (no-level e))
+    where
+      none : (ms : List Level) → length ms ≡ 0 → matches cat cs ms i ≡ true
+      none [] e = every-match cat cs i
+      none (m ∷ ms) e = absurd (omega arith)
+
+  path-row : (i : ℕ) → keptOn cat cs ls (reverse (i ∷ ancestors lev i)) Nothing ≡ keptOn cat cs ls (pathTo cat cs i) Nothing
+  unfolding pathTo rowAt
+  path-row i = refl
+
+  -- what is kept agrees as a whole
+  abbrev Whole : CellNumber → Type 0
+  Whole c = (c .0 < count tab) × (stretch cat cs ls (c .0) ≡ lev (c .0))
+
+  kept-above : (i : ℕ) (c : CellNumber) → ((p : ℕ) → p < i → At c ≡ keptOn cat cs ls (pathTo cat cs p) Nothing → Whole c)
+      → At c ≡ keptOn cat cs ls (reverse (ancestors lev i)) Nothing → Whole c
+  kept-above i c rec e = elim (back-parts lev (lev i) i) [
+    | inl f ↦ absurd (let y : At c ≡ Nothing = e ∙ ap (λ (p : List ℕ). keptOn cat cs ls (reverse p) Nothing) f ∙ kept-none cat cs ls Nothing in let z : _≡_ {A = ℕ} 0 1 = cc in omega arith)
+    | inr r ↦ rec (r .0) (r .1) (e ∙ ap (λ (p : List ℕ). keptOn cat cs ls (reverse p) Nothing) (r .3) ∙ path-row (r .0))
+  ]
+
+  kept-whole : (n i : ℕ) (c : CellNumber) → i < n → i < count tab → At c ≡ keptOn cat cs ls (pathTo cat cs i) Nothing → Whole c
+  kept-whole zero i c l h e = absurd (omega arith)
+  kept-whole (suc n) i c l h e =
+      let rec : (p : ℕ) → p < i → At c ≡ keptOn cat cs ls (pathTo cat cs p) Nothing → Whole c = (λ p x y. kept-whole n p c (omega arith) (omega arith) y) in
+      elim (side (stretch cat cs ls i) (lev i)) [
+        | inside x ↦ kept-above i c rec (e ∙ kept-short cat cs ls (count tab) steps i h x)
+        | outside x ↦
+            let f : stretch cat cs ls i ≡ lev i = omega (arith, stretch-le cat cs ls (count tab) steps i h) in
+            let k : At c ≡ pick (headImplied cat cs (drop (lev i - 1) ls)) (At (cell i)) (keptOn cat cs ls (reverse (ancestors lev i)) Nothing) = e ∙ kept-full cat cs ls (count tab) steps i h f in
+            elim (is (headImplied cat cs (drop (lev i - 1) ls))) [
+              | on b ↦
+                  let y : At c ≡ At (cell i) = rw b at k in
+                  let z : c ≡ cell i = cc in
+                  rw z (h, f)
+              | off b ↦ kept-above i c rec (rw b at k)
+            ]
+      ]
+
+  pub on-cell : (q : Place) (c : CellNumber) → goodPlace cat cs q ≡ true → q ≡ On c → c .0 < count tab
+  on-cell q c e f = let h : goodPlace cat cs (On c) ≡ true = rw f at e in omega (arith, ltb-true (c .0) (length cs) h, listing-length cat tab)
+
+  pub kept-path : (q : Place) (c : CellNumber) (r : Reached) → q ≡ On c → r ≡ reached cat cs ls (c .0) → r .kept ≡ kept cat cs ls q
+  unfolding reached
+  kept-path q c r f e = ap (λ (x : Reached). x .kept) e ∙ sym (ap (kept cat cs ls) f)
+
+  pub kept-place : (q : Place) (c : CellNumber) → goodPlace cat cs q ≡ true → At c ≡ kept cat cs ls q → Whole c
+  kept-place (On d) c e f = kept-whole (suc (d .0)) (d .0) c (omega arith) (omega (arith, ltb-true (d .0) (length cs) e, listing-length cat tab)) f
+  kept-place (Before d) c e f = absurd (let z : _≡_ {A = ℕ} 0 1 = cc in omega arith)
+
+  -- so there is a list
+  pub kept-list : (c : CellNumber) → Whole c → 0 < t .0
+  kept-list c w = elim (side 0 (t .0)) [
+    | inside l ↦ l
+    | outside l ↦ absurd (omega (arith, no-level (omega arith), stretch-within cat cs ls (count tab) steps (c .0), w .1, level-some (c .0) (w .0)))
+  ]
+
+  pub kept-before : (c : CellNumber) (l : ℕ) → Whole c → l ≡ lev (c .0) → l ≡ stretchBefore cat cs ls (c .0 + 1)
+  kept-before c l w e = before-next (c .0) l (e ∙ sym (w .1))
+
+  pub end-in : (i : ℕ) → i < count tab → endAt cat cs i ≤ count tab
+  end-in i h = omega (arith, end-within cat cs i (omega (arith, listing-length cat tab)), listing-length cat tab)
+
+  -- along the position, by what was kept
+  module _ (q : Place) where
+    pub along-none : (n : ℕ) → n ≡ count tab → Nothing ≡ kept cat cs ls q → firstMatch cat cs ls 0 n ≡ along cat cs ls q
+    unfolding along
+    along-none n z e = ap (firstMatch cat cs ls 0) (z ∙ sym (listing-length cat tab)) ∙ ap (soughtBeneath cat cs ls) e
+
+    module _ (c : CellNumber) (l : ℕ) (e : At c ≡ kept cat cs ls q) (f : l ≡ lev (c .0)) where
+      pub along-here : l ≡ level cat t → At c ≡ along cat cs ls q
+      unfolding along
+      along-here z = sym (ap (λ (b : Bool). pick b (At c) (firstMatch cat cs ls (suc (c .0)) (endAt cat cs (c .0)))) (eq-eqb (lev (c .0)) (length ls) (omega (arith, last-level)))) ∙ ap (soughtBeneath cat cs ls) e
+
+      pub along-beneath : (end : ℕ) → (l ≡ level cat t → ⊥) → end ≡ endAt cat cs (c .0) → firstMatch cat cs ls (c .0 + 1) end ≡ along cat cs ls q
+      unfolding along
+      along-beneath end n z =
+          rw (add-one, z) (sym (ap (λ (b : Bool). pick b (At c) (firstMatch cat cs ls (suc (c .0)) (endAt cat cs (c .0)))) (ne-eqb (lev (c .0)) (length ls) (λ y. n (omega (arith, last-level)))))) ∙ ap (soughtBeneath cat cs ls) e
+
+-- no cell from `from` on and before i is a root, one cell after the other
+abbrev pub NoRoot : List Segment → ℕ → ℕ → Type 0
+NoRoot cs from i = (j : ℕ) → from ≤ j → j < i → segment cs j .code .0 ≡ 1 → ⊥
+
+pub no-root-next : (cs : List Segment) (from i : ℕ) (u : TypeCode) → u ≡ segment cs i .code → (u .0 ≡ 1 → ⊥) → NoRoot cs from i → NoRoot cs from (i + 1)
+no-root-next cs from i u e n h j a b z = elim (side j i) [
+  | inside l ↦ h j a l z
+  | outside l ↦ (let q : i ≡ j = omega arith in n (ap (λ (x : TypeCode). x .0) e ∙ ap (λ (x : ℕ). segment cs x .code .0) q ∙ z))
+]
+
+-- what `known` asks: of the last argument's type, and of its parent
+module _ (cat list : Bytes) (s : SoundList cat list) where
+  abbrev last : TypeCode
+  last = lastArgument (listRead cat list .arguments) .code
+
+  last-type : 0 < length list → isType cat last ≡ true
+  last-type h = last-asks cat list s h .type
+
+  pub known-last : last .0 ≤ types cat
+  known-last = elim (side 0 (length list)) [
+    | inside h ↦ type-last cat last (last-type h)
+    | outside h ↦ (let z : last .0 ≡ 0 = ap (λ (l : ListRead). lastArgument (l .arguments) .code .0) (list-empty cat list (omega arith)) in omega arith)
+  ]
+
+  pub known-parent : 0 < length list → parentOf cat last .0 ≤ types cat
+  known-parent h = omega (arith, Types.lower-at (par cat) (types cat) (last .0) (good-lower cat (s .catalogue)) (type-first cat last (last-type h)) (type-last cat last (last-type h)), type-last cat last (last-type h))

@@ -1,1 +1,0 @@
--- Nothing beyond what `terms` says of a status.

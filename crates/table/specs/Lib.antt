@@ -1,1 +1,0 @@
--- Nothing beyond what `rules` and `room` say of a table.

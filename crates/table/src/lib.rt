@@ -1,2 +1,0 @@
-// "The table": its check.
-pub mod check;
