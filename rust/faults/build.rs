@@ -26,7 +26,7 @@ const MODULES: [&str; 10] = [
 ];
 
 fn main() {
-    let sources = Path::new("../model/src");
+    let sources = Path::new("../judge/src");
     println!("cargo:rerun-if-changed={}", sources.display());
     println!("cargo:rerun-if-changed=src/changes.rs");
     println!("cargo:rerun-if-changed=build.rs");
@@ -44,7 +44,7 @@ fn main() {
     writeln!(
         all,
         "/// The faulty copies, in the order of the changes.\n\
-         pub const FAULTY: [compare::Functions; {}] = [{stores}];",
+         pub const FAULTY: [face::Functions; {}] = [{stores}];",
         CHANGES.len()
     )
     .expect("a string takes all");
@@ -66,7 +66,7 @@ fn flat(text: &str) -> String {
         .join(" ")
 }
 
-/// A module with the judge's sources in it, changed in one place, and a store made of its functions.
+/// A module with the judge's sources in it, changed in one place, and a table of its functions.
 fn copy(module: &str, texts: &[String], change: Option<&Change>) -> String {
     let mut texts = texts.to_vec();
     if let Some(change) = change {
@@ -84,20 +84,14 @@ fn copy(module: &str, texts: &[String], change: Option<&Change>) -> String {
         let module = if copied.contains(name) {
             format!("pub mod {name} {{\n{text}\n}}\n")
         } else {
-            format!("pub use model::{name};\n")
+            format!("pub use judge::{name};\n")
         };
         whole = whole.replace(&declared, &module);
     }
     let name = change.map_or("the faultless copy", |change| change.name);
     format!(
         "#[allow(warnings, clippy::all)]\nmod {module} {{\n{whole}\n\
-         fn report_either_way(way: model::Way, catalogue: &[u8], table: &[u8], list1: &[u8], list2: &[u8], \
-         out: &mut [u8]) -> u64 {{ let way = match way {{ model::Way::Nested => Way::Nested, \
-         model::Way::Joined => Way::Joined, model::Way::Plain => Way::Plain }}; \
-         lent::report(way, catalogue, table, list1, list2, out) }}\n\
-         pub const STORE: compare::Functions = compare::Functions {{ name: {name:?}, \
-         catalogue_check: lent::catalogue_check, table_check: lent::table_check, \
-         table_make: lent::table_make, call: lent::call, report: report_either_way }};\n}}\n"
+         pub const STORE: face::Functions = face::functions!({name:?}, lent);\n}}\n"
     )
 }
 

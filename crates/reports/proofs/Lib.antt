@@ -1,6 +1,6 @@
 pub mod Steps
 pub mod Written
-pub mod Way
+pub mod OneList
 pub mod Tested
 pub mod Outer
 pub mod Buffer

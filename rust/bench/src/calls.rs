@@ -4,48 +4,15 @@ use crate::sample::{
     serial, Sample, Segment, CELL, LENGTH, STATE, STEP, STEP_KEY, TRY, UNIT, UNIT_KEY, VERDICT,
 };
 use crate::work::{Contender, Done, Operation, CHECKED_CALLS};
-use face::{Way, FRESH, POSITION_SIZE};
+use face::number::{DLET, GHU, GN, GU, ISRT};
+use face::status::GB;
+use face::{Functions, Report, FRESH, POSITION_SIZE};
 use std::hint::black_box;
 
-const GU: u8 = 1;
-const GN: u8 = 2;
-const GHU: u8 = 4;
-const ISRT: u8 = 7;
-const DLET: u8 = 9;
-
-const GB: u8 = 10;
-
-/// The functions of the C face that are measured.
-pub trait Face {
-    const NAME: &'static str;
-
-    fn call(
-        catalogue: &[u8],
-        table: &mut [u8],
-        position: &mut [u8],
-        number: u8,
-        list: &[u8],
-        area: &mut [u8],
-    ) -> u64;
-
-    /// For blocks and a position that calls have accepted.
-    fn call_sound(
-        catalogue: &[u8],
-        table: &mut [u8],
-        position: &mut [u8],
-        number: u8,
-        list: &[u8],
-        area: &mut [u8],
-    ) -> u64;
-
-    fn report(
-        way: Way,
-        catalogue: &[u8],
-        table: &[u8],
-        list1: &[u8],
-        list2: &[u8],
-        out: &mut [u8],
-    ) -> u64;
+/// Whose functions are measured. They are known when this is compiled, so that no call goes through a pointer and
+/// hand-written Rust can be inlined.
+pub trait Measured {
+    const FUNCTIONS: Functions;
 }
 
 /// A table under calls.
@@ -54,30 +21,28 @@ pub struct Session<'s, F> {
     table: Vec<u8>,
     newcomer: Segment,
     out: Vec<u8>,
-    face: std::marker::PhantomData<F>,
+    measured: std::marker::PhantomData<F>,
 }
 
-impl<'s, F: Face> Session<'s, F> {
+impl<'s, F: Measured> Session<'s, F> {
     pub fn new(sample: &'s Sample) -> Session<'s, F> {
-        assert_eq!(face::table_check(&sample.catalogue, &sample.table), 0);
+        assert_eq!(linked::table_check(&sample.catalogue, &sample.table), 0);
         Session {
             sample,
             table: sample.table.clone(),
             newcomer: sample.newcomer(),
             out: vec![0; 2 * sample.segments.len()],
-            face: std::marker::PhantomData,
+            measured: std::marker::PhantomData,
         }
     }
 
     fn sound(&mut self, position: &mut [u8], number: u8, list: &[u8], area: &mut [u8]) -> u64 {
-        F::call_sound(
-            &self.sample.catalogue,
-            &mut self.table,
-            position,
-            number,
-            list,
-            area,
-        )
+        let catalogue = &self.sample.catalogue;
+        // SAFETY: the table was checked when the session began. Each position starts fresh, and only calls have changed
+        // it since, but for a hold that is set on the cell that it is on.
+        unsafe {
+            (F::FUNCTIONS.call_sound)(catalogue, &mut self.table, position, number, list, area)
+        }
     }
 
     fn listing(&mut self) -> Done {
@@ -96,7 +61,7 @@ impl<'s, F: Face> Session<'s, F> {
         let mut area = [0; LENGTH];
         let mut sum = 0;
         for _ in 0..CHECKED_CALLS {
-            F::call(
+            (F::FUNCTIONS.call)(
                 &self.sample.catalogue,
                 &mut self.table,
                 &mut position,
@@ -152,9 +117,8 @@ impl<'s, F: Face> Session<'s, F> {
         }
     }
 
-    fn report(&mut self, way: Way) -> Done {
-        let packed = F::report(
-            way,
+    fn report(&mut self, report: Report) -> Done {
+        let packed = report(
             &self.sample.catalogue,
             &self.table,
             black_box(&[UNIT, 1, STATE, b'A']),
@@ -177,17 +141,17 @@ fn by_keys(unit: [u8; 2], step: [u8; 2]) -> [u8; 10] {
     [UNIT, 1, UNIT_KEY, u1, u2, STEP, 1, STEP_KEY, s1, s2]
 }
 
-impl<F: Face> Contender for Session<'_, F> {
+impl<F: Measured> Contender for Session<'_, F> {
     fn name(&self) -> &'static str {
-        F::NAME
+        F::FUNCTIONS.name
     }
 
     fn run(&mut self, operation: Operation) -> Option<Done> {
         Some(match operation {
             Operation::Listing => self.listing(),
-            Operation::Nested => self.report(Way::Nested),
-            Operation::Joined => self.report(Way::Joined),
-            Operation::Plain => self.report(Way::Plain),
+            Operation::Nested => self.report(F::FUNCTIONS.report_nested),
+            Operation::Joined => self.report(F::FUNCTIONS.report_joined),
+            Operation::Plain => self.report(F::FUNCTIONS.report_plain),
             Operation::Unique => self.unique(),
             Operation::InsertDelete => self.insert_delete(false),
             Operation::InsertGetDelete => self.insert_delete(true),
@@ -203,43 +167,8 @@ impl<F: Face> Contender for Session<'_, F> {
 /// The proved store.
 pub struct Proved;
 
-impl Face for Proved {
-    const NAME: &'static str = "store";
-
-    fn call(
-        catalogue: &[u8],
-        table: &mut [u8],
-        position: &mut [u8],
-        number: u8,
-        list: &[u8],
-        area: &mut [u8],
-    ) -> u64 {
-        face::call(catalogue, table, position, number, list, area)
-    }
-
-    fn call_sound(
-        catalogue: &[u8],
-        table: &mut [u8],
-        position: &mut [u8],
-        number: u8,
-        list: &[u8],
-        area: &mut [u8],
-    ) -> u64 {
-        // SAFETY: a session checks its table when it begins, starts from fresh positions and sets at most a
-        // hold on the cell that the position is on.
-        unsafe { face::call_sound(catalogue, table, position, number, list, area) }
-    }
-
-    fn report(
-        way: Way,
-        catalogue: &[u8],
-        table: &[u8],
-        list1: &[u8],
-        list2: &[u8],
-        out: &mut [u8],
-    ) -> u64 {
-        face::report(way, catalogue, table, list1, list2, out)
-    }
+impl Measured for Proved {
+    const FUNCTIONS: Functions = linked::STORE;
 }
 
 /// Moves the bytes behind the newcomer's place up by a cell and down again: the floor of an insert and a delete.

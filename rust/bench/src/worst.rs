@@ -1,7 +1,8 @@
 //! The tables on which the stack could go deepest, and how deep it goes.
 
 use crate::stack::depth;
-use face::Way;
+use face::number::{DLET, GU};
+use face::{status, Report, SoundCall};
 
 /// A full table but for one cell.
 struct Worst {
@@ -34,34 +35,38 @@ pub fn depths() -> Vec<Depth> {
     vec![
         of("umbristal_catalogue_check", &|worst| {
             depth(&mut || {
-                face::catalogue_check(&worst.catalogue);
+                linked::catalogue_check(&worst.catalogue);
             })
         }),
         of("umbristal_table_check", &|worst| {
             depth(&mut || {
-                face::table_check(&worst.catalogue, &worst.table);
+                linked::table_check(&worst.catalogue, &worst.table);
             })
         }),
         of("umbristal_table_make", &|worst| {
             let mut table = worst.table.clone();
             depth(&mut || {
-                face::table_make(&worst.catalogue, &mut table);
+                linked::table_make(&worst.catalogue, &mut table);
             })
         }),
-        of("umbristal_call", &|worst| deepest_call(worst, false)),
-        of("umbristal_call_sound", &|worst| deepest_call(worst, true)),
+        of("umbristal_call", &|worst| deepest_call(worst, linked::call)),
+        of("umbristal_call_sound", &|worst| {
+            deepest_call(worst, linked::call_sound)
+        }),
         of("umbristal_report_nested", &|worst| {
-            report(worst, Way::Nested)
+            deepest_report(worst, linked::report_nested)
         }),
         of("umbristal_report_joined", &|worst| {
-            report(worst, Way::Joined)
+            deepest_report(worst, linked::report_joined)
         }),
-        of("umbristal_report_plain", &|worst| report(worst, Way::Plain)),
+        of("umbristal_report_plain", &|worst| {
+            deepest_report(worst, linked::report_plain)
+        }),
     ]
 }
 
 /// The deepest of the nine calls, from the start, from the first cell and from the last, with every list.
-fn deepest_call(worst: &Worst, sound: bool) -> Option<usize> {
+fn deepest_call(worst: &Worst, call: SoundCall) -> Option<usize> {
     let [high, low] = (FILLED as u16 - 1).to_be_bytes();
     let positions = [
         face::FRESH,
@@ -69,10 +74,10 @@ fn deepest_call(worst: &Worst, sound: bool) -> Option<usize> {
         [1, high, low, 1, high, low, 1, 0],
     ];
     let mut deepest = 0;
-    for number in 1..=9 {
+    for number in GU..=DLET {
         for position in positions {
             for list in &worst.lists {
-                deepest = deepest.max(one_call(worst, sound, number, position, list)?);
+                deepest = deepest.max(one_call(worst, call, number, position, list)?);
             }
         }
     }
@@ -81,7 +86,7 @@ fn deepest_call(worst: &Worst, sound: bool) -> Option<usize> {
 
 fn one_call(
     worst: &Worst,
-    sound: bool,
+    call: SoundCall,
     number: u8,
     mut position: [u8; 8],
     list: &[u8],
@@ -89,39 +94,20 @@ fn one_call(
     let mut table = worst.table.clone();
     let mut area = worst.area.clone();
     depth(&mut || {
-        let catalogue = &worst.catalogue;
+        let (table, area) = (&mut table, &mut area);
         // SAFETY: the table is sound, which `worst` asserts, and all three positions are good on it.
-        let result = match sound {
-            true => unsafe {
-                face::call_sound(
-                    catalogue,
-                    &mut table,
-                    &mut position,
-                    number,
-                    list,
-                    &mut area,
-                )
-            },
-            false => face::call(
-                catalogue,
-                &mut table,
-                &mut position,
-                number,
-                list,
-                &mut area,
-            ),
-        };
-        assert!(!(20..23).contains(&(result as u8)));
+        let result = unsafe { call(&worst.catalogue, table, &mut position, number, list, area) };
+        assert!(!(status::CX..=status::PX).contains(&(result as u8)));
     })
 }
 
 /// The first type above, each list but the empty one below.
-fn report(worst: &Worst, way: Way) -> Option<usize> {
+fn deepest_report(worst: &Worst, report: Report) -> Option<usize> {
     let mut out = vec![0; 2 * CELLS];
     let mut deepest = 0;
     for list in &worst.lists[1..] {
         let bytes = depth(&mut || {
-            face::report(way, &worst.catalogue, &worst.table, &[1, 0], list, &mut out);
+            report(&worst.catalogue, &worst.table, &[1, 0], list, &mut out);
         })?;
         deepest = deepest.max(bytes);
     }
@@ -174,7 +160,7 @@ fn worst(
         table.extend(data.to_be_bytes());
     }
     table.resize(8 + 3 * CELLS, 0);
-    assert_eq!(face::table_check(&catalogue, &table), 0, "{name}");
+    assert_eq!(linked::table_check(&catalogue, &table), 0, "{name}");
     let [high, low] = (FILLED as u16 - 1).to_be_bytes();
     Worst {
         catalogue,

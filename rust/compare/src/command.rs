@@ -2,8 +2,8 @@
 
 use crate::comparison::{Comparison, Difference};
 use crate::dice::Dice;
-use crate::store::Store;
 use crate::tally::Tally;
+use face::Functions;
 use std::process::ExitCode;
 use std::time::{Instant, SystemTime, UNIX_EPOCH};
 
@@ -37,12 +37,12 @@ fn read_options(mut words: impl Iterator<Item = String>) -> Option<Options> {
 }
 
 /// Runs what the words ask for; fails on a difference.
-pub fn main(judge: &dyn Store, store: &dyn Store, words: impl Iterator<Item = String>) -> ExitCode {
+pub fn main(judge: &Functions, store: &Functions, words: impl Iterator<Item = String>) -> ExitCode {
     let Some(options) = read_options(words) else {
         eprintln!("{USAGE}");
         return ExitCode::from(2);
     };
-    println!("{} is compared with {}", store.name(), judge.name());
+    println!("{} is compared with {}", store.name, judge.name);
     let compared = match (options.soak, options.case) {
         (true, _) => soak(judge, store, &options),
         (_, Some(case)) => one_case(judge, store, &options, case),
@@ -58,8 +58,8 @@ pub fn main(judge: &dyn Store, store: &dyn Store, words: impl Iterator<Item = St
 }
 
 fn timed(
-    judge: &dyn Store,
-    store: &dyn Store,
+    judge: &Functions,
+    store: &Functions,
     seed: u64,
     calls: u64,
 ) -> Result<Tally, Box<Difference>> {
@@ -73,8 +73,8 @@ fn timed(
 }
 
 fn one_case(
-    judge: &dyn Store,
-    store: &dyn Store,
+    judge: &Functions,
+    store: &Functions,
     options: &Options,
     case: u64,
 ) -> Result<(), Box<Difference>> {
@@ -85,7 +85,7 @@ fn one_case(
 }
 
 /// Fresh seeds until stopped; the first is taken from the clock unless it is given.
-fn soak(judge: &dyn Store, store: &dyn Store, options: &Options) -> Result<(), Box<Difference>> {
+fn soak(judge: &Functions, store: &Functions, options: &Options) -> Result<(), Box<Difference>> {
     let clock = SystemTime::now().duration_since(UNIX_EPOCH);
     let first = options
         .seed

@@ -1,9 +1,9 @@
 //! The comparison: the same bytes to both stores, and everything they leave behind side by side.
 
 use crate::dice::Dice;
-use crate::store::{Store, Way};
 use crate::tally::{Row, Tally};
-use model::Status;
+use face::{Functions, Report};
+use judge::{Status, Way};
 use std::fmt;
 
 /// What a call is lent.
@@ -93,8 +93,8 @@ impl Margined {
 
 /// Two stores, and how far their comparison has come.
 pub struct Comparison<'s> {
-    judge: &'s dyn Store,
-    store: &'s dyn Store,
+    judge: &'s Functions,
+    store: &'s Functions,
     seed: u64,
     case: u64,
     step: u64,
@@ -104,7 +104,7 @@ pub struct Comparison<'s> {
 type Compared<T> = Result<T, Box<Difference>>;
 
 impl<'s> Comparison<'s> {
-    pub fn new(judge: &'s dyn Store, store: &'s dyn Store, seed: u64) -> Comparison<'s> {
+    pub fn new(judge: &'s Functions, store: &'s Functions, seed: u64) -> Comparison<'s> {
         Comparison {
             judge,
             store,
@@ -125,9 +125,9 @@ impl<'s> Comparison<'s> {
     /// One call to both; the sound call too, where the judge accepts blocks and position.
     pub fn call(&mut self, lent: Lent) -> Compared<Left> {
         self.step += 1;
-        let expected = lend_to(self.judge, Door::Checked, lent);
+        let expected = lend_to(self.judge.call, lent);
         self.tally.count(Row::Call(lent.number), expected.status());
-        let actual = lend_to(self.store, Door::Checked, lent);
+        let actual = lend_to(self.store.call, lent);
         if actual != expected {
             return Err(self.call_difference("call", lent, &expected, &actual));
         }
@@ -136,7 +136,11 @@ impl<'s> Comparison<'s> {
             .any(|status| status.number() == expected.status());
         if !refused {
             self.tally.sound += 1;
-            let sound = lend_to(self.store, Door::Sound, lent);
+            let sound = |cat: &_, tab: &mut _, pos: &mut _, number, list: &_, area: &mut _| {
+                // SAFETY: the judge has accepted blocks and position just now.
+                unsafe { (self.store.call_sound)(cat, tab, pos, number, list, area) }
+            };
+            let sound = lend_to(sound, lent);
             if sound != expected {
                 return Err(self.call_difference("sound call", lent, &expected, &sound));
             }
@@ -146,9 +150,9 @@ impl<'s> Comparison<'s> {
 
     pub fn catalogue_check(&mut self, catalogue: &[u8]) -> Compared<u8> {
         self.step += 1;
-        let expected = self.judge.catalogue_check(catalogue);
+        let expected = (self.judge.catalogue_check)(catalogue);
         self.tally.count(Row::CatalogueCheck, expected);
-        let actual = self.store.catalogue_check(catalogue);
+        let actual = (self.store.catalogue_check)(catalogue);
         if actual != expected {
             let inputs = [("catalogue", catalogue)];
             return Err(self.difference("catalogue check", &inputs, expected, actual));
@@ -158,9 +162,9 @@ impl<'s> Comparison<'s> {
 
     pub fn table_check(&mut self, catalogue: &[u8], table: &[u8]) -> Compared<u8> {
         self.step += 1;
-        let expected = self.judge.table_check(catalogue, table);
+        let expected = (self.judge.table_check)(catalogue, table);
         self.tally.count(Row::TableCheck, expected);
-        let actual = self.store.table_check(catalogue, table);
+        let actual = (self.store.table_check)(catalogue, table);
         if actual != expected {
             let inputs = [("catalogue", catalogue), ("table", table)];
             return Err(self.difference("table check", &inputs, expected, actual));
@@ -170,9 +174,9 @@ impl<'s> Comparison<'s> {
 
     pub fn table_make(&mut self, catalogue: &[u8], slice: &[u8]) -> Compared<Vec<u8>> {
         self.step += 1;
-        let make = |store: &dyn Store| {
+        let make = |store: &Functions| {
             let mut lent = Margined::new(slice);
-            let status = store.table_make(catalogue, lent.lend());
+            let status = (store.table_make)(catalogue, lent.lend());
             (status, lent.take())
         };
         let expected = make(self.judge);
@@ -197,9 +201,9 @@ impl<'s> Comparison<'s> {
         out: &[u8],
     ) -> Compared<u64> {
         self.step += 1;
-        let report = |store: &dyn Store, way: Way| {
+        let report = |store: &Functions, way: Way| {
             let mut lent = Margined::new(out);
-            let packed = store.report(way, catalogue, table, list1, list2, lent.lend());
+            let packed = report_of(store, way)(catalogue, table, list1, list2, lent.lend());
             (packed, lent.take())
         };
         let expected = report(self.judge, Way::Plain);
@@ -263,8 +267,8 @@ impl<'s> Comparison<'s> {
         for (name, bytes) in inputs {
             text += &format!("  lent {name}: {}\n", hex(bytes));
         }
-        text += &format!("  {}: {expected}\n", self.judge.name());
-        text += &format!("  {}: {actual}", self.store.name());
+        text += &format!("  {}: {expected}\n", self.judge.name);
+        text += &format!("  {}: {actual}", self.store.name);
         Box::new(Difference {
             seed: self.seed,
             case: self.case,
@@ -289,36 +293,30 @@ impl fmt::Display for Left {
     }
 }
 
-/// Which of the two calls is used.
-#[derive(Clone, Copy)]
-enum Door {
-    Checked,
-    Sound,
+fn report_of(store: &Functions, way: Way) -> Report {
+    match way {
+        Way::Nested => store.report_nested,
+        Way::Joined => store.report_joined,
+        Way::Plain => store.report_plain,
+    }
 }
 
-fn lend_to(store: &dyn Store, door: Door, lent: Lent) -> Left {
+/// What the call leaves behind of what it is lent.
+fn lend_to(
+    call: impl Fn(&[u8], &mut [u8], &mut [u8], u8, &[u8], &mut [u8]) -> u64,
+    lent: Lent,
+) -> Left {
     let mut table = Margined::new(lent.table);
     let mut position = Margined::new(lent.position);
     let mut area = Margined::new(lent.area);
-    let lends = (table.lend(), position.lend(), area.lend());
-    let packed = match door {
-        Door::Checked => store.call(
-            lent.catalogue,
-            lends.0,
-            lends.1,
-            lent.number,
-            lent.list,
-            lends.2,
-        ),
-        Door::Sound => store.call_sound(
-            lent.catalogue,
-            lends.0,
-            lends.1,
-            lent.number,
-            lent.list,
-            lends.2,
-        ),
-    };
+    let packed = call(
+        lent.catalogue,
+        table.lend(),
+        position.lend(),
+        lent.number,
+        lent.list,
+        area.lend(),
+    );
     Left {
         packed,
         position: position.take(),

@@ -2,17 +2,19 @@
 
 use crate::dice::Dice;
 use crate::table::Base;
-
-pub const INSERT: u8 = 7;
-pub const REPLACE: u8 = 8;
-pub const DELETE: u8 = 9;
+use face::number::{DLET, GU, ISRT, REPL};
 
 /// A call number: one of the nine, sometimes one that is none.
 pub fn number(dice: &mut Dice) -> u8 {
     match dice.below(25) {
         0 => *dice.pick(&[0, 10, 11, 12, 255]),
-        _ => dice.between(1, 9) as u8,
+        _ => between(dice, GU, DLET),
     }
+}
+
+/// One of the calls from this to that, both of them too.
+pub fn between(dice: &mut Dice, first: u8, last: u8) -> u8 {
+    dice.between(first.into(), last.into()) as u8
 }
 
 /// A position block, from its parts.
@@ -183,15 +185,15 @@ fn word(dice: &mut Dice, base: &Base, type_code: u8, data: Option<&[u8]>) -> Wor
 /// mostly empty.
 pub fn sound_list(dice: &mut Dice, base: &Base, number: u8) -> Vec<u8> {
     let empty = match number {
-        REPLACE | DELETE => 85,
-        INSERT => 3,
+        REPL | DLET => 85,
+        ISRT => 3,
         _ => 30,
     };
     if dice.percent(empty) {
         return Vec::new();
     }
     let mut words = words(dice, base);
-    if number == INSERT {
+    if number == ISRT {
         loosen_last(dice, base, &mut words);
     }
     list_of(&words)

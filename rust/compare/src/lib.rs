@@ -11,28 +11,21 @@ pub mod dice;
 pub mod drawing;
 pub mod plan;
 pub mod scenarios;
-pub mod store;
 pub mod table;
 pub mod tally;
 
 pub use comparison::{Comparison, Difference};
-pub use store::{Functions, Store};
 pub use tally::Tally;
 
-/// The judge itself, as a store.
-pub const MODEL: Functions = Functions {
-    name: "model",
-    catalogue_check: model::lent::catalogue_check,
-    table_check: model::lent::table_check,
-    table_make: model::lent::table_make,
-    call: model::lent::call,
-    report: model::lent::report,
-};
+use face::Functions;
+
+/// The table of functions, filled with the judge.
+pub const JUDGE: Functions = face::functions!("judge", judge::lent);
 
 /// Compares until that many calls were compared, or to the first difference.
 pub fn run(
-    judge: &dyn Store,
-    store: &dyn Store,
+    judge: &Functions,
+    store: &Functions,
     seed: u64,
     calls: u64,
 ) -> Result<Tally, Box<Difference>> {

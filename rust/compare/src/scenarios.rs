@@ -3,14 +3,13 @@
 use crate::comparison::{Comparison, Difference, Left, Lent};
 use crate::damage;
 use crate::dice::Dice;
-use crate::drawing::{self, Word, DELETE, INSERT, REPLACE};
+use crate::drawing::{self, Word};
 use crate::plan::Plan;
 use crate::table::{Base, Size};
+use face::number::{DLET, GHN, GHNP, GHU, GN, GNP, GU, ISRT, REPL};
+use face::status;
 
 type Played = Result<(), Box<Difference>>;
-
-const GET_NEXT: u8 = 2;
-const GET_HOLD_UNIQUE: u8 = 4;
 
 /// How often the long and the wide cases come, in cases.
 const LONG_EVERY: u64 = 150;
@@ -71,13 +70,13 @@ fn single(dice: &mut Dice, comparison: &mut Comparison, base: &Base) -> Played {
 /// Both checks, on blocks that were drawn to be sound.
 fn sound_blocks(comparison: &mut Comparison, base: &Base) -> Played {
     let catalogue = comparison.catalogue_check(&base.catalogue)?;
-    comparison.insist(catalogue == 0, "drawn catalogue is sound")?;
+    comparison.insist(catalogue == status::BLANK, "drawn catalogue is sound")?;
     sound_table(comparison, base)
 }
 
 fn sound_table(comparison: &mut Comparison, base: &Base) -> Played {
     let table = comparison.table_check(&base.catalogue, &base.table)?;
-    comparison.insist(table == 0, "table is sound")
+    comparison.insist(table == status::BLANK, "table is sound")
 }
 
 /// A base on which calls follow one another, the position carried on.
@@ -111,7 +110,7 @@ impl Session {
             area,
         })?;
         comparison.insist(
-            !(20..23).contains(&left.status()),
+            !(status::CX..=status::PX).contains(&left.status()),
             "what a call leaves is sound",
         )?;
         let changed = self.base.table != left.table;
@@ -156,23 +155,23 @@ impl Session {
         let held = drawing::placed_on(&self.position).filter(|_| drawing::is_held(&self.position));
         let number = match held {
             Some(_) => match dice.weighted(&[35, if crowded { 40 } else { 15 }, 35]) {
-                0 => REPLACE,
-                1 => DELETE,
-                _ => dice.between(1, 7) as u8,
+                0 => REPL,
+                1 => DLET,
+                _ => drawing::between(dice, GU, ISRT),
             },
             None => match dice.weighted(&[if crowded { 12 } else { 45 }, 35, 30]) {
-                0 => INSERT,
-                1 => dice.between(4, 6) as u8,
-                _ => dice.between(1, 3) as u8,
+                0 => ISRT,
+                1 => drawing::between(dice, GHU, GHNP),
+                _ => drawing::between(dice, GU, GNP),
             },
         };
         let list = match number {
-            REPLACE | DELETE => Vec::new(),
-            INSERT if count == 0 || dice.percent(15) => vec![1, 0],
+            REPL | DLET => Vec::new(),
+            ISRT if count == 0 || dice.percent(15) => vec![1, 0],
             _ => drawing::sound_list(dice, &self.base, number),
         };
         let area = match held {
-            Some(cell) if number == REPLACE => self.replacement(dice, cell),
+            Some(cell) if number == REPL => self.replacement(dice, cell),
             _ => self.area(dice),
         };
         self.call(comparison, number, &list, &area)?;
@@ -375,11 +374,11 @@ fn loops(dice: &mut Dice, comparison: &mut Comparison) -> Played {
     let mut session = Session::new(base);
     for _ in 0..4 {
         session.position = drawing::good_position(dice, &session.base);
-        let number = *dice.pick(&[2, 5, 3, 6]);
+        let number = *dice.pick(&[GN, GHN, GNP, GHNP]);
         let list = drawing::sound_list(dice, &session.base, number);
         let area = session.area(dice);
         let mut calls = 1;
-        while session.call(comparison, number, &list, &area)?.status() < 10 {
+        while session.call(comparison, number, &list, &area)?.status() < status::GB {
             comparison.insist(calls <= count, "get-next loop ends by call n + 1")?;
             calls += 1;
         }
@@ -399,7 +398,7 @@ fn run_also(dice: &mut Dice, comparison: &mut Comparison) -> Played {
 fn bench(comparison: &mut Comparison) -> Played {
     let mut session = Session::new(Base::bench());
     for _ in 0..12 {
-        session.call(comparison, GET_NEXT, &[], &[0; 3])?;
+        session.call(comparison, GN, &[], &[0; 3])?;
     }
     Ok(())
 }
@@ -408,21 +407,21 @@ fn no_cells(comparison: &mut Comparison) -> Played {
     let base = Base::bench();
     let table = comparison.table_make(&base.catalogue, &[7; 8])?;
     let mut session = Session::new(Base::new(base.plan, table, base.alphabet));
-    let refused = session.call(comparison, INSERT, &[1, 0], b"08C")?;
-    comparison.insist(refused.status() == 32, "no cell is free")
+    let refused = session.call(comparison, ISRT, &[1, 0], b"08C")?;
+    comparison.insist(refused.status() == status::FX, "no cell is free")
 }
 
 fn full_delete_insert(comparison: &mut Comparison) -> Played {
     let mut session = Session::new(Base::bench());
     for unit in [b"10A", b"11A", b"12A"] {
-        session.call(comparison, INSERT, &[1, 0], unit)?;
+        session.call(comparison, ISRT, &[1, 0], unit)?;
     }
     comparison.insist(session.base.count() == 12, "the table is full")?;
-    session.call(comparison, INSERT, &[1, 0], b"13A")?;
-    session.call(comparison, GET_HOLD_UNIQUE, b"\x01\x01\x0111", &[0; 3])?;
-    session.call(comparison, DELETE, &[], &[])?;
-    let done = session.call(comparison, INSERT, &[1, 0], b"13A")?;
-    comparison.insist(done.status() == 0, "the freed cell is used")
+    session.call(comparison, ISRT, &[1, 0], b"13A")?;
+    session.call(comparison, GHU, b"\x01\x01\x0111", &[0; 3])?;
+    session.call(comparison, DLET, &[], &[])?;
+    let done = session.call(comparison, ISRT, &[1, 0], b"13A")?;
+    comparison.insist(done.status() == status::BLANK, "the freed cell is used")
 }
 
 /// Level 15, filled from the top down, and level 16.
@@ -433,16 +432,16 @@ fn deepest(dice: &mut Dice, comparison: &mut Comparison) -> Played {
     let mut session = Session::new(Base::new(plan, table, vec![1, 2]));
     for level in 1..=15 {
         let area = session.area(dice);
-        session.call(comparison, INSERT, &[level, 0], &area)?;
+        session.call(comparison, ISRT, &[level, 0], &area)?;
     }
     comparison.insist(session.base.count() == 15, "fifteen levels")?;
     for _ in 0..16 {
         let area = session.area(dice);
-        session.call(comparison, GET_NEXT, &[], &area)?;
+        session.call(comparison, GN, &[], &area)?;
     }
     let deeper = Plan::chain(dice, 16).block();
     let refused = comparison.catalogue_check(&deeper)?;
-    comparison.insist(refused == 20, "level 16 is refused")
+    comparison.insist(refused == status::CX, "level 16 is refused")
 }
 
 /// M = 4,096 filled to the last cell, and M = 4,097.
@@ -464,14 +463,14 @@ fn most_cells(dice: &mut Dice, comparison: &mut Comparison) -> Played {
     let mut session = Session::new(full);
     for cell in [0, 1, 2047, 4094, 4095] {
         session.position = drawing::block(1, cell, Some(0), true);
-        session.call(comparison, GET_NEXT, &[], &[0; 3])?;
+        session.call(comparison, GN, &[], &[0; 3])?;
     }
-    session.call(comparison, INSERT, &[4, 0], b"n  ")?;
+    session.call(comparison, ISRT, &[4, 0], b"n  ")?;
     session.position = drawing::block(1, 2000, Some(0), true);
-    session.call(comparison, DELETE, &[], &[])?;
-    session.call(comparison, INSERT, &[4, 0], b"n  ")?;
+    session.call(comparison, DLET, &[], &[])?;
+    session.call(comparison, ISRT, &[4, 0], b"n  ")?;
     session.position = drawing::block(1, 0, Some(0), true);
-    session.call(comparison, DELETE, &[], &[])?;
+    session.call(comparison, DLET, &[], &[])?;
     comparison.insist(session.base.count() == 0, "the whole run is gone")?;
     for _ in 0..10 {
         session.step(dice, comparison)?;

@@ -1,28 +1,21 @@
 //! How often each call answered each status, so that one sees that everything is judged.
 
-use model::Status;
+use face::number;
+use judge::{Status, Way};
 use std::fmt;
 
-const NAMES: [&str; 16] = [
-    "other",
-    "GU",
-    "GN",
-    "GNP",
-    "GHU",
-    "GHN",
-    "GHNP",
-    "ISRT",
-    "REPL",
-    "DLET",
-    "catalogue",
-    "table",
-    "maker",
-    "nested",
-    "joined",
-    "plain",
-];
+/// What is counted besides the calls, in the order of the rows.
+const OTHERS: [&str; 6] = ["catalogue", "table", "maker", "nested", "joined", "plain"];
 
-const CALL_ROWS: usize = 10;
+/// A row for the numbers that are none, and one for each call.
+const CALL_ROWS: usize = 1 + number::ALL.len();
+
+const ROWS: usize = CALL_ROWS + OTHERS.len();
+
+fn names() -> impl Iterator<Item = &'static str> {
+    let calls = number::ALL.iter().map(|&(name, _)| name);
+    std::iter::once("other").chain(calls).chain(OTHERS)
+}
 
 /// Where something is counted.
 #[derive(Clone, Copy, PartialEq, Eq, Debug)]
@@ -31,20 +24,22 @@ pub enum Row {
     CatalogueCheck,
     TableCheck,
     Maker,
-    Report(model::Way),
+    Report(Way),
 }
 
 impl Row {
     fn index(self) -> usize {
         match self {
-            Row::Call(number) if (1..=9).contains(&number) => usize::from(number),
-            Row::Call(_) => 0,
-            Row::CatalogueCheck => 10,
-            Row::TableCheck => 11,
-            Row::Maker => 12,
-            Row::Report(model::Way::Nested) => 13,
-            Row::Report(model::Way::Joined) => 14,
-            Row::Report(model::Way::Plain) => 15,
+            Row::Call(number) => {
+                let is_it = |&(_, each): &(_, u8)| each == number;
+                number::ALL.iter().position(is_it).map_or(0, |row| 1 + row)
+            }
+            Row::CatalogueCheck => CALL_ROWS,
+            Row::TableCheck => CALL_ROWS + 1,
+            Row::Maker => CALL_ROWS + 2,
+            Row::Report(Way::Nested) => CALL_ROWS + 3,
+            Row::Report(Way::Joined) => CALL_ROWS + 4,
+            Row::Report(Way::Plain) => CALL_ROWS + 5,
         }
     }
 }
@@ -57,7 +52,7 @@ fn column(status: Status) -> usize {
 
 #[derive(Clone, Default)]
 pub struct Tally {
-    counts: [[u64; Status::ALL.len()]; NAMES.len()],
+    counts: [[u64; Status::ALL.len()]; ROWS],
     /// How many of the calls were put to the sound call as well.
     pub sound: u64,
 }
@@ -95,7 +90,7 @@ impl fmt::Display for Tally {
             write!(out, "{:>9}", status.letters())?;
         }
         writeln!(out)?;
-        for (name, row) in NAMES.iter().zip(&self.counts) {
+        for (name, row) in names().zip(&self.counts) {
             write!(out, "{name:10}")?;
             for &count in row {
                 match count {

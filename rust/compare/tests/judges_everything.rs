@@ -1,8 +1,9 @@
 //! A fixed run reaches every status that document 01 allows a call, and no other.
 
 use compare::tally::Row;
-use compare::{run, MODEL};
-use model::Status::{self, *};
+use compare::{run, JUDGE};
+use face::number;
+use judge::Status::{self, *};
 
 const BLOCKS: [Status; 3] = [CX, TX, PX];
 const LIST: [Status; 3] = [AC, AJ, AK];
@@ -10,18 +11,18 @@ const LIST: [Status; 3] = [AC, AJ, AK];
 /// What a call may answer besides blocks, position and list.
 fn own(number: u8) -> Vec<Status> {
     match number {
-        1 | 4 => vec![Blank, GE, AB],
-        2 | 5 => vec![Blank, GA, GK, GB, GE, AB],
-        3 | 6 => vec![Blank, GA, GK, GE, GP, AB],
-        7 => vec![Blank, GE, AH, AB, II, FX],
-        8 => vec![Blank, AB, DJ, DA],
+        number::GU | number::GHU => vec![Blank, GE, AB],
+        number::GN | number::GHN => vec![Blank, GA, GK, GB, GE, AB],
+        number::GNP | number::GHNP => vec![Blank, GA, GK, GE, GP, AB],
+        number::ISRT => vec![Blank, GE, AH, AB, II, FX],
+        number::REPL => vec![Blank, AB, DJ, DA],
         _ => vec![Blank, DJ],
     }
 }
 
 #[test]
 fn each_status_of_each_call() {
-    let tally = match run(&MODEL, &MODEL, 3, 200_000) {
+    let tally = match run(&JUDGE, &JUDGE, 3, 200_000) {
         Ok(tally) => tally,
         Err(difference) => panic!("{difference}"),
     };
@@ -36,7 +37,7 @@ fn each_status_of_each_call() {
     reached(&tally, Row::CatalogueCheck, &[Blank, CX]);
     reached(&tally, Row::TableCheck, &[Blank, CX, TX]);
     reached(&tally, Row::Maker, &[Blank, CX, TX]);
-    for way in model::Way::ALL {
+    for way in judge::Way::ALL {
         let expected = [Blank, CX, TX, AC, AJ, AK, AB];
         reached(&tally, Row::Report(way), &expected);
     }

@@ -1,9 +1,35 @@
-//! The C face of the store, over slices.
+//! The C face as a table of functions over slices, and the numbers that it speaks in.
 //!
-//! Every function but [`call_sound`] takes any bytes. The archive behind it is the one that the environment
-//! variable UMBRISTAL_ARCHIVE named when this was built, or one that the build made by `tools/host-archive`.
+//! Nothing is linked here. `linked` fills the table with the proved store, `compare` with the judge, `faults` with
+//! faulty copies of the judge, `bench` with Rust written by hand; whoever compares or measures takes the table.
 
-mod raw;
+/// A constant for each name, and `ALL` with every name and its number, in that order.
+macro_rules! numbered {
+    ($($name:ident = $number:literal),* $(,)?) => {
+        $(pub const $name: u8 = $number;)*
+
+        /// Every name with its number.
+        pub const ALL: &[(&str, u8)] = &[$((stringify!($name), $name)),*];
+    };
+}
+
+/// The calls, by number.
+pub mod number {
+    numbered! {
+        GU = 1, GN = 2, GNP = 3, GHU = 4, GHN = 5, GHNP = 6, ISRT = 7, REPL = 8, DLET = 9,
+    }
+}
+
+/// The statuses, by number. Below 10 the call was done; 10 to 12 clear the hold and change nothing else; 20 and
+/// above change nothing.
+pub mod status {
+    numbered! {
+        BLANK = 0, GA = 1, GK = 2,
+        GB = 10, GE = 11, GP = 12,
+        CX = 20, TX = 21, PX = 22, AD = 23, AC = 24, AJ = 25, AK = 26, AH = 27, AB = 28, DJ = 29, DA = 30, II = 31,
+        FX = 32,
+    }
+}
 
 /// The length of a position block.
 pub const POSITION_SIZE: usize = 8;
@@ -11,133 +37,59 @@ pub const POSITION_SIZE: usize = 8;
 /// The position block of a fresh position.
 pub const FRESH: [u8; POSITION_SIZE] = [0; POSITION_SIZE];
 
-/// How a report goes about it; all three answer the same.
-#[derive(Clone, Copy, PartialEq, Eq, Debug)]
-pub enum Way {
+/// Catalogue, table, position, number, list and area; status, type, level and length in the four low bytes of the
+/// result, removed above them.
+pub type Call = fn(&[u8], &mut [u8], &mut [u8], u8, &[u8], &mut [u8]) -> u64;
+
+/// The same with a promise of its caller.
+pub type SoundCall = unsafe fn(&[u8], &mut [u8], &mut [u8], u8, &[u8], &mut [u8]) -> u64;
+
+/// Catalogue, table, list 1, list 2 and out; the status in the low half of the result, how many hits in the high
+/// half. Each hit is its cell number at the front of the out, two bytes, high first.
+pub type Report = fn(&[u8], &[u8], &[u8], &[u8], &mut [u8]) -> u64;
+
+/// The functions of a store, each over any bytes but for `call_sound`.
+#[derive(Clone, Copy)]
+pub struct Functions {
+    /// Whose they are.
+    pub name: &'static str,
+    /// Of a catalogue: 0, or CX.
+    pub catalogue_check: fn(&[u8]) -> u8,
+    /// Of a catalogue and a table: CX, TX or 0.
+    pub table_check: fn(&[u8], &[u8]) -> u8,
+    /// An empty table over the whole slice and 0; or CX or TX, and nothing written.
+    pub table_make: fn(&[u8], &mut [u8]) -> u8,
+    /// One call, on any blocks.
+    pub call: Call,
+    /// The same without testing catalogue, table and position again.
+    ///
+    /// # Safety
+    ///
+    /// `table_check` has answered 0 for the two blocks, and the position is fresh or `call` has not answered PX for
+    /// it on them; since then only calls with this position have changed the table, and only calls the position.
+    pub call_sound: SoundCall,
     /// Get-next with list 1, and for each segment got get-next-within-parent with list 2.
-    Nested,
+    pub report_nested: Report,
     /// Get-next with both lists as one.
-    Joined,
+    pub report_joined: Report,
     /// Every cell tested against both lists as one.
-    Plain,
+    pub report_plain: Report,
 }
 
-// SAFETY of every call below: each pointer comes from a slice that is borrowed for the whole call, with that
-// slice's length; what is written to is borrowed mutably, so nothing overlaps; the store keeps no pointer.
-
-/// 0, or CX.
-pub fn catalogue_check(catalogue: &[u8]) -> u8 {
-    unsafe { raw::umbristal_catalogue_check(catalogue.as_ptr(), catalogue.len()) }
-}
-
-/// CX, TX or 0.
-pub fn table_check(catalogue: &[u8], table: &[u8]) -> u8 {
-    unsafe {
-        raw::umbristal_table_check(
-            catalogue.as_ptr(),
-            catalogue.len(),
-            table.as_ptr(),
-            table.len(),
-        )
-    }
-}
-
-/// An empty table over the whole slice and 0; or CX or TX, and nothing written.
-pub fn table_make(catalogue: &[u8], table: &mut [u8]) -> u8 {
-    unsafe {
-        raw::umbristal_table_make(
-            catalogue.as_ptr(),
-            catalogue.len(),
-            table.as_mut_ptr(),
-            table.len(),
-        )
-    }
-}
-
-/// One call on any blocks: status, type, level and length in the four low bytes, removed above them.
-pub fn call(
-    catalogue: &[u8],
-    table: &mut [u8],
-    position: &mut [u8],
-    number: u8,
-    list: &[u8],
-    area: &mut [u8],
-) -> u64 {
-    unsafe {
-        raw::umbristal_call(
-            catalogue.as_ptr(),
-            catalogue.len(),
-            table.as_mut_ptr(),
-            table.len(),
-            position.as_mut_ptr(),
-            position.len(),
-            number,
-            list.as_ptr(),
-            list.len(),
-            area.as_mut_ptr(),
-            area.len(),
-        )
-    }
-}
-
-/// The same without testing catalogue, table and position again.
-///
-/// # Safety
-///
-/// [`table_check`] has answered 0 for the two blocks, and the position is fresh or [`call`] has not answered PX
-/// for it on them; since then only calls with this position have changed the table, and only calls the position.
-pub unsafe fn call_sound(
-    catalogue: &[u8],
-    table: &mut [u8],
-    position: &mut [u8],
-    number: u8,
-    list: &[u8],
-    area: &mut [u8],
-) -> u64 {
-    unsafe {
-        raw::umbristal_call_sound(
-            catalogue.as_ptr(),
-            catalogue.len(),
-            table.as_mut_ptr(),
-            table.len(),
-            position.as_mut_ptr(),
-            position.len(),
-            number,
-            list.as_ptr(),
-            list.len(),
-            area.as_mut_ptr(),
-            area.len(),
-        )
-    }
-}
-
-/// One report on any blocks: the status in the low half, how many hits in the high half. Each hit is its cell
-/// number at the front of `out`, two bytes, high first.
-pub fn report(
-    way: Way,
-    catalogue: &[u8],
-    table: &[u8],
-    list1: &[u8],
-    list2: &[u8],
-    out: &mut [u8],
-) -> u64 {
-    let function = match way {
-        Way::Nested => raw::umbristal_report_nested,
-        Way::Joined => raw::umbristal_report_joined,
-        Way::Plain => raw::umbristal_report_plain,
+/// The table of a module that has a function of each name: `functions!("store", some::module)`.
+#[macro_export]
+macro_rules! functions {
+    ($name:expr, $($module:ident)::+) => {
+        $crate::Functions {
+            name: $name,
+            catalogue_check: $($module)::+::catalogue_check,
+            table_check: $($module)::+::table_check,
+            table_make: $($module)::+::table_make,
+            call: $($module)::+::call,
+            call_sound: $($module)::+::call_sound,
+            report_nested: $($module)::+::report_nested,
+            report_joined: $($module)::+::report_joined,
+            report_plain: $($module)::+::report_plain,
+        }
     };
-    unsafe {
-        function(
-            catalogue.as_ptr(),
-            catalogue.len(),
-            table.as_ptr(),
-            table.len(),
-            list1.as_ptr(),
-            list1.len(),
-            list2.as_ptr(),
-            list2.len(),
-            out.as_mut_ptr(),
-            out.len(),
-        )
-    }
 }

@@ -117,8 +117,8 @@ pub const CHANGES: &[Change] = &[
     change(
         "calls",
         "call number 10 taken for DLET",
-        "9 => Some(Call::Delete),",
-        "9 | 10 => Some(Call::Delete),",
+        "DLET => Some(Call::Delete),",
+        "DLET | 10 => Some(Call::Delete),",
     ),
     change(
         "calls",
@@ -427,8 +427,8 @@ pub const CHANGES: &[Change] = &[
     change(
         "calls",
         "GHN sets no hold",
-        "5 => get(Scope::Next, true),",
-        "5 => get(Scope::Next, false),",
+        "GHN => get(Scope::Next, true),",
+        "GHN => get(Scope::Next, false),",
     ),
     change(
         "calls",

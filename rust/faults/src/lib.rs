@@ -6,4 +6,4 @@ pub mod changes;
 include!(concat!(env!("OUT_DIR"), "/copies.rs"));
 
 /// A copy of the judge without a fault.
-pub const FAULTLESS: compare::Functions = faultless::STORE;
+pub const FAULTLESS: face::Functions = faultless::STORE;

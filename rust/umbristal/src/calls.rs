@@ -6,16 +6,7 @@ use crate::position::Place;
 use crate::refusal::Refusal;
 use crate::segment::{Deleted, Got, Segment};
 use crate::store::{Answer, Store};
-
-const GU: u8 = 1;
-const GN: u8 = 2;
-const GNP: u8 = 3;
-const GHU: u8 = 4;
-const GHN: u8 = 5;
-const GHNP: u8 = 6;
-const ISRT: u8 = 7;
-const REPL: u8 = 8;
-const DLET: u8 = 9;
+use face::number::{DLET, GHN, GHNP, GHU, GN, GNP, GU, ISRT, REPL};
 
 impl Store {
     /// GU: the first segment that matches, along the position.

@@ -4,7 +4,7 @@ use crate::argument::{encode, Argument};
 use crate::numbers::CellNumber;
 use crate::refusal::Refusal;
 use crate::store::{status, Store};
-use face::Way;
+use face::Report;
 
 impl Store {
     /// The segments that match `lower` beneath a segment that matches `upper`, by get-next with `upper` and, for each
@@ -33,7 +33,7 @@ impl Store {
         upper: &[Argument],
         lower: &[Argument],
     ) -> Result<Vec<CellNumber>, Refusal> {
-        self.report(Way::Nested, upper, lower)
+        self.report(linked::report_nested, upper, lower)
     }
 
     /// The same by get-next with both lists as one.
@@ -42,7 +42,7 @@ impl Store {
         upper: &[Argument],
         lower: &[Argument],
     ) -> Result<Vec<CellNumber>, Refusal> {
-        self.report(Way::Joined, upper, lower)
+        self.report(linked::report_joined, upper, lower)
     }
 
     /// The same by testing every cell.
@@ -51,26 +51,19 @@ impl Store {
         upper: &[Argument],
         lower: &[Argument],
     ) -> Result<Vec<CellNumber>, Refusal> {
-        self.report(Way::Plain, upper, lower)
+        self.report(linked::report_plain, upper, lower)
     }
 
     fn report(
         &self,
-        way: Way,
+        report: Report,
         upper: &[Argument],
         lower: &[Argument],
     ) -> Result<Vec<CellNumber>, Refusal> {
         let list1 = encode(self.catalogue(), upper);
         let list2 = encode(self.catalogue(), lower);
         let mut out = vec![0; 2 * self.count()];
-        let result = face::report(
-            way,
-            self.catalogue(),
-            self.table(),
-            &list1,
-            &list2,
-            &mut out,
-        );
+        let result = report(self.catalogue(), self.table(), &list1, &list2, &mut out);
         Refusal::unless_refused(status(result as u8))?;
         let hits = out.chunks_exact(2).take((result >> 32) as usize);
         Ok(hits

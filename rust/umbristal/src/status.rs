@@ -1,5 +1,6 @@
 //! The status table.
 
+use face::status;
 use std::fmt;
 
 /// How a call ended. Below 10 it was done; 10 to 12 found nothing and drop the hold; 20 and above refuse, and
@@ -17,25 +18,25 @@ use std::fmt;
 #[derive(Clone, Copy, PartialEq, Eq, Hash, Debug)]
 #[repr(u8)]
 pub enum Status {
-    Blank = 0,
-    GA = 1,
-    GK = 2,
-    GB = 10,
-    GE = 11,
-    GP = 12,
-    CX = 20,
-    TX = 21,
-    PX = 22,
-    AD = 23,
-    AC = 24,
-    AJ = 25,
-    AK = 26,
-    AH = 27,
-    AB = 28,
-    DJ = 29,
-    DA = 30,
-    II = 31,
-    FX = 32,
+    Blank = status::BLANK,
+    GA = status::GA,
+    GK = status::GK,
+    GB = status::GB,
+    GE = status::GE,
+    GP = status::GP,
+    CX = status::CX,
+    TX = status::TX,
+    PX = status::PX,
+    AD = status::AD,
+    AC = status::AC,
+    AJ = status::AJ,
+    AK = status::AK,
+    AH = status::AH,
+    AB = status::AB,
+    DJ = status::DJ,
+    DA = status::DA,
+    II = status::II,
+    FX = status::FX,
 }
 
 /// Every status with its letters and what it says.

@@ -5,6 +5,7 @@ use crate::numbers::{CellNumber, TypeCode};
 use crate::position::{Place, Position};
 use crate::refusal::Refusal;
 use crate::status::Status;
+use face::number::GN;
 
 /// A catalogue, a table and a position, each of them sound for as long as the store lives.
 ///
@@ -39,7 +40,7 @@ impl Store {
     /// assert_eq!(refusal.status(), Status::CX);
     /// ```
     pub fn open(catalogue: Vec<u8>, table: Vec<u8>) -> Result<Store, Refusal> {
-        Refusal::unless_refused(status(face::table_check(&catalogue, &table)))?;
+        Refusal::unless_refused(status(linked::table_check(&catalogue, &table)))?;
         Ok(Store::of_sound(catalogue, table))
     }
 
@@ -60,9 +61,9 @@ impl Store {
     /// # }
     /// ```
     pub fn make(catalogue: Vec<u8>, cells: usize) -> Result<Store, Refusal> {
-        Refusal::unless_refused(status(face::catalogue_check(&catalogue)))?;
+        Refusal::unless_refused(status(linked::catalogue_check(&catalogue)))?;
         let mut table = vec![0; catalogue::table_length(&catalogue, cells)];
-        Refusal::unless_refused(status(face::table_make(&catalogue, &mut table)))?;
+        Refusal::unless_refused(status(linked::table_make(&catalogue, &mut table)))?;
         Ok(Store::of_sound(catalogue, table))
     }
 
@@ -131,7 +132,7 @@ impl Store {
         // then, and only calls through it, and fresh positions by `rewind`, have come since.
         let result = unsafe {
             let position = &mut self.position.0;
-            face::call_sound(
+            linked::call_sound(
                 &self.catalogue,
                 &mut self.table,
                 position,
@@ -149,12 +150,11 @@ impl Store {
     ///
     /// The position was fresh once, and since then nothing but get-nexts has been called on this store.
     pub(crate) unsafe fn next_from(&mut self, position: &mut Position, list: &[u8]) -> Answer {
-        const GN: u8 = 2;
         let (table, area) = (&mut self.table, &mut self.area);
         // SAFETY: the blocks are sound as in `call`. A get-next leaves the table as it is, so that both this position
         // and the store's own stay good.
         let result =
-            unsafe { face::call_sound(&self.catalogue, table, &mut position.0, GN, list, area) };
+            unsafe { linked::call_sound(&self.catalogue, table, &mut position.0, GN, list, area) };
         unpacked(result)
     }
 

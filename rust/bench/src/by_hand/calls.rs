@@ -4,16 +4,10 @@ use super::blocks::{
     cell, cell_size, check_catalogue, check_table, count, parent_cell, run_end, Catalogue,
 };
 use super::lists::{Argument, Levels, List};
-use super::status::*;
+use face::number::{DLET, GHN, GHU, GN, GU, ISRT};
+use face::status::*;
 use std::cmp::Ordering;
 use std::ops::Range;
-
-const GU: u8 = 1;
-const GN: u8 = 2;
-const GHU: u8 = 4;
-const GHN: u8 = 5;
-const ISRT: u8 = 7;
-const DLET: u8 = 9;
 
 /// The call with every check.
 pub fn call(

@@ -1,7 +1,7 @@
 //! Argument lists: read from the left, completed with their implied levels, and sought in one pass.
 
 use super::blocks::{cell, Catalogue};
-use super::status::{AC, AJ, AK};
+use face::status::{AC, AJ, AK};
 use std::cmp::Ordering;
 use std::ops::Range;
 

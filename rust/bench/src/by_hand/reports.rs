@@ -2,19 +2,25 @@
 
 use super::blocks::{cell_size, check_catalogue, check_table, count, run_end, Catalogue};
 use super::lists::{Levels, List};
-use super::status::*;
-use face::Way;
+use face::status::{AB, AC, CX, TX};
 
-/// A report with every check; the status in the low half, how many hits in the high half.
-pub fn report(
-    way: Way,
-    catalogue: &[u8],
-    table: &[u8],
-    list1: &[u8],
-    list2: &[u8],
-    out: &mut [u8],
-) -> u64 {
-    let shown = attempt(way, catalogue, table, list1, list2, out);
+/// A report by a pass for list 1, and within each run that it finds one for list 2; with every check. The status is
+/// in the low half, how many hits in the high half.
+pub fn nested(block: &[u8], table: &[u8], list1: &[u8], list2: &[u8], out: &mut [u8]) -> u64 {
+    packed(attempt(Way::Nested, block, table, list1, list2, out))
+}
+
+/// The same by one pass over all cells; a plain reading is no different.
+pub fn joined(block: &[u8], table: &[u8], list1: &[u8], list2: &[u8], out: &mut [u8]) -> u64 {
+    packed(attempt(Way::Joined, block, table, list1, list2, out))
+}
+
+enum Way {
+    Nested,
+    Joined,
+}
+
+fn packed(shown: Result<usize, u8>) -> u64 {
     shown.map_or_else(u64::from, |hits| (hits as u64) << 32)
 }
 
@@ -42,15 +48,15 @@ fn attempt(
     let levels_of = |list| Levels::complete(catalogue, list, lowest(list));
     let all = levels_of(list.arguments());
     // What is too long for the out is found before anything is written.
-    if 2 * count(table) > out.len() && 2 * joined(table, &all, |_, _| ()) > out.len() {
+    if 2 * count(table) > out.len() && 2 * one_pass(table, &all, |_, _| ()) > out.len() {
         return Err(AB);
     }
     let show = |index: usize, cell: usize| {
         out[2 * index..2 * index + 2].copy_from_slice(&(cell as u16).to_be_bytes());
     };
     Ok(match way {
-        Way::Nested => nested(catalogue, table, &levels_of(upper), &levels_of(lower), show),
-        Way::Joined | Way::Plain => joined(table, &all, show),
+        Way::Nested => two_passes(catalogue, table, &levels_of(upper), &levels_of(lower), show),
+        Way::Joined => one_pass(table, &all, show),
     })
 }
 
@@ -58,8 +64,8 @@ fn lowest(list: &[super::lists::Argument]) -> u8 {
     list.last().map_or(0, |argument| argument.code)
 }
 
-/// One pass over all cells; a plain reading is the same.
-fn joined(table: &[u8], levels: &Levels, mut show: impl FnMut(usize, usize)) -> usize {
+/// One pass over all cells.
+fn one_pass(table: &[u8], levels: &Levels, mut show: impl FnMut(usize, usize)) -> usize {
     let (size, count) = (cell_size(table), count(table));
     let (mut hits, mut at, mut agreed) = (0, 0, 0);
     while let Some(cell) = levels.seek(table, size, at..count, &mut agreed) {
@@ -71,7 +77,7 @@ fn joined(table: &[u8], levels: &Levels, mut show: impl FnMut(usize, usize)) -> 
 }
 
 /// A pass for list 1, and within each run that it finds one for list 2.
-fn nested(
+fn two_passes(
     catalogue: Catalogue,
     table: &[u8],
     upper: &Levels,

@@ -1,9 +1,10 @@
 //! The hand-written Rust answers as the store does, on damaged blocks too: the checks are the same.
 
 use super::ByHand;
-use crate::calls::{Face, Proved};
+use crate::calls::{Measured, Proved};
 use crate::sample::Sample;
-use face::{Way, FRESH};
+use face::number::GN;
+use face::FRESH;
 
 #[derive(PartialEq, Eq, Debug)]
 struct Left {
@@ -13,13 +14,19 @@ struct Left {
 }
 
 /// All that GN and the reports leave behind.
-fn left<F: Face>(catalogue: &[u8], table: &[u8]) -> Left {
+fn left<F: Measured>(catalogue: &[u8], table: &[u8]) -> Left {
     let (mut table, mut position) = (table.to_vec(), FRESH.to_vec());
     let (mut area, mut out) = (vec![9; 120], vec![9; 30]);
-    let got = F::call(catalogue, &mut table, &mut position, 2, &[], &mut area);
-    let shown = [Way::Nested, Way::Joined, Way::Plain].map(|way| {
+    let functions = F::FUNCTIONS;
+    let got = (functions.call)(catalogue, &mut table, &mut position, GN, &[], &mut area);
+    let reports = [
+        functions.report_nested,
+        functions.report_joined,
+        functions.report_plain,
+    ];
+    let shown = reports.map(|report| {
         let (list1, list2) = ([1, 1, 4, b'A'], [3, 1, 3, b'P']);
-        F::report(way, catalogue, &table, &list1, &list2, &mut out)
+        report(catalogue, &table, &list1, &list2, &mut out)
     });
     Left {
         got,

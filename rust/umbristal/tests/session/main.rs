@@ -3,4 +3,5 @@
 mod bench;
 mod cases;
 mod lists;
+mod statuses;
 mod stays_sound;

@@ -69,7 +69,7 @@ fn blocks_and_position() {
         let (catalogue, mut table) = store.clone().into_blocks();
         // No call has number 0, and that is found only behind blocks and a position that are good.
         let mut position = position(&store);
-        let answer = face::call(&catalogue, &mut table, &mut position, 0, &[], &mut []);
+        let answer = linked::call(&catalogue, &mut table, &mut position, 0, &[], &mut []);
         assert_eq!(answer, Status::AD.number().into());
     }
     assert!(store.count() > 0);

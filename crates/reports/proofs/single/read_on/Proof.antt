@@ -4,7 +4,7 @@ use native.Mathlib.Omega.{arith}
 use borrow.Author.Needs.{needs}
 use Rattle.terms.specs.declared.Argument.{Argument}
 use Rattle.reports.proofs.Steps.{sound-list, given-good, turn-reading}
-use Rattle.reports.proofs.Way.{Way, way-start, way-done, way-end, way-inside, way-next}
+use Rattle.reports.proofs.OneList.{Way, way-start, way-done, way-end, way-inside, way-next}
 use Rattle.reports.proofs.single.read_on.Statement.{statement}
 use Rattle.reports.proofs.single.read_on.Tie as tie
 

@@ -14,7 +14,7 @@ fn b1_the_listing() {
                     7 1 1 GA 303942\n\
                     8 2 2 -- 313450\n\
                     GB\n";
-    assert_eq!(model::listing(&bench_catalogue(), &bench_table()), expected);
+    assert_eq!(judge::listing(&bench_catalogue(), &bench_table()), expected);
 }
 
 #[test]
@@ -111,5 +111,5 @@ fn b9_replace() {
 fn b10_the_empty_table() {
     let mut desk = Desk::with(bench_catalogue(), table(4, 12, &[]));
     assert_eq!(desk.get(GN, b"").status, 10);
-    assert_eq!(model::listing(&desk.catalogue, &desk.table), "GB\n");
+    assert_eq!(judge::listing(&desk.catalogue, &desk.table), "GB\n");
 }

@@ -3,7 +3,7 @@
 //! arithmetic, no runs counted by level. Cell numbers appear only where a block is read or written.
 //!
 //! The functions here take byte slices and hand back what the store would leave behind. [`lent`] has the same
-//! over lent slices, with the types of the C face.
+//! over lent slices, one for each function of the C face.
 
 pub mod arguments;
 pub mod calls;

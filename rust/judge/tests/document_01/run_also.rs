@@ -33,8 +33,8 @@ fn chain(levels: u8) -> Vec<u8> {
 
 #[test]
 fn level_fifteen_and_sixteen() {
-    assert_eq!(model::catalogue_check(&chain(15)), 0);
-    assert_eq!(model::catalogue_check(&chain(16)), 20);
+    assert_eq!(judge::catalogue_check(&chain(15)), 0);
+    assert_eq!(judge::catalogue_check(&chain(16)), 20);
     let mut desk = Desk::with(chain(15), table(2, 20, &[]));
     for level in 1..=15 {
         assert_eq!(
@@ -48,15 +48,15 @@ fn level_fifteen_and_sixteen() {
 #[test]
 fn most_cells_and_one_more() {
     let most = vec![9; 8 + 4096 * 4];
-    let made = model::table_make(&bench_catalogue(), &most);
+    let made = judge::table_make(&bench_catalogue(), &most);
     assert_eq!(made.status, 0);
     assert_eq!(made.table, table(4, 4096, &[]));
-    assert_eq!(model::table_check(&bench_catalogue(), &made.table), 0);
+    assert_eq!(judge::table_check(&bench_catalogue(), &made.table), 0);
     let more = vec![9; 8 + 4097 * 4];
-    let refused = model::table_make(&bench_catalogue(), &more);
+    let refused = judge::table_make(&bench_catalogue(), &more);
     assert_eq!((refused.status, refused.table), (21, more));
     let one_more = table(4, 4097, &[]);
-    assert_eq!(model::table_check(&bench_catalogue(), &one_more), 21);
+    assert_eq!(judge::table_check(&bench_catalogue(), &one_more), 21);
 }
 
 #[test]

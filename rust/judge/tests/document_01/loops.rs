@@ -1,7 +1,7 @@
 //! Get-next loops and reports.
 
 use crate::desk::*;
-use model::Way;
+use judge::Way;
 
 #[test]
 fn a_get_next_loop_ends() {
@@ -14,7 +14,7 @@ fn a_get_next_loop_ends() {
 }
 
 fn report(way: Way, list1: &[u8], list2: &[u8], room: usize) -> (u8, u32, Vec<u8>) {
-    let report = model::report(
+    let report = judge::report(
         way,
         &bench_catalogue(),
         &bench_table(),
@@ -55,8 +55,8 @@ fn reports_refuse() {
         // List 1 is read by itself: what is cut short is not made up for by list 2.
         assert_eq!(status(b"\x01", b"\x00\x02\x00"), 25);
         assert_eq!(status(b"\x01\x01\x010", b"7\x02\x00"), 25);
-        let no_table = model::report(way, &bench_catalogue(), &[], b"", b"", &[]);
+        let no_table = judge::report(way, &bench_catalogue(), &[], b"", b"", &[]);
         assert_eq!(no_table.status, 21);
-        assert_eq!(model::report(way, &[], &[], b"", b"", &[]).status, 20);
+        assert_eq!(judge::report(way, &[], &[], b"", b"", &[]).status, 20);
     }
 }

@@ -1,11 +1,11 @@
 //! The store against the judge, on a fixed seed.
 
-use compare::MODEL;
-use store::Archive;
+use compare::JUDGE;
+use linked::STORE;
 
 #[test]
 fn the_store_does_what_the_judge_says() {
-    match compare::run(&MODEL, &Archive, 1, 250_000) {
+    match compare::run(&JUDGE, &STORE, 1, 250_000) {
         Ok(tally) => {
             println!("{tally}");
             assert!(tally.calls() >= 250_000);

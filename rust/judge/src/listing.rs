@@ -1,14 +1,12 @@
 //! The text of the listing program.
 
-use super::calls::Database;
+use super::calls::{Database, GN};
 use super::position::{Place, Position};
 use super::status::Status;
 use std::fmt::Write;
 
 /// The longest table file the listing takes.
 const LONGEST_FILE: usize = 65_536;
-
-const GET_NEXT: u8 = 2;
 
 /// The whole output for the contents of CAT.HDC and TAB.HDT; a missing file counts as empty.
 pub fn listing(catalogue: &[u8], table: &[u8]) -> String {
@@ -31,7 +29,7 @@ fn lines(catalogue: &[u8], table: &[u8], text: &mut String) -> Result<Status, St
     let area = vec![0; database.catalogue.longest()];
     let mut position = Position::fresh(&database.forest);
     loop {
-        let answer = database.call(position, GET_NEXT, &[], &area)?;
+        let answer = database.call(position, GN, &[], &area)?;
         position = answer.position;
         let (Some(subject), Place::On(path)) = (answer.subject, &position.place) else {
             return Ok(answer.status);

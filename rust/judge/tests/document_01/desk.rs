@@ -1,6 +1,8 @@
 //! The bench table of document 01, and a desk to work on it.
 
-use model::{Outcome, FRESH};
+pub use judge::calls::{DLET, GHN, GHNP, GHU, GN, GNP, GU, ISRT, REPL};
+
+use judge::{Outcome, FRESH};
 
 /// A catalogue block from (parent, L, kind, key start, key length) and (type, start, length).
 pub fn catalogue(types: &[[u8; 5]], fields: &[[u8; 3]]) -> Vec<u8> {
@@ -52,16 +54,6 @@ pub fn bench_table() -> Vec<u8> {
     table(4, 12, &BENCH_CELLS)
 }
 
-pub const GU: u8 = 1;
-pub const GN: u8 = 2;
-pub const GNP: u8 = 3;
-pub const GHU: u8 = 4;
-pub const GHN: u8 = 5;
-pub const GHNP: u8 = 6;
-pub const ISRT: u8 = 7;
-pub const REPL: u8 = 8;
-pub const DLET: u8 = 9;
-
 /// A position block: on a cell or in a gap, with a parentage or none, held or not.
 pub fn block(on: bool, cell: u16, parentage: Option<u16>, hold: bool) -> Vec<u8> {
     let mut bytes = vec![u8::from(on)];
@@ -85,7 +77,7 @@ impl Desk {
     }
 
     pub fn with(catalogue: Vec<u8>, table: Vec<u8>) -> Desk {
-        assert_eq!(model::table_check(&catalogue, &table), 0);
+        assert_eq!(judge::table_check(&catalogue, &table), 0);
         Desk {
             catalogue,
             table,
@@ -101,7 +93,7 @@ impl Desk {
 
     /// One call; what it leaves behind is kept.
     pub fn call(&mut self, number: u8, list: &[u8], area: &[u8]) -> Outcome {
-        let outcome = model::call(
+        let outcome = judge::call(
             &self.catalogue,
             &self.table,
             &self.position,
@@ -111,7 +103,7 @@ impl Desk {
         );
         self.table = outcome.table.clone();
         self.position = outcome.position.clone();
-        assert_eq!(model::table_check(&self.catalogue, &self.table), 0);
+        assert_eq!(judge::table_check(&self.catalogue, &self.table), 0);
         outcome
     }
 

@@ -6,6 +6,17 @@ use super::forest::{Forest, Path, Segment};
 use super::position::{is_beneath, Place, Position};
 use super::status::Status;
 
+/// The calls, by number.
+pub const GU: u8 = 1;
+pub const GN: u8 = 2;
+pub const GNP: u8 = 3;
+pub const GHU: u8 = 4;
+pub const GHN: u8 = 5;
+pub const GHNP: u8 = 6;
+pub const ISRT: u8 = 7;
+pub const REPL: u8 = 8;
+pub const DLET: u8 = 9;
+
 /// What a get looks at.
 #[derive(Clone, Copy, PartialEq, Eq, Debug)]
 pub enum Scope {
@@ -29,15 +40,15 @@ impl Call {
     pub fn of_number(number: u8) -> Option<Call> {
         let get = |scope, hold| Some(Call::Get { scope, hold });
         match number {
-            1 => get(Scope::Unique, false),
-            2 => get(Scope::Next, false),
-            3 => get(Scope::NextWithinParent, false),
-            4 => get(Scope::Unique, true),
-            5 => get(Scope::Next, true),
-            6 => get(Scope::NextWithinParent, true),
-            7 => Some(Call::Insert),
-            8 => Some(Call::Replace),
-            9 => Some(Call::Delete),
+            GU => get(Scope::Unique, false),
+            GN => get(Scope::Next, false),
+            GNP => get(Scope::NextWithinParent, false),
+            GHU => get(Scope::Unique, true),
+            GHN => get(Scope::Next, true),
+            GHNP => get(Scope::NextWithinParent, true),
+            ISRT => Some(Call::Insert),
+            REPL => Some(Call::Replace),
+            DLET => Some(Call::Delete),
             _ => None,
         }
     }

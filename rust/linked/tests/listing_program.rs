@@ -51,7 +51,7 @@ fn roots(length: u8, n: usize, m: usize) -> Vec<u8> {
 
 fn as_the_judge(name: &str, catalogue: &[u8], table: &[u8]) -> String {
     let said = printed(name, Some(catalogue), Some(table));
-    assert_eq!(said, model::listing(catalogue, table), "{name}");
+    assert_eq!(said, judge::listing(catalogue, table), "{name}");
     said
 }
 

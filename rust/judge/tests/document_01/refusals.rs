@@ -16,7 +16,7 @@ struct Lent {
 impl Lent {
     /// The status; and nothing may have changed where it is 20 or above.
     fn status(&self) -> u8 {
-        let outcome = model::call(
+        let outcome = judge::call(
             &self.catalogue,
             &self.table,
             &self.position,
@@ -237,7 +237,7 @@ fn bad_positions() {
         bad.push(block);
     }
     let status = |position: &Vec<u8>| {
-        model::call(&bench_catalogue(), &bench_table(), position, REPL, b"", b"").status
+        judge::call(&bench_catalogue(), &bench_table(), position, REPL, b"", b"").status
     };
     for position in &good {
         assert_eq!(status(position), 28, "{position:?}");
@@ -250,11 +250,11 @@ fn bad_positions() {
 #[test]
 fn bad_catalogues() {
     let sound = bench_catalogue();
-    assert_eq!(model::catalogue_check(&sound), 0);
+    assert_eq!(judge::catalogue_check(&sound), 0);
     for length in 0..sound.len() {
-        assert_eq!(model::catalogue_check(&sound[..length]), 20);
+        assert_eq!(judge::catalogue_check(&sound[..length]), 20);
     }
-    assert_eq!(model::catalogue_check(&[&sound[..], &[0]].concat()), 20);
+    assert_eq!(judge::catalogue_check(&[&sound[..], &[0]].concat()), 20);
     let edits = [
         (0, 0),
         (1, 0),
@@ -297,14 +297,14 @@ fn bad_catalogues() {
     for (byte, value) in edits {
         let mut block = sound.clone();
         block[byte] = value;
-        assert_eq!(model::catalogue_check(&block), 20, "byte {byte} = {value}");
+        assert_eq!(judge::catalogue_check(&block), 20, "byte {byte} = {value}");
     }
 }
 
 #[test]
 fn bad_tables() {
     let sound = bench_table();
-    let status = |block: &[u8]| model::table_check(&bench_catalogue(), block);
+    let status = |block: &[u8]| judge::table_check(&bench_catalogue(), block);
     assert_eq!(status(&sound), 0);
     for length in 0..sound.len() {
         // Whole free cells less are another M, and sound.
@@ -346,7 +346,7 @@ fn bad_tables() {
         block[byte] = value;
         assert_eq!(status(&block), 21, "byte {byte} = {value}");
     }
-    assert_eq!(model::table_check(&[], &sound), 20);
+    assert_eq!(judge::table_check(&[], &sound), 20);
 }
 
 #[test]
@@ -355,7 +355,7 @@ fn key_order_of_twins() {
         let catalogue = catalogue(&[[0, 1, kind, kind.min(1), kind.min(1)]], &[]);
         let cells: Vec<[u8; 2]> = keys.iter().map(|&key| [1, key]).collect();
         let cells: Vec<&[u8]> = cells.iter().map(|cell| &cell[..]).collect();
-        model::table_check(&catalogue, &table(2, cells.len(), &cells)) == 0
+        judge::table_check(&catalogue, &table(2, cells.len(), &cells)) == 0
     };
     assert!(sound(0, &[3, 1, 2, 2]));
     assert!(sound(1, &[1, 2, 0x80, 0xFF]));
@@ -370,7 +370,7 @@ fn the_maker() {
     let catalogue = bench_catalogue();
     for length in 0..40 {
         let slice = vec![7; length];
-        let made = model::table_make(&catalogue, &slice);
+        let made = judge::table_make(&catalogue, &slice);
         if length >= 8 && length % 4 == 0 {
             assert_eq!(made.table, table(4, (length - 8) / 4, &[]));
             assert_eq!(made.status, 0);
@@ -378,20 +378,20 @@ fn the_maker() {
             assert_eq!((made.status, made.table), (21, slice));
         }
     }
-    let made = model::table_make(&catalogue[1..], &[7; 8]);
+    let made = judge::table_make(&catalogue[1..], &[7; 8]);
     assert_eq!((made.status, made.table), (20, vec![7; 8]));
 }
 
 #[test]
 fn the_listing_refuses() {
     let (catalogue, table) = (bench_catalogue(), bench_table());
-    assert_eq!(model::listing(&[], &table), "CX\n");
-    assert_eq!(model::listing(&catalogue, &[]), "TX\n");
-    assert_eq!(model::listing(&[], &[0; 70_000]), "CX\n");
-    assert_eq!(model::listing(&catalogue, &[0; 70_000]), "TX\n");
+    assert_eq!(judge::listing(&[], &table), "CX\n");
+    assert_eq!(judge::listing(&catalogue, &[]), "TX\n");
+    assert_eq!(judge::listing(&[], &[0; 70_000]), "CX\n");
+    assert_eq!(judge::listing(&catalogue, &[0; 70_000]), "TX\n");
     // A sound table that is longer than the program takes: C = 17, M = 4,096.
     let wide = crate::desk::catalogue(&[[0, 16, 0, 0, 0]], &[]);
     let long = crate::desk::table(17, 4096, &[]);
-    assert_eq!(model::table_check(&wide, &long), 0);
-    assert_eq!(model::listing(&wide, &long), "TX\n");
+    assert_eq!(judge::table_check(&wide, &long), 0);
+    assert_eq!(judge::listing(&wide, &long), "TX\n");
 }

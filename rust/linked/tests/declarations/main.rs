@@ -1,0 +1,91 @@
+//! The header for C, the declarations for Rust and the functions that the crates export say the same. Nothing else
+//! holds them together: a linker looks at names alone.
+
+mod constants;
+mod faults;
+mod header;
+mod signature;
+mod source;
+
+use signature::{differences, Signature, Stated};
+use std::fs;
+use std::path::{Path, PathBuf};
+
+const HEADER: &str = "include/umbristal.h";
+const DECLARED: &str = "rust/linked/src/lib.rs";
+const TABLE: &str = "rust/face/src/lib.rs";
+const CRATES: &str = "crates";
+
+fn repository() -> PathBuf {
+    Path::new(env!("CARGO_MANIFEST_DIR")).join("../..")
+}
+
+fn text(file: &str) -> String {
+    fs::read_to_string(repository().join(file)).unwrap_or_else(|error| panic!("{file}: {error}"))
+}
+
+/// Every file of the crates' sources, wherever in them a function is exported.
+fn sources() -> Vec<PathBuf> {
+    let mut folders: Vec<PathBuf> = entries(&repository().join(CRATES))
+        .into_iter()
+        .map(|each| each.join("src"))
+        .filter(|each| each.is_dir())
+        .collect();
+    let mut files = Vec::new();
+    while let Some(folder) = folders.pop() {
+        for entry in entries(&folder) {
+            match entry.is_dir() {
+                true => folders.push(entry),
+                false => files.push(entry),
+            }
+        }
+    }
+    files.retain(|file| file.extension().is_some_and(|ending| ending == "rt"));
+    files
+}
+
+fn entries(folder: &Path) -> Vec<PathBuf> {
+    let read = fs::read_dir(folder).unwrap_or_else(|error| panic!("{folder:?}: {error}"));
+    read.map(|entry| entry.expect("an entry of a folder").path())
+        .collect()
+}
+
+fn exported() -> Result<Vec<Signature>, String> {
+    let mut all = Vec::new();
+    for file in sources() {
+        let text = fs::read_to_string(&file).unwrap_or_else(|error| panic!("{file:?}: {error}"));
+        all.extend(source::exported(&text)?);
+    }
+    Ok(all)
+}
+
+fn read(place: &'static str, read: Result<Vec<Signature>, String>) -> Stated {
+    let functions = read.unwrap_or_else(|fault| panic!("{place}: {fault}"));
+    assert!(!functions.is_empty(), "{place}: no function is found");
+    Stated { place, functions }
+}
+
+#[test]
+fn header_declarations_and_exports_agree() {
+    let header = read(HEADER, header::functions(&text(HEADER)));
+    let declared = read(DECLARED, source::declared(&text(DECLARED)));
+    let exported = read(CRATES, exported());
+    let mut found = differences(&header, &declared);
+    found.extend(differences(&header, &exported));
+    assert!(found.is_empty(), "{}", found.join("\n"));
+}
+
+#[test]
+fn every_function_is_in_the_table() {
+    let declared = read(DECLARED, source::declared(&text(DECLARED)));
+    let table = text(TABLE);
+    for function in declared.functions {
+        let name = function.name.trim_start_matches("umbristal_");
+        let field = format!("pub {name}: ");
+        assert!(
+            table.contains(&field),
+            "{}: no `{name}` in `Functions` of {TABLE}, so that nothing compares it",
+            function.name
+        );
+    }
+}
