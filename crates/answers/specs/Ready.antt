@@ -18,9 +18,10 @@ use Rattle.terms.specs.Moves.{movedOnto}
 use Rattle.rules.specs.Block.{Bytes}
 use Rattle.rules.specs.Catalogue.{goodCatalogue, lengthOf, level}
 use Rattle.rules.specs.Table.{goodTable, listing}
-use Rattle.rules.specs.Cells.{Segment, segment}
+use Rattle.rules.specs.Cells.{Segment, segment, shownBytes}
 use Rattle.rules.specs.Position.{goodPosition}
 use Rattle.rules.specs.Arguments.{listRead}
+use Rattle.rules.specs.Change.{nothing}
 use Rattle.rules.specs.Calls.{After, bare, afterMiss, over, answerOf}
 use Rattle.rules.specs.Outcome.{Outcome}
 use Rattle.cells.specs.Sound.{Sound}
@@ -48,12 +49,12 @@ pub record Held (cat tab : Bytes) (size : ℕ) (pos : Position) : Type 0 where
 
 -- what a get leaves: its answer and the area; the cells stay
 abbrev pub left : Answer → Bytes → After
-left r area = record { answer = r; cells = none; area = area }
+left r area = record { answer = r; change = nothing; cells = none; area = area }
 
 -- a get that found cell i
 abbrev pub gotAt : Bytes → List Segment → Status → Parentage → Bool → ℕ → Bytes → After
 gotAt cat cs s parentage hold i area =
-    left (answerOf cat s (movedOnto i parentage hold) (segment cs i) 0) (over (segment cs i .bytes) area)
+    left (answerOf cat s (movedOnto i parentage hold) (segment cs i) 0) (over (shownBytes cat (segment cs i)) area)
 
 -- GB for an empty list, GE for another
 abbrev pub missedStatus : Bytes → Status

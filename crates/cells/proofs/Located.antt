@@ -22,7 +22,7 @@ use Rattle.forest.specs.Numbers.{range, downTo}
 use Rattle.rules.specs.Block.{Bytes, byte, part, every, zeros, marked}
 use Rattle.rules.specs.Catalogue.{lengthOf, keyStart, keyLength, level, isType, goodCatalogue}
 use Rattle.rules.specs.Cells.{Segment, segment, segmentOf, key, keyOrder, levelAt, runAt, endAt, goodListing}
-use Rattle.rules.specs.Order.{order}
+use Rattle.rules.specs.Order.{order, valueOrder}
 use Rattle.rules.specs.Table.{count, cellSize, cellStart, room, typeAt, segmentAt, listing, padded, goodRoom, goodTable}
 use Rattle.rules.proofs.Cells.{listing-at, listing-length}
 use Rattle.cells.specs.Lent.{Sized, Alike, Inside, behind, nearest, endFrom, climbed, parentAt}
@@ -130,7 +130,7 @@ module _ {cat tab : Bytes} {size i j : ℕ} (s : Sized cat tab size) (a : Alike 
   pub keys-order : (start long : ℕ) → start ≡ keyStart cat t → long ≡ keyLength cat t
       → order (part tab (8 + i * size + start) (8 + i * size + start + long - (8 + i * size + start))) (part tab (8 + j * size + start) (8 + j * size + start + long - (8 + j * size + start)))
       ≡ keyOrder cat (segment (listing cat tab) i) (segment (listing cat tab) j)
-  unfolding keyOrder
+  unfolding keyOrder valueOrder
   keys-order start long p q =
       let x : 8 + i * size + start + long - (8 + i * size + start) ≡ long = omega arith in
       let y : 8 + j * size + start + long - (8 + j * size + start) ≡ long = omega arith in

@@ -15,9 +15,10 @@ use Rattle.terms.specs.declared.Status.the-variants.{Blank, DA}
 use Rattle.terms.specs.Moves.{placeCell, placeNumber, holdDropped, afterDelete}
 use Rattle.forest.specs.Good.{both-left, both-right}
 use Rattle.rules.specs.Block.{Bytes, sameBytes}
-use Rattle.rules.specs.Cells.{Segment, segment, segmentOf, long, key, runAt, endAt}
+use Rattle.rules.specs.Cells.{Segment, segment, segmentOf, arriving, long, key, runAt, endAt}
 use Rattle.rules.specs.Table.{count, room, listing, tableBytes}
 use Rattle.rules.specs.Position.{goodPlace, goodParentage, goodHold, goodPosition}
+use Rattle.rules.specs.Change.{swap}
 use Rattle.rules.specs.Calls.{After, bare, refused, answerOf, changed, replaced, replacement, replace, deleted, delete}
 use Rattle.rules.specs.Outcome.{landed}
 use Rattle.rules.proofs.Cells.{listing-length}
@@ -55,10 +56,10 @@ module _ {cat tab : Bytes} {size : ℕ} {pos : Position} (s : Held cat tab size 
   module _ {t : TypeCode} (f : t ≡ segment cs (c .0) .code) where
     module _ (area : Bytes) (a : size ≤ suc (length area)) where
       abbrev same : Bool
-      same = sameBytes (key cat (segment cs (c .0))) (key cat (segmentOf cat t area))
+      same = sameBytes (key cat (segment cs (c .0))) (key cat (arriving cat t area))
 
       abbrev place-now : After
-      place-now = replaced cat cs pos area (c .0) (segmentOf cat t area) (set cs (c .0) (segmentOf cat t area))
+      place-now = replaced cat cs pos area (c .0) (arriving cat t area) (set cs (c .0) (arriving cat t area))
 
       replace-is : place-now ≡ replace cat cs pos area
       unfolding replace replacement
@@ -72,10 +73,10 @@ module _ {cat tab : Bytes} {size : ℕ} {pos : Position} (s : Held cat tab size 
       replace-ready = record { sound = s .sound; used = held-cell; long = area-long (s .sound) (segment cs (c .0) .code) area (cell-known (s .sound) (c .0) held-cell) a }
 
       pub replace-done : same ≡ true → made (told cat Blank (holdDropped pos) t 0) (withData cat tab (c .0) area) area ≡ landed cat tab (replace cat cs pos area)
-      unfolding replaced changed answerOf long told withData segmentOf
+      unfolding replaced changed answerOf long told withData arriving segmentOf
       replace-done h =
-          let w : place-now ≡ changed cat (holdDropped pos) (segmentOf cat t area) 0 (set cs (c .0) (segmentOf cat t area)) area = rw h in
-          ap (λ (u : TypeCode). made (told cat Blank (holdDropped pos) t 0) (tableBytes cat (room cat tab) (set cs (c .0) (segmentOf cat u area))) area) (sym f) ∙ ap (landed cat tab) (sym w ∙ replace-is)
+          let w : place-now ≡ changed cat (holdDropped pos) (arriving cat t area) 0 (swap (c .0) (arriving cat t area)) (set cs (c .0) (arriving cat t area)) area = rw h in
+          ap (λ (u : TypeCode). made (told cat Blank (holdDropped pos) t 0) (tableBytes cat (room cat tab) (set cs (c .0) (arriving cat u area))) area) (sym f) ∙ ap (landed cat tab) (sym w ∙ replace-is)
 
     module _ {end : ℕ} (g : end ≡ endAt cat cs (c .0)) where
       pub run-bounds : (c .0 < end) × (end ≤ count tab) × (count tab ≤ 4096)
@@ -92,5 +93,5 @@ module _ {cat tab : Bytes} {size : ℕ} {pos : Position} (s : Held cat tab size 
 
       pub delete-done : (area : Bytes) → made (told cat Blank (afterDelete (c .0) (end - c .0) pos) t (end - c .0)) (withoutCells cat tab (c .0) end) area
           ≡ landed cat tab (delete cat cs pos area)
-      unfolding delete deleted changed answerOf long told withoutCells
+      unfolding delete deleted changed answerOf long told withoutCells endAt
       delete-done area = rw (run-size, f, g, e)

@@ -9,7 +9,7 @@ use lib.Seq.{take-take}
 use Rattle.terms.specs.declared.TypeCode.{TypeCode}
 use Rattle.rules.specs.Block.{Bytes, part, sameBytes}
 use Rattle.rules.specs.Catalogue.{isType, lengthOf, keyStart, keyLength}
-use Rattle.rules.specs.Cells.{segment, segmentOf, key}
+use Rattle.rules.specs.Cells.{segment, segmentOf, arriving, key}
 use Rattle.rules.specs.Table.{count, cellSize, listing}
 use Rattle.cells.specs.Sound.{Sound}
 use Rattle.cells.proofs.Entries.{key-in, length-in}
@@ -42,8 +42,8 @@ module _ {cat tab : Bytes} {size i : ℕ} {t : TypeCode} (s : Sound cat tab size
 
   module _ (long : ℕ) (f : long ≡ keyLength cat t) where
     -- without a key there is nothing to compare
-    pub key-none : long ≡ 0 → true ≡ sameBytes (key cat (segment (listing cat tab) i)) (key cat (segmentOf cat t area))
-    unfolding key segmentOf sameBytes
+    pub key-none : long ≡ 0 → true ≡ sameBytes (key cat (segment (listing cat tab) i)) (key cat (arriving cat t area))
+    unfolding key arriving segmentOf sameBytes
     key-none z =
         let k : keyLength cat t ≡ 0 = sym f ∙ z in
         let m : keyLength cat (segment (listing cat tab) i .code) ≡ 0 = rw (← e) k in
@@ -62,8 +62,8 @@ module _ {cat tab : Bytes} {size i : ℕ} {t : TypeCode} (s : Sound cat tab size
           first zero k = absurd (k refl)
           first (suc n) k = omega arith
 
-      area-key : part area (start - 1) long ≡ key cat (segmentOf cat t area)
-      unfolding key segmentOf
+      area-key : part area (start - 1) long ≡ key cat (arriving cat t area)
+      unfolding key arriving segmentOf
       area-key =
           rw (f, g)
           (sym (part-front (keyLength cat t) (keyStart cat t - 1) (lengthOf cat t) area (omega (arith, key-in cat (s .catalogue) t known .0, key-bounds .0, g))))
@@ -73,7 +73,7 @@ module _ {cat tab : Bytes} {size i : ℕ} {t : TypeCode} (s : Sound cat tab size
 
       -- the bytes that the code compares are the keys
       pub key-same : sameBytes (part tab (8 + i * size + start) (8 + i * size + start + long - (8 + i * size + start))) (part area (start - 1) (start - 1 + long - (start - 1)))
-          ≡ sameBytes (key cat (segment (listing cat tab) i)) (key cat (segmentOf cat t area))
+          ≡ sameBytes (key cat (segment (listing cat tab) i)) (key cat (arriving cat t area))
       key-same =
           let x : 8 + i * size + start + long - (8 + i * size + start) ≡ long = omega arith in
           let y : start - 1 + long - (start - 1) ≡ long = omega arith in

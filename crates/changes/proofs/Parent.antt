@@ -58,7 +58,7 @@ module _ {cat tab list : Bytes} {size : ℕ} {t : TypeCode} (g : Good cat tab li
   whole-type i h e f =
       let own : TypeCode = segment cs i .code in
       let a : isIn (own .0) (lineage cat t) ≡ true =
-      both-left (isIn (own .0) (lineage cat t)) (satisfies cat (segment cs i .bytes) (askedOf cat list (listRead cat list .arguments) own))
+      both-left (isIn (own .0) (lineage cat t)) (satisfies cat (segment cs i) (askedOf cat list (listRead cat list .arguments) own))
       (sym (agrees-own cat list (listRead cat list .arguments) cs i (g .catalogue) t (g .known) (level-some g i h))
       ∙ full-agrees cat cs ls (count tab) (steps g) i (stretchBefore cat cs ls i) h (carried-cell g i (stretchBefore cat cs ls i) h refl) e) in
       let b : (eqb (own .0) (t .0) || isIn (own .0) (lineage cat (parentOf cat t))) ≡ true = sym (ap (isIn (own .0)) (lineage-up cat (g .catalogue) t some (g .known))) ∙ a in

@@ -19,10 +19,11 @@ use Rattle.terms.specs.Moves.{afterInsert}
 use Rattle.forest.specs.Forest.{cellsOf}
 use Rattle.rules.specs.Block.{Bytes}
 use Rattle.rules.specs.Catalogue.{keyKind}
-use Rattle.rules.specs.Cells.{Segment, segmentOf, long, segmentLevel, endAt, runAt, rowAt}
+use Rattle.rules.specs.Cells.{Segment, segmentOf, arriving, long, segmentLevel, endAt, runAt, rowAt}
 use Rattle.rules.specs.Table.{count, room, listing}
 use Rattle.rules.specs.Arguments.{Level}
 use Rattle.rules.specs.Matching.{along}
+use Rattle.rules.specs.Change.{put, applied}
 use Rattle.rules.specs.Calls.{After, bare, refused, afterMiss, isOneOf, answerOf, changed, keyTaken, inserted, insertAmong, insertUnder, insert}
 use Rattle.rules.specs.Outcome.{Outcome, landed}
 use Rattle.rules.proofs.Cells.{listing-length, row-run}
@@ -51,12 +52,12 @@ module _ (cat tab : Bytes) (p : ℕ) (h : p < count tab) (parentage : Parentage)
   above-within q end e l f = sym (above-run q e ∙ rw (le-leb (q .0) p l, ← f))
 
 module _ {cat tab area : Bytes} {size : ℕ} {t : TypeCode} (n : New cat tab size t area) (pos : Position) {from to : ℕ} (b : Beneath cat tab t from to) (beneath : Bool)
-    {s : Spot} (e : s ≡ spotAmong cat (listing cat tab) (segmentOf cat t area) from to) where
+    {s : Spot} (e : s ≡ spotAmong cat (listing cat tab) (arriving cat t area) from to) where
   abbrev cs : List Segment
   cs = listing cat tab
 
   abbrev x : Segment
-  x = segmentOf cat t area
+  x = arriving cat t area
 
   abbrev after : After
   after = insertedAmong cat cs pos area (room cat tab) x beneath from (to - from)
@@ -109,13 +110,13 @@ module _ {cat tab area : Bytes} {size : ℕ} {t : TypeCode} (n : New cat tab siz
       }
 
       pub among-done : made (told cat Blank (afterInsert (s .at) beneath pos) t 0) (withCell cat tab (s .at) t area) area ≡ landed cat tab after
-      unfolding insertedAmong changed answerOf long told withCell segmentOf passed
+      unfolding insertedAmong changed answerOf long told withCell arriving segmentOf passed
       among-done =
           let z : isTaken ≡ false = sym taken-is ∙ h in
           let r : ℕ = from + passed cat cs x from in
-          let w : after ≡ changed cat (afterInsert r beneath pos) x 0 (take r cs ++ x ∷ drop r cs) area =
+          let w : after ≡ changed cat (afterInsert r beneath pos) x 0 (put r (x ∷ [])) (applied (put r (x ∷ [])) cs) area =
           rw (z, ne-eqb (length cs) (room cat tab) (λ d. not-room (sym (listing-length cat tab) ∙ d))) in
-          ap (λ (i : ℕ). landed cat tab (changed cat (afterInsert i beneath pos) x 0 (take i cs ++ x ∷ drop i cs) area)) at-is ∙ ap (landed cat tab) (sym w)
+          ap (λ (i : ℕ). landed cat tab (changed cat (afterInsert i beneath pos) x 0 (put i (x ∷ [])) (applied (put i (x ∷ [])) cs) area)) at-is ∙ ap (landed cat tab) (sym w)
 
 -- the parent's cells: all for type 1, else those behind the parent in its run
 none-above : (parentage : Parentage) → isOneOf [] parentage ≡ false
@@ -133,19 +134,19 @@ module _ (cat tab : Bytes) (pos : Position) (area : Bytes) {read last : Argument
   inserts = landed cat tab (insert cat all pos area (room cat tab) (last .code) ls)
 
   abbrev among : Bool → ℕ → ℕ → Outcome
-  among beneath i k = landed cat tab (insertedAmong cat all pos area (room cat tab) (segmentOf cat t area) beneath i k)
+  among beneath i k = landed cat tab (insertedAmong cat all pos area (room cat tab) (arriving cat t area) beneath i k)
 
   among-is : (above : List ℕ) (i k : ℕ)
-      → insertAmong cat all pos area (room cat tab) (segmentOf cat t area) above i k
-      ≡ insertedAmong cat all pos area (room cat tab) (segmentOf cat t area) (isOneOf above (pos .parentage)) i k
+      → insertAmong cat all pos area (room cat tab) (arriving cat t area) above i k
+      ≡ insertedAmong cat all pos area (room cat tab) (arriving cat t area) (isOneOf above (pos .parentage)) i k
   unfolding insertAmong inserted insertedAmong
   among-is above i k = refl
 
-  insert-first : t .0 ≡ 1 → insert cat all pos area (room cat tab) t ls ≡ insertAmong cat all pos area (room cat tab) (segmentOf cat t area) [] 0 (length all)
+  insert-first : t .0 ≡ 1 → insert cat all pos area (room cat tab) t ls ≡ insertAmong cat all pos area (room cat tab) (arriving cat t area) [] 0 (length all)
   unfolding insert
   insert-first e = rw (eq-eqb (t .0) 1 e)
 
-  insert-other : (t .0 ≡ 1 → ⊥) → insert cat all pos area (room cat tab) t ls ≡ insertUnder cat all pos area (room cat tab) (segmentOf cat t area) (along cat all ls (pos .place))
+  insert-other : (t .0 ≡ 1 → ⊥) → insert cat all pos area (room cat tab) t ls ≡ insertUnder cat all pos area (room cat tab) (arriving cat t area) (along cat all ls (pos .place))
   unfolding insert
   insert-other e = rw (ne-eqb (t .0) 1 e)
 
@@ -161,7 +162,7 @@ module _ (cat tab : Bytes) (pos : Position) (area : Bytes) {read last : Argument
   module _ (e : t .0 ≡ 1 → ⊥) where
     pub insert-none : Nothing ≡ along cat all ls (pos .place) → made (bare GE (afterMiss GE pos)) tab area ≡ inserts
     insert-none f =
-        ap (landed cat tab) (ap (insertUnder cat all pos area (room cat tab) (segmentOf cat t area)) f ∙ sym (insert-other e)) ∙ same-type
+        ap (landed cat tab) (ap (insertUnder cat all pos area (room cat tab) (arriving cat t area)) f ∙ sym (insert-other e)) ∙ same-type
 
     pub insert-child : (p : CellNumber) (end : ℕ) (beneath : Bool) → At p ≡ along cat all ls (pos .place) → end ≡ endAt cat all (p .0)
         → beneath ≡ isOneOf (rowAt cat all (p .0)) (pos .parentage) → among beneath (p .0 + 1) (end - (p .0 + 1)) ≡ inserts
@@ -171,4 +172,4 @@ module _ (cat tab : Bytes) (pos : Position) (area : Bytes) {read last : Argument
         let k : end - (p .0 + 1) ≡ runAt cat all (p .0) - 1 = omega (arith, g) in
         ap (λ (m : ℕ). among beneath m (end - (p .0 + 1))) i ∙ ap (among beneath (suc (p .0))) k ∙ ap (λ (d : Bool). among d (suc (p .0)) (runAt cat all (p .0) - 1)) h
         ∙ ap (landed cat tab) (sym (among-is (rowAt cat all (p .0)) (suc (p .0)) (runAt cat all (p .0) - 1)))
-        ∙ ap (landed cat tab) (ap (insertUnder cat all pos area (room cat tab) (segmentOf cat t area)) f ∙ sym (insert-other e)) ∙ same-type
+        ∙ ap (landed cat tab) (ap (insertUnder cat all pos area (room cat tab) (arriving cat t area)) f ∙ sym (insert-other e)) ∙ same-type

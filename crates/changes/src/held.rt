@@ -19,7 +19,7 @@ ghost use mathlib.Core.Bool.{true};
 ghost use Prim.Native.Nat.{suc, _<_, _≤_};
 ghost use lib.ListN.{length};
 ghost use Rattle.rules.specs.Block.{Bytes, sameBytes};
-ghost use Rattle.rules.specs.Cells.{segment, segmentOf, key};
+ghost use Rattle.rules.specs.Cells.{segment, arriving, key};
 ghost use Rattle.rules.specs.Table.{count, listing};
 ghost use Rattle.rules.specs.Calls.{replace, delete};
 ghost use Rattle.rules.specs.Outcome.{landed};
@@ -29,7 +29,7 @@ ghost use Rattle.answers.specs.Ready.{Held, made};
 // Whether the area has the key of cell c, a segment of type t, byte for byte.
 fn has_key(cat: &[u8], tab: &[u8], size: usize, c: CellNumber, t: TypeCode, area: &[u8]) -> bool
     requires { ⌜ Sound (now cat) (now tab) size × (c .0 < count (now tab)) × (t ≡ segment (listing (now cat) (now tab)) (c .0) .code) × (size ≤ suc (length (now area))) ⌝ }
-    ensures { λ r. ⌜ r ≡ sameBytes (key (now (cat .entry)) (segment (listing (now (cat .entry)) (now (tab .entry))) (c .0))) (key (now (cat .entry)) (segmentOf (now (cat .entry)) t (now (area .entry)))) ⌝ }
+    ensures { λ r. ⌜ r ≡ sameBytes (key (now (cat .entry)) (segment (listing (now (cat .entry)) (now (tab .entry))) (c .0))) (key (now (cat .entry)) (arriving (now (cat .entry)) t (now (area .entry)))) ⌝ }
 {
     let long = wide(key_length(cat, t));
     if long == 0 {

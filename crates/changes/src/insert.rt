@@ -19,7 +19,7 @@ use update::edits::insert_cell_sound;
 ghost use mathlib.Core.Path.{_≡_};
 ghost use Prim.Native.Nat.{suc, _-_, _<_, _≤_};
 ghost use lib.ListN.{length};
-ghost use Rattle.rules.specs.Cells.{segmentOf, rowAt};
+ghost use Rattle.rules.specs.Cells.{arriving, rowAt};
 ghost use Rattle.rules.specs.Table.{count, room, listing};
 ghost use Rattle.rules.specs.Arguments.{listRead, lastArgument, parentLevels};
 ghost use Rattle.rules.specs.Calls.{isOneOf, insert};
@@ -56,7 +56,7 @@ fn insert_among(
     beneath: bool,
 ) -> Answer
     requires { ⌜ New (now cat) (now tab) size t (now area) × Beneath (now cat) (now tab) t from to ⌝ }
-    ensures { λ r. ⌜ made r (now (tab .exit)) (now (area .entry)) ≡ landed (now (cat .entry)) (now (tab .entry)) (insertedAmong (now (cat .entry)) (listing (now (cat .entry)) (now (tab .entry))) pos (now (area .entry)) (room (now (cat .entry)) (now (tab .entry))) (segmentOf (now (cat .entry)) t (now (area .entry))) beneath from (to - from)) ⌝ }
+    ensures { λ r. ⌜ made r (now (tab .exit)) (now (area .entry)) ≡ landed (now (cat .entry)) (now (tab .entry)) (insertedAmong (now (cat .entry)) (listing (now (cat .entry)) (now (tab .entry))) pos (now (area .entry)) (room (now (cat .entry)) (now (tab .entry))) (arriving (now (cat .entry)) t (now (area .entry))) beneath from (to - from)) ⌝ }
 {
     let spot = spot_sound(cat, tab, size, t, area, from, to);
     if spot.taken {

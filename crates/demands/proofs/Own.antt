@@ -24,7 +24,7 @@ use Rattle.forest.specs.Forest.{inside, outside, side}
 use Rattle.forest.specs.Good.{isNil, nil-of, on, off, is}
 use Rattle.rules.specs.Block.{Bytes, sameBytes}
 use Rattle.rules.specs.Catalogue.{keyKind}
-use Rattle.rules.specs.Cells.{Segment, segment, segmentOf, key, levelAt, runAt, rowAt}
+use Rattle.rules.specs.Cells.{Segment, segment, segmentOf, arriving, key, levelAt, runAt, rowAt}
 use Rattle.rules.specs.Table.{count, room, listing}
 use Rattle.rules.specs.Arguments.{ListRead, Level, listRead, lastArgument, getLevels, parentLevels, complete}
 use Rattle.rules.specs.Matching.{matches, firstMatch, along}
@@ -161,12 +161,12 @@ module _ (cat tab : Bytes) (pos : Position) (list area : Bytes) (s : SoundList c
   t = lastArgument ar .code
 
   abbrev x : Segment
-  x = segmentOf cat t area
+  x = arriving cat t area
 
   told-among : (above : List ℕ) (i n : ℕ)
       → insertAmong cat cs pos area (room cat tab) x above i n .answer .status
       ≡ pick (eqb (keyKind cat t) 1 && keyTaken cat cs x i n) II (pick (eqb (count tab) (room cat tab)) FX Blank)
-  unfolding insertAmong segmentOf
+  unfolding insertAmong arriving segmentOf
   told-among above i n =
       rw (sym (listing-length cat tab)) (inserted-status cat cs pos area (room cat tab) x above (keyTaken cat cs x i n) _ _)
 

@@ -24,11 +24,12 @@ use Rattle.forest.specs.Numbers.{isIn}
 use Rattle.forest.specs.Good.{isNil}
 use Rattle.rules.specs.Block.{Bytes, sameBytes}
 use Rattle.rules.specs.Catalogue.{keyKind, level, goodCatalogue}
-use Rattle.rules.specs.Cells.{Segment, segment, segmentOf, long, key, levelAt, runAt}
+use Rattle.rules.specs.Cells.{Segment, segment, segmentOf, arriving, shownBytes, long, key, levelAt, runAt}
 use Rattle.rules.specs.Table.{cellSize, room, listing, goodTable}
 use Rattle.rules.specs.Position.{goodPosition}
 use Rattle.rules.specs.Arguments.{Level, listRead, lastArgument, isQualified, getLevels}
 use Rattle.rules.specs.Matching.{firstMatch, along}
+use Rattle.rules.specs.Change.{Change}
 use Rattle.rules.specs.Calls.{After, refused, missed, missStatus, levelStatus, parentEnd, gotten, keyTaken, inserted, insertAmong, insertUnder, insert, replaced, replacement, replace, deleted, delete, changed, answerOf, getUnique, getNext, getNextWithin, called}
 use Rattle.rules.specs.Outcome.{isBlank, unsound, misused, stopped, unless, afterSound, afterCall, landed}
 use Rattle.model.proofs.Asked.{Usable, usable-of}
@@ -140,7 +141,7 @@ module _ (cat tab : Bytes) (pos : Position) (list area : Bytes) where
 
   says-gotten : (c : ℕ) → get c ≡ true → dlet c ≡ false → (miss : Status) → 10 ≤ number miss → number miss < 20 → (status : ℕ → Status) → ((i : ℕ) → number (status i) < 10)
       → (parentage : ℕ → Parentage) (hold : Bool) (f : Found) → Says c (gotten cat cs pos area miss status parentage hold f)
-  unfolding answerOf long
+  unfolding answerOf long shownBytes
   says-gotten c g d miss l m status low parentage hold Nothing = says-missed c miss l m
   says-gotten c g d miss l m status low parentage hold (At i) = record {
     high = λ h. absurd (omega (arith, low (i .0)));
@@ -188,19 +189,19 @@ module _ (cat tab : Bytes) (pos : Position) (list area : Bytes) where
 
   -- ISRT, REPL and DLET done
   says-changed : (c : ℕ) → get c ≡ false → (p : Position) (x : Segment) → x .code ≡ pick (isrt c) (new cat tab pos c list area) (held cat tab pos c list area) .code
-      → (n : ℕ) → n ≡ pick (dlet c && true) (runAt cat cs (placeNumber (pos .place))) 0 → (ds : List Segment) → Says c (changed cat p x n ds area)
+      → (n : ℕ) → n ≡ pick (dlet c && true) (runAt cat cs (placeNumber (pos .place))) 0 → (ch : Change) (ds : List Segment) → Says c (changed cat p x n ch ds area)
   unfolding changed answerOf long
-  says-changed c g p x e n k ds = record {
+  says-changed c g p x e n k ch ds = record {
     high = λ h. absurd (omega arith);
     low = λ h l. absurd (omega arith);
     tells = record { done = λ h. record { code = rw g e; level = rw (g, e); length = rw (g, e); written = rw g }; removed = k };
   }
 
   says-inserted : (m : ℕ) (above : List ℕ) (b : Bool) (r : ℕ) (ds : List Segment) → Says 7 (inserted cat cs pos area m (new cat tab pos 7 list area) above b r ds)
-  unfolding inserted segmentOf
+  unfolding inserted arriving segmentOf
   says-inserted m above b r ds =
       says-pick 7 (eqb (keyKind cat (lastArgument (listRead cat list .arguments) .code)) 1 && b) _ _ (λ e. says-refused 7 II (omega arith))
-      (λ e. says-pick 7 (eqb (length cs) m) _ _ (λ f. says-refused 7 FX (omega arith)) (λ f. says-changed 7 refl _ (new cat tab pos 7 list area) refl 0 refl ds))
+      (λ e. says-pick 7 (eqb (length cs) m) _ _ (λ f. says-refused 7 FX (omega arith)) (λ f. says-changed 7 refl _ (new cat tab pos 7 list area) refl 0 refl _ ds))
 
   says-among : (m : ℕ) (above : List ℕ) (i n : ℕ) → Says 7 (insertAmong cat cs pos area m (new cat tab pos 7 list area) above i n)
   unfolding insertAmong
@@ -215,15 +216,15 @@ module _ (cat tab : Bytes) (pos : Position) (list area : Bytes) where
   says-insert m ls = says-pick 7 (eqb (lastArgument (listRead cat list .arguments) .code .0) 1) _ _ (λ e. says-among m _ _ _) (λ e. says-beneath m (along cat cs ls (pos .place)))
 
   says-replace : Says 8 (replace cat cs pos area)
-  unfolding replace replaced replacement segmentOf
+  unfolding replace replaced replacement arriving segmentOf
   says-replace =
       let i : ℕ = placeNumber (pos .place) in
       says-pick 8 (not (sameBytes (key cat (segment cs i)) (key cat (replacement cat cs pos area i)))) _ _ (λ e. says-refused 8 DA (omega arith))
-      (λ e. says-changed 8 refl _ (replacement cat cs pos area i) refl 0 refl _)
+      (λ e. says-changed 8 refl _ (replacement cat cs pos area i) refl 0 refl _ _)
 
   says-delete : Says 9 (delete cat cs pos area)
   unfolding delete deleted
-  says-delete = says-changed 9 refl _ (segment cs (placeNumber (pos .place))) refl (runAt cat cs (placeNumber (pos .place))) refl _
+  says-delete = says-changed 9 refl _ (segment cs (placeNumber (pos .place))) refl (runAt cat cs (placeNumber (pos .place))) refl _ _
 
   says-called : (m c : ℕ) → 1 ≤ c → c ≤ 9 → Says c (called cat cs pos area m c list (listRead cat list .arguments))
   unfolding called

@@ -21,7 +21,7 @@ use Rattle.terms.specs.Moves.{placeNumber, afterPlace, isAbsent}
 use Rattle.forest.specs.Good.{isNil}
 use Rattle.rules.specs.Block.{Bytes, sameBytes}
 use Rattle.rules.specs.Catalogue.{keyKind, goodCatalogue}
-use Rattle.rules.specs.Cells.{Segment, segment, segmentOf, key, levelAt, runAt}
+use Rattle.rules.specs.Cells.{Segment, segment, arriving, key, levelAt, runAt}
 use Rattle.rules.specs.Table.{count, cellSize, room, listing, goodTable}
 use Rattle.rules.specs.Position.{goodPosition}
 use Rattle.rules.specs.Arguments.{listRead, lastArgument, isQualified, getLevels, parentLevels}
@@ -114,7 +114,7 @@ module _ (cat tab : Bytes) (pos : Position) (c : ℕ) (list area : Bytes) where
   newType = lastArgument arguments .code
 
   abbrev pub new : Segment
-  new = segmentOf cat newType area
+  new = arriving cat newType area
 
   abbrev pub root : Bool
   root = eqb (newType .0) 1
@@ -139,7 +139,7 @@ module _ (cat tab : Bytes) (pos : Position) (c : ℕ) (list area : Bytes) where
   ownRows =
       row GB (next c && isNil list && leb (count tab) (afterPlace (pos .place)))
       ∷ row GE ((get c && not (next c && isNil list) && isNothing found) || (isrt c && (not root && isNothing parent)))
-      ∷ row DA (repl c && not (sameBytes (key cat held) (key cat (segmentOf cat (held .code) area))))
+      ∷ row DA (repl c && not (sameBytes (key cat held) (key cat (arriving cat (held .code) area))))
       ∷ row II (isrt c && (eqb (keyKind cat newType) 1 && taken))
       ∷ row FX (isrt c && eqb (count tab) (room cat tab))
       ∷ row GA (stepped && ltb foundLevel placeLevel)

@@ -15,7 +15,7 @@ use Rattle.forest.specs.Forest.{Forest, void, node, cellsOf, forestOf, cells-fo
 use Rattle.forest.specs.Good.{Wf, formed-wf, both-left}
 use Rattle.rules.specs.Block.{Bytes, byte, word, wordBytes, part, every, zeros, marked}
 use Rattle.rules.specs.Catalogue.{parentOf, lengthOf, isType}
-use Rattle.rules.specs.Cells.{Segment, segment, blank, segmentOf, typeNumber, isChild, siblings, segmentLevel, goodListing}
+use Rattle.rules.specs.Cells.{Segment, segment, blank, segmentOf, arriving, typeNumber, isChild, siblings, segmentLevel, goodListing}
 use Rattle.rules.specs.Table.{count, cellSize, cellStart, room, typeAt, segmentAt, listing, goodRoom, padded, goodTable, cellBytes, tableBytes}
 use Rattle.rules.proofs.Every.{every-at}
 use Rattle.rules.proofs.Cells.{listing-at, listing-length}
@@ -37,14 +37,23 @@ module _ (cat : Bytes) where
 
   -- a segment from the front of an area that is long enough
   module _ (t : TypeCode) (area : Bytes) (l : lengthOf cat t ≤ length area) where
-    pub segment-fits : isType cat t ≡ true → IsBytes area → Fits cat (segmentOf cat t area)
+    segment-fits : isType cat t ≡ true → IsBytes area → Fits cat (segmentOf cat t area)
     unfolding segmentOf
     segment-fits k h = record { known = k; long = omega (arith, length-take-le (lengthOf cat t) area l); bytes = bytes-take (lengthOf cat t) area h }
 
-    pub new-cell : cellBytes cat (segmentOf cat t area) ≡ t .0 ∷ (take (lengthOf cat t) area ++ replicate (cellSize cat - suc (lengthOf cat t)) 0)
+    new-cell : cellBytes cat (segmentOf cat t area) ≡ t .0 ∷ (take (lengthOf cat t) area ++ replicate (cellSize cat - suc (lengthOf cat t)) 0)
     unfolding cellBytes segmentOf
     new-cell =
         ap (λ (n : ℕ). t .0 ∷ (take (lengthOf cat t) area ++ replicate (cellSize cat - suc n) 0)) (length-take-le (lengthOf cat t) area l)
+
+    -- the same of a segment that arrives in the area
+    pub arriving-fits : isType cat t ≡ true → IsBytes area → Fits cat (arriving cat t area)
+    unfolding arriving
+    arriving-fits k h = segment-fits k h
+
+    arriving-cell : cellBytes cat (arriving cat t area) ≡ t .0 ∷ (take (lengthOf cat t) area ++ replicate (cellSize cat - suc (lengthOf cat t)) 0)
+    unfolding arriving
+    arriving-cell = new-cell
 
   -- the bytes of cells, by the number of cells
   pub row-length : (cs : List Segment) → All (Fits cat) cs → length (rowBytes cs) ≡ length cs * cellSize cat
@@ -416,7 +425,7 @@ module _ (cat : Bytes) where
 
       -- as REPL stores them: "the area's first L bytes in the held cell", whose type's code and zeros stay
       pub replace-data : (i : ℕ) (area : Bytes) → i < count tab → lengthOf cat (typeAt cat tab i) ≤ length area
-          → tableBytes cat (room cat tab) (set (listing cat tab) i (segmentOf cat (segment (listing cat tab) i .code) area))
+          → tableBytes cat (room cat tab) (set (listing cat tab) i (arriving cat (segment (listing cat tab) i .code) area))
           ≡ take (suc (cellStart cat i)) tab ++ (take (lengthOf cat (typeAt cat tab i)) area ++ drop (suc (cellStart cat i) + lengthOf cat (typeAt cat tab i)) tab)
       unfolding cellStart typeAt
       replace-data i area l a =
@@ -430,10 +439,10 @@ module _ (cat : Bytes) where
           let z : 8 + suc i * cellSize cat ≡ suc A + L + r = omega (arith, length-cell cat t (table-known i l)) in
           let e : P ++ E ≡ drop (suc A + L) tab =
           ap (λ (k : ℕ). P ++ drop k tab) z ∙ ap (λ (b : Bytes). P ++ b) (sym (drop-drop r (suc A + L) tab)) ∙ take-append-drop r (drop (suc A + L) tab) in
-          let c : cellBytes cat (segmentOf cat t area) ++ E ≡ byte tab A ∷ (X ++ drop (suc A + L) tab) =
-          ap (λ (b : Bytes). b ++ E) (new-cell t area a ∙ ap (λ (b : Bytes). byte tab A ∷ (X ++ b)) (sym (table-padded i l)))
+          let c : cellBytes cat (arriving cat t area) ++ E ≡ byte tab A ∷ (X ++ drop (suc A + L) tab) =
+          ap (λ (b : Bytes). b ++ E) (arriving-cell t area a ∙ ap (λ (b : Bytes). byte tab A ∷ (X ++ b)) (sym (table-padded i l)))
           ∙ ap (_∷_ (byte tab A)) (append-assoc X P E ∙ ap (λ (b : Bytes). X ++ b) e) in
-          ap (λ (u : TypeCode). tableBytes cat (room cat tab) (set (listing cat tab) i (segmentOf cat u area))) (code-at i l)
-          ∙ replace-cell i (segmentOf cat t area) l ∙ ap (λ (b : Bytes). take A tab ++ b) c
+          ap (λ (u : TypeCode). tableBytes cat (room cat tab) (set (listing cat tab) i (arriving cat u area))) (code-at i l)
+          ∙ replace-cell i (arriving cat t area) l ∙ ap (λ (b : Bytes). take A tab ++ b) c
           ∙ sym (append-snoc (take A tab) (byte tab A) (X ++ drop (suc A + L) tab))
           ∙ ap (λ (b : Bytes). b ++ (X ++ drop (suc A + L) tab)) (sym (take-suc tab A 0 (omega (arith, cell-in i l, cell-some cat))))

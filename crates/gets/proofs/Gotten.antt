@@ -28,7 +28,7 @@ use Rattle.forest.specs.Runs.{under, under-in, under-out}
 use Rattle.forest.specs.Numbers.{range}
 use Rattle.rules.specs.Block.{Bytes}
 use Rattle.rules.specs.Catalogue.{types, parentOf, lengthOf, isType, level, typeBeneath}
-use Rattle.rules.specs.Cells.{Segment, segment, long as segmentLong, levelAt, runAt, endAt}
+use Rattle.rules.specs.Cells.{Segment, segment, shownBytes, long as segmentLong, levelAt, runAt, endAt}
 use Rattle.rules.specs.Table.{count, listing}
 use Rattle.rules.specs.Arguments.{Level, ListRead, listRead, lastArgument, complete, getLevels}
 use Rattle.rules.specs.Matching.{firstMatch, along}
@@ -61,7 +61,7 @@ pub got-is : {cat tab : Bytes} {size : ℕ} → Sound cat tab size → (i : ℕ)
     → p ≡ movedOnto i parentage hold → r ≡ told cat s p t 0
     → out ≡ take (start + long - start) (drop start tab) ++ drop (length (take (start + long - start) (drop start tab))) area
     → left r out ≡ gotAt cat (listing cat tab) s parentage hold i area
-unfolding told answerOf segmentLong
+unfolding told answerOf segmentLong shownBytes
 got-is {cat} {tab} {size} snd i l s parentage hold area out r p t start long e f g h k o =
     let n : start + long - start ≡ lengthOf cat (segment (listing cat tab) i .code) = omega (arith, f ∙ ap (lengthOf cat) g) in
     let m : start ≡ suc (8 + i * size) = omega arith in

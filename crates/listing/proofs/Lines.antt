@@ -24,7 +24,7 @@ use Rattle.terms.specs.Moves.{afterPlace, fresh, holdDropped, movedOnto}
 use Rattle.forest.specs.Good.{on, off, is}
 use Rattle.rules.specs.Block.{Bytes, byte}
 use Rattle.rules.specs.Catalogue.{goodCatalogue, lengthOf}
-use Rattle.rules.specs.Cells.{Segment, segment, levelAt, long as segmentLong}
+use Rattle.rules.specs.Cells.{Segment, segment, shownBytes, levelAt, long as segmentLong}
 use Rattle.rules.specs.Table.{count, cellSize, listing, goodTable}
 use Rattle.rules.specs.Position.{goodPosition}
 use Rattle.rules.specs.Arguments.{Level, ListRead, listRead, getLevels}
@@ -134,7 +134,8 @@ module _ (cat tab : Bytes) (pos : Position) (f : SoundFor cat tab pos) where
       status-small : number (fromPlace (pos .place) s) < 10
       status-small = rw status-is (small (pos .place))
 
-      found-is : left (answerOf cat (fromPlace (pos .place) s) (movedOnto (c .0) (Of c) false) (segment cs (c .0)) 0) (over (segment cs (c .0) .bytes) zeroArea) ≡ got
+      found-is : left (answerOf cat (fromPlace (pos .place) s) (movedOnto (c .0) (Of c) false) (segment cs (c .0)) 0) (over (shownBytes cat (segment cs (c .0))) zeroArea)
+          ≡ got
       found-is = rw status-is (sym (got-cell ∙ ap (λ (r : Read). gottenAs [] (cellOf r)) d))
 
   kept : IsBytes tab → Kept cat tab zeroArea 2 (issued cat tab pos)

@@ -26,6 +26,7 @@ use Rattle.rules.specs.Block.{Bytes, every}
 use Rattle.rules.specs.Catalogue.{keyKind, level}
 use Rattle.rules.specs.Cells.{Segment, segment, blank, segmentLevel, sameKey, keyOrder, goesBefore, rowAt}
 use Rattle.rules.specs.Matching.{pathTo}
+use Rattle.rules.specs.Change.{put}
 use Rattle.rules.specs.Calls.{After, refused, changed, isOneOf, keyTaken, inserted, insertAmong}
 use Rattle.terms.specs.Operators.{isEqual}
 use Rattle.rules.specs.Tree.{dataPart, segments, findPosition, hasKey, insertRec}
@@ -204,7 +205,7 @@ module _ (cat : Bytes) (cs : List Segment) where
     after m one taken r new =
         pick (eqb (keyKind cat (x .code)) 1 && taken) (refused II pos area)
         (pick (eqb (length cs) m) (refused FX pos area)
-        (changed cat (afterInsert r one pos) x 0 new area))
+        (changed cat (afterInsert r one pos) x 0 (put r (x ∷ [])) new area))
 
     inserted-after : (m : ℕ) (above : List ℕ) (taken : Bool) (r : ℕ) (new : List Segment) → inserted cat cs pos area m x above taken r new ≡ after m (isOneOf above (pos .parentage)) taken r new
     unfolding inserted

@@ -33,11 +33,12 @@ use Rattle.forest.specs.Insert.{spot}
 use Rattle.forest.specs.Numbers.{isIn, ancestors, run}
 use Rattle.rules.specs.Block.{Bytes, sameBytes}
 use Rattle.rules.specs.Catalogue.{parentOf, lengthOf, keyKind, level, isType, goodCatalogue}
-use Rattle.rules.specs.Cells.{Segment, segment, segmentOf, blank, typeNumber, key, isChild, goesBefore, segmentLevel, goodListing, levelAt, runAt, endAt, rowAt}
+use Rattle.rules.specs.Cells.{Segment, segment, segmentOf, arriving, shownBytes, blank, typeNumber, key, isChild, goesBefore, segmentLevel, goodListing, levelAt, runAt, endAt, rowAt}
 use Rattle.rules.specs.Table.{cellSize, room, listing, goodTable, tableBytes}
 use Rattle.rules.specs.Position.{goodPlace, goodParentage, goodHold, goodPosition}
 use Rattle.rules.specs.Arguments.{Level, complete, listRead, lastArgument, getLevels}
 use Rattle.rules.specs.Matching.{matches, seek, firstMatch, along}
+use Rattle.rules.specs.Change.{Change}
 use Rattle.rules.specs.Calls.{After, refused, missed, over, isOneOf, missStatus, levelStatus, parentEnd, answerOf, changed, keyTaken, gotten, getUnique, getNext, getNextWithin, inserted, insertAmong, insertUnder, insert, replaced, replacement, replace, deleted, delete, called}
 use Rattle.rules.specs.Outcome.{isBlank, isIsrt, isHeld, unsound, misused, stopped, unless, afterSound, afterCall, landed, outcomeOf, outcome}
 use Rattle.rules.proofs.Search.{seek-none, seek-here, seek-next}
@@ -45,7 +46,7 @@ use Rattle.rules.proofs.Cells.{listing-length}
 use Rattle.encoding.specs.Determined.{IsBytes, All, Fits}
 use Rattle.encoding.proofs.Entries.{length-cell}
 use Rattle.encoding.proofs.Lists.{bytes-drop, bytes-append, all-take, all-drop, all-append, all-at}
-use Rattle.encoding.proofs.Bytes.{rowBytes, segment-fits, table-room, table-count, table-listing, table-fits, table-head, row-first}
+use Rattle.encoding.proofs.Bytes.{rowBytes, arriving-fits, table-room, table-count, table-listing, table-fits, table-head, row-first}
 use Rattle.encoding.proofs.Made.{made-count, made-room, made-listing, made-good, made-bytes}
 use Rattle.model.specs.Kept.{Kept, TablesStayGood}
 use Rattle.model.proofs.Along.{missing, leading, along-heads}
@@ -185,7 +186,7 @@ module _ (cat : Bytes) (cs : List Segment) (m : ℕ) (area : Bytes) where
       over-long b l = omega (arith, length-append b (drop (length b) area), length-drop (length b) area)
 
       keeps-gotten : (miss : Status) (status : ℕ → Status) (parentage : ℕ → Parentage) (hold : Bool) (f : Found) → Lands parentage f → Keeps false writing (gotten cat cs pos area miss status parentage hold f)
-      unfolding answerOf
+      unfolding answerOf shownBytes
       keeps-gotten miss status parentage hold Nothing l = keeps-missed false writing miss refl
       keeps-gotten miss status parentage hold (At c) l =
           let s : Fits cat (segment cs (c .0)) = all-at (Fits cat) blank cs (c .0) whole (l .0) in
@@ -358,17 +359,17 @@ module _ (cat : Bytes) (cs : List Segment) (m : ℕ) (area : Bytes) where
 
       module _ (t : TypeCode) (known : isType cat t ≡ true) where
         abbrev x′ : Segment
-        x′ = segmentOf cat t area
+        x′ = arriving cat t area
 
         x-fits : Fits cat x′
-        x-fits = segment-fits cat t area (type-wide t known) known bytes
+        x-fits = arriving-fits cat t area (type-wide t known) known bytes
 
         x-level : segmentLevel cat x′ ≡ level cat t
-        unfolding segmentOf
+        unfolding arriving segmentOf
         x-level = refl
 
         x-child : (p : ℕ) → parentOf cat t .0 ≡ p → isChild cat p x′ ≡ true
-        unfolding segmentOf isChild
+        unfolding arriving segmentOf isChild
         x-child p e = rw (known, eq-eqb (parentOf cat t .0) p e)
 
         keeps-insert : (list : Bytes) (ar : List Argument) → Keeps true true (insert cat cs pos area m t (complete cat list ar (parentOf cat t)))
@@ -401,10 +402,10 @@ module _ (cat : Bytes) (cs : List Segment) (m : ℕ) (area : Bytes) where
         unfolding replacement
         y-fits =
             let k : isType cat (segment cs i .code) ≡ true = all-at (Fits cat) blank cs i whole on-cell .known in
-            segment-fits cat (segment cs i .code) area (type-wide (segment cs i .code) k) k bytes
+            arriving-fits cat (segment cs i .code) area (type-wide (segment cs i .code) k) k bytes
 
         y-type : typeNumber y ≡ typeNumber (segment cs i)
-        unfolding replacement segmentOf
+        unfolding replacement arriving segmentOf
         y-type = refl
 
         set-fits : All (Fits cat) (set cs i y)
@@ -493,7 +494,7 @@ module _ (cat : Bytes) (cs : List Segment) (m : ℕ) (area : Bytes) where
           }
 
       keeps-delete : Keeps false true (delete cat cs pos area)
-      unfolding delete
+      unfolding delete endAt
       keeps-delete =
           subst (λ (i : ℕ). Keeps false true (deleted cat cs pos area i (runAt cat cs i) (take i cs ++ drop (endAt cat cs i) cs))) (sym (ap placeNumber stands)) keeps-delete-at
 
@@ -541,9 +542,10 @@ module _ (cat : Bytes) (cs : List Segment) (m : ℕ) (area : Bytes) where
 
 -- from the cells to the bytes
 module _ (cat tab area : Bytes) (g : goodCatalogue cat ≡ true) (bytes : IsBytes tab) (good : goodTable cat tab ≡ true) (c : ℕ) where
-  landed-kept : (answer : Answer) (cells : Option (List Segment)) (out : Bytes) → Keeps cat (listing cat tab) (room cat tab) area (isIsrt c) (leb 7 c) (record { answer = answer; cells = cells; area = out })
-      → Kept cat tab area c (landed cat tab (record { answer = answer; cells = cells; area = out }))
-  landed-kept answer none out k =
+  landed-kept : (answer : Answer) (ch : Change) (cells : Option (List Segment)) (out : Bytes)
+      → Keeps cat (listing cat tab) (room cat tab) area (isIsrt c) (leb 7 c) (record { answer = answer; change = ch; cells = cells; area = out })
+      → Kept cat tab area c (landed cat tab (record { answer = answer; change = ch; cells = cells; area = out }))
+  landed-kept answer ch none out k =
       record {
         table = good;
         bytes = bytes;
@@ -556,7 +558,7 @@ module _ (cat tab area : Bytes) (g : goodCatalogue cat ≡ true) (bytes : IsByte
         long = k .long;
         filled = k .filled;
       }
-  landed-kept answer (some ds) out k =
+  landed-kept answer ch (some ds) out k =
       let m : ℕ = room cat tab in
       let i : ℕ = placeNumber (answer .position .place) in
       let l : listing cat (tableBytes cat m ds) ≡ ds = made-listing cat m ds (k .fits) (k .few) in
@@ -606,4 +608,4 @@ pub tables-stay-good : TablesStayGood
 unfolding outcome outcomeOf
 tables-stay-good cat tab pos c list area g bytes full good here =
     let a : After = afterCall called cat tab pos c list area in
-    landed-kept cat tab area g bytes good c (a .answer) (a .cells) (a .area) (keeps-call cat tab area g bytes good c full pos here list)
+    landed-kept cat tab area g bytes good c (a .answer) (a .change) (a .cells) (a .area) (keeps-call cat tab area g bytes good c full pos here list)

@@ -23,7 +23,7 @@ use Rattle.forest.specs.Edit.{size, kids}
 use Rattle.forest.specs.Insert.{graft, insertUnder as graftUnder}
 use Rattle.rules.specs.Block.{Bytes}
 use Rattle.rules.specs.Catalogue.{parentOf, level, isType, goodCatalogue}
-use Rattle.rules.specs.Cells.{Segment, segment, segmentOf, segmentLevel, goesBefore, goodListing, runAt}
+use Rattle.rules.specs.Cells.{Segment, segment, segmentOf, arriving, segmentLevel, goesBefore, goodListing, runAt}
 use Rattle.rules.specs.Table.{room, listing}
 use Rattle.rules.specs.Position.{goodPlace, goodParentage, goodPosition}
 use Rattle.rules.specs.Arguments.{Level, complete, listRead, lastArgument, getLevels}
@@ -76,10 +76,10 @@ module _ (cat : Bytes) (cs : List Segment) (g : goodCatalogue cat ≡ true) (goo
     -- ISRT
     module _ (m : ℕ) (t : TypeCode) (known : isType cat t ≡ true) where
       abbrev x : Segment
-      x = segmentOf cat t area
+      x = arriving cat t area
 
       level-new : segmentLevel cat x ≡ level cat t
-      unfolding segmentOf
+      unfolding arriving segmentOf
       level-new = refl
 
       top-same : t .0 ≡ 1

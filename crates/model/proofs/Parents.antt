@@ -158,7 +158,7 @@ module _ (cat : Bytes) (cs : List Segment) where
 
   agrees-type : (m : Level) (s : Segment) → agrees cat m s ≡ true → m .code .0 ≡ s .code .0
   unfolding agrees
-  agrees-type m s e = eqb-true (m .code .0) (s .code .0) (both-left (sameType (m .code) (s .code)) (satisfies cat (s .bytes) (m .asked)) e)
+  agrees-type m s e = eqb-true (m .code .0) (s .code .0) (both-left (sameType (m .code) (s .code)) (satisfies cat s (m .asked)) e)
 
   module _ (g : goodCatalogue cat ≡ true) (list : Bytes) (ar : List Argument) (t : TypeCode) (h : isType cat t ≡ true) where
     abbrev levelOf : ℕ → Level

@@ -20,11 +20,12 @@ use Rattle.forest.specs.Edit.{size, edit, edit-in, edit-out, getD-past}
 use Rattle.forest.specs.Runs.{swap, size-node}
 use Rattle.forest.specs.Keep.{Sits}
 use Rattle.rules.specs.Block.{Bytes, sameBytes}
-use Rattle.rules.specs.Order.{order}
-use Rattle.rules.specs.Catalogue.{parentOf, lengthOf, keyKind, keyStart, keyLength, isType}
+use Rattle.rules.specs.Order.{valueOrder}
+use Rattle.rules.specs.Catalogue.{parentOf, lengthOf, keyKind, keyStart, keyLength, keyValue, isType}
 use Rattle.rules.specs.Cells.{Segment, typeNumber, key, keyOrder, twinOrder, sameKey, isChild, siblings, goesBefore, segmentLevel}
 use Rattle.rules.specs.Tree.{hasKey}
-use Rattle.rules.proofs.Order.{turned, order-turned, order-equal, order-transitive}
+use Rattle.rules.proofs.Order.{turned}
+use Rattle.rules.proofs.Values.{value-turned, value-transitive, value-left, value-right}
 use Rattle.encoding.specs.Determined.{All, Fits}
 use Rattle.model.proofs.Parents.{never}
 
@@ -69,34 +70,34 @@ is-smaller Smaller e = refl
 is-smaller Equal e = never false e refl
 is-smaller Greater e = never false e refl
 
-module _ (xs ys zs : Bytes) (a : length xs ≡ length ys) (b : length ys ≡ length zs) where
-  rises : (o p : Order) → order xs ys ≡ o → order ys zs ≡ p → not (isGreater o) ≡ true → not (isGreater p) ≡ true → not (isGreater (order xs zs)) ≡ true
+module _ (w : ℕ) (xs ys zs : Bytes) (a : length xs ≡ length ys) (b : length ys ≡ length zs) where
+  rises : (o p : Order) → valueOrder w xs ys ≡ o → valueOrder w ys zs ≡ p → not (isGreater o) ≡ true → not (isGreater p) ≡ true → not (isGreater (valueOrder w xs zs)) ≡ true
   rises Greater p e f g h = never false g refl
   rises Smaller Greater e f g h = never false h refl
   rises Equal Greater e f g h = never false h refl
-  rises Smaller Smaller e f g h = ap (λ (o : Order). not (isGreater o)) (order-transitive xs ys zs a b e f)
-  rises Smaller Equal e f g h = ap (λ (o : Order). not (isGreater o)) (ap (order xs) (sym (order-equal ys zs b f)) ∙ e)
-  rises Equal Smaller e f g h = ap (λ (o : Order). not (isGreater o)) (ap (λ (v : Bytes). order v zs) (order-equal xs ys a e) ∙ f)
-  rises Equal Equal e f g h = ap (λ (o : Order). not (isGreater o)) (ap (λ (v : Bytes). order v zs) (order-equal xs ys a e) ∙ f)
+  rises Smaller Smaller e f g h = ap (λ (o : Order). not (isGreater o)) (value-transitive w xs ys zs e f)
+  rises Smaller Equal e f g h = ap (λ (o : Order). not (isGreater o)) (sym (value-right w xs ys zs b f) ∙ e)
+  rises Equal Smaller e f g h = ap (λ (o : Order). not (isGreater o)) (value-left w xs ys zs a e ∙ f)
+  rises Equal Equal e f g h = ap (λ (o : Order). not (isGreater o)) (value-left w xs ys zs a e ∙ f)
 
-  kind-trans : (k : ℕ) → byKind k (order xs ys) ≡ true → byKind k (order ys zs) ≡ true → byKind k (order xs zs) ≡ true
+  kind-trans : (k : ℕ) → byKind k (valueOrder w xs ys) ≡ true → byKind k (valueOrder w ys zs) ≡ true → byKind k (valueOrder w xs zs) ≡ true
   kind-trans k e f = elim (is (eqb k 0)) [
     | on h ↦ rw h
     | off h ↦ elim (is (eqb k 1)) [
       | on q ↦
-          let u : isSmaller (order xs ys) ≡ true = rw (h, q) at e in
-          let v : isSmaller (order ys zs) ≡ true = rw (h, q) at f in
-          rw (h, q) (ap isSmaller (order-transitive xs ys zs a b (is-smaller (order xs ys) u) (is-smaller (order ys zs) v)))
+          let u : isSmaller (valueOrder w xs ys) ≡ true = rw (h, q) at e in
+          let v : isSmaller (valueOrder w ys zs) ≡ true = rw (h, q) at f in
+          rw (h, q) (ap isSmaller (value-transitive w xs ys zs (is-smaller (valueOrder w xs ys) u) (is-smaller (valueOrder w ys zs) v)))
       | off q ↦
-          let u : not (isGreater (order xs ys)) ≡ true = rw (h, q) at e in
-          let v : not (isGreater (order ys zs)) ≡ true = rw (h, q) at f in
-          rw (h, q) (rises (order xs ys) (order ys zs) refl refl u v)
+          let u : not (isGreater (valueOrder w xs ys)) ≡ true = rw (h, q) at e in
+          let v : not (isGreater (valueOrder w ys zs)) ≡ true = rw (h, q) at f in
+          rw (h, q) (rises (valueOrder w xs ys) (valueOrder w ys zs) refl refl u v)
     ]
   ]
 
 -- behind a key that is not greater, and not the same where it is to be unique
-kind-behind : (k : ℕ) (xs ys : Bytes) → length xs ≡ length ys → isSmaller (order xs ys) ≡ false → (eqb k 1 ≡ true → isEqual (order xs ys) ≡ false) → byKind k (order ys xs) ≡ true
-kind-behind k xs ys l e f = ap (byKind k) (order-turned xs ys l) ∙ go (order xs ys) e f
+kind-behind : (w k : ℕ) (xs ys : Bytes) → length xs ≡ length ys → isSmaller (valueOrder w xs ys) ≡ false → (eqb k 1 ≡ true → isEqual (valueOrder w xs ys) ≡ false) → byKind k (valueOrder w ys xs) ≡ true
+kind-behind w k xs ys l e f = ap (byKind k) (value-turned w xs ys l) ∙ go (valueOrder w xs ys) e f
   where
     go : (o : Order) → isSmaller o ≡ false → (eqb k 1 ≡ true → isEqual o ≡ false) → byKind k (turned o) ≡ true
     go Smaller e f = never true refl e
@@ -161,19 +162,23 @@ module _ (cat : Bytes) where
   key-same c d e f g =
       key-size c f ∙ ap (λ (t : ℕ). min (keyLength cat (code t)) (lengthOf cat (code t) - (keyStart cat (code t) - 1))) e ∙ sym (key-size d g)
 
-  twin-kind : (c d : Segment) → twinOrder cat c d ≡ byKind (keyKind cat (c .code)) (order (key cat c) (key cat d))
+  twin-kind : (c d : Segment) → twinOrder cat c d ≡ byKind (keyKind cat (c .code)) (valueOrder (keyValue cat (c .code)) (key cat c) (key cat d))
   unfolding twinOrder keyOrder
   twin-kind c d = refl
 
   kind-same : (c d : Segment) → typeNumber c ≡ typeNumber d → keyKind cat (c .code) ≡ keyKind cat (d .code)
   kind-same c d e = ap (λ (t : ℕ). keyKind cat (code t)) e
 
+  value-same : (c d : Segment) → typeNumber c ≡ typeNumber d
+      → valueOrder (keyValue cat (c .code)) (key cat c) (key cat d) ≡ valueOrder (keyValue cat (d .code)) (key cat c) (key cat d)
+  value-same c d e = ap (λ (t : ℕ). valueOrder (keyValue cat (code t)) (key cat c) (key cat d)) e
+
   twin-trans : (a b c : Segment) → typeNumber a ≡ typeNumber b → typeNumber b ≡ typeNumber c → sized a ≡ true → sized b ≡ true → sized c ≡ true
       → twinOrder cat a b ≡ true → twinOrder cat b c ≡ true → twinOrder cat a c ≡ true
   twin-trans a b c p q f g h e e′ =
-      twin-kind a c ∙ kind-trans (key cat a) (key cat b) (key cat c) (key-same a b p f g) (key-same b c q g h) (keyKind cat (a .code))
+      twin-kind a c ∙ kind-trans (keyValue cat (a .code)) (key cat a) (key cat b) (key cat c) (key-same a b p f g) (key-same b c q g h) (keyKind cat (a .code))
       (sym (twin-kind a b) ∙ e)
-      (ap (λ (k : ℕ). byKind k (order (key cat b) (key cat c))) (kind-same a b p) ∙ sym (twin-kind b c) ∙ e′)
+      (ap (λ (t : ℕ). byKind (keyKind cat (code t)) (valueOrder (keyValue cat (code t)) (key cat b) (key cat c))) p ∙ sym (twin-kind b c) ∙ e′)
 
   -- LAW: "groups of child types in ascending code", twins in order: what stands behind what stands behind a sibling stands behind it
   pub siblings-trans : (p : ℕ) (a b c : Segment) → sizedChild p a ≡ true → sizedChild p b ≡ true → sizedChild p c ≡ true
@@ -194,16 +199,16 @@ module _ (cat : Bytes) where
   unfolding goesBefore keyOrder
   stands-before x c e =
       stood (typeNumber x) (typeNumber c) (twinOrder cat x c)
-      (elim (stands (typeNumber x) (typeNumber c) (isSmaller (order (key cat x) (key cat c))) e) [
+      (elim (stands (typeNumber x) (typeNumber c) (isSmaller (valueOrder (keyValue cat (x .code)) (key cat x) (key cat c))) e) [
         | less l ↦ less l
-        | twin q t ↦ twin q (twin-kind x c ∙ kind-before (keyKind cat (x .code)) (order (key cat x) (key cat c)) t)
+        | twin q t ↦ twin q (twin-kind x c ∙ kind-before (keyKind cat (x .code)) (valueOrder (keyValue cat (x .code)) (key cat x) (key cat c)) t)
       ])
 
   stands-behind : (x c : Segment) → sized x ≡ true → sized c ≡ true → (eqb (keyKind cat (x .code)) 1 ≡ true → sameKey cat x c ≡ false) → goesBefore cat x c ≡ false → siblings cat c x ≡ true
   unfolding goesBefore sameKey keyOrder
   stands-behind x c f g u e =
-      let n : ltb (typeNumber x) (typeNumber c) ≡ false = or-left (ltb (typeNumber x) (typeNumber c)) (eqb (typeNumber x) (typeNumber c) && isSmaller (order (key cat x) (key cat c))) e in
-      let k : (eqb (typeNumber x) (typeNumber c) && isSmaller (order (key cat x) (key cat c))) ≡ false = or-second (ltb (typeNumber x) (typeNumber c)) (eqb (typeNumber x) (typeNumber c) && isSmaller (order (key cat x) (key cat c))) e in
+      let n : ltb (typeNumber x) (typeNumber c) ≡ false = or-left (ltb (typeNumber x) (typeNumber c)) (eqb (typeNumber x) (typeNumber c) && isSmaller (valueOrder (keyValue cat (x .code)) (key cat x) (key cat c))) e in
+      let k : (eqb (typeNumber x) (typeNumber c) && isSmaller (valueOrder (keyValue cat (x .code)) (key cat x) (key cat c))) ≡ false = or-second (ltb (typeNumber x) (typeNumber c)) (eqb (typeNumber x) (typeNumber c) && isSmaller (valueOrder (keyValue cat (x .code)) (key cat x) (key cat c))) e in
       stood (typeNumber c) (typeNumber x) (twinOrder cat c x)
       (elim (side (typeNumber c) (typeNumber x)) [
         | inside l ↦ less l
@@ -213,8 +218,9 @@ module _ (cat : Bytes) where
               let q : typeNumber x ≡ typeNumber c = omega arith in
               let r : eqb (typeNumber x) (typeNumber c) ≡ true = eq-eqb (typeNumber x) (typeNumber c) q in
               twin (sym q)
-              (twin-kind c x ∙ kind-behind (keyKind cat (c .code)) (key cat x) (key cat c) (key-same x c q f g) (rw r at k)
-              (λ h. rw r at (u (ap (λ (t : ℕ). eqb t 1) (kind-same x c q) ∙ h))))
+              (twin-kind c x ∙ kind-behind (keyValue cat (c .code)) (keyKind cat (c .code)) (key cat x) (key cat c) (key-same x c q f g)
+              (sym (ap isSmaller (value-same x c q)) ∙ rw r at k)
+              (λ h. sym (ap isEqual (value-same x c q)) ∙ rw r at (u (ap (λ (t : ℕ). eqb t 1) (kind-same x c q) ∙ h))))
         ]
       ])
 
@@ -232,22 +238,22 @@ module _ (cat : Bytes) where
 
   -- a segment of the same type with the same key
   module _ (x c : Segment) (e : typeNumber x ≡ typeNumber c) (h : key cat x ≡ key cat c) where
-    abbrev stand : ℕ → ℕ → ℕ → Bytes → Bytes → Bool
-    stand a b k xs ys = ltb a b || (eqb a b && byKind k (order xs ys))
+    abbrev stand : ℕ → ℕ → Bytes → Bytes → Bool
+    stand a b xs ys = ltb a b || (eqb a b && byKind (keyKind cat (code a)) (valueOrder (keyValue cat (code a)) xs ys))
 
-    stand-of : (a b : Segment) → siblings cat a b ≡ stand (typeNumber a) (typeNumber b) (keyKind cat (a .code)) (key cat a) (key cat b)
+    stand-of : (a b : Segment) → siblings cat a b ≡ stand (typeNumber a) (typeNumber b) (key cat a) (key cat b)
     unfolding twinOrder keyOrder
     stand-of a b = refl
 
     before-same : (b : Segment) → siblings cat c b ≡ true → siblings cat x b ≡ true
     before-same b s =
-        stand-of x b ∙ ap (λ (t : ℕ). stand t (typeNumber b) (keyKind cat (code t)) (key cat x) (key cat b)) e
-        ∙ ap (λ (v : Bytes). stand (typeNumber c) (typeNumber b) (keyKind cat (c .code)) v (key cat b)) h ∙ sym (stand-of c b) ∙ s
+        stand-of x b ∙ ap (λ (t : ℕ). stand t (typeNumber b) (key cat x) (key cat b)) e
+        ∙ ap (λ (v : Bytes). stand (typeNumber c) (typeNumber b) v (key cat b)) h ∙ sym (stand-of c b) ∙ s
 
     behind-same : (b : Segment) → siblings cat b c ≡ true → siblings cat b x ≡ true
     behind-same b s =
-        stand-of b x ∙ ap (λ (t : ℕ). stand (typeNumber b) t (keyKind cat (b .code)) (key cat b) (key cat x)) e
-        ∙ ap (λ (v : Bytes). stand (typeNumber b) (typeNumber c) (keyKind cat (b .code)) (key cat b) v) h ∙ sym (stand-of b c) ∙ s
+        stand-of b x ∙ ap (λ (t : ℕ). stand (typeNumber b) t (key cat b) (key cat x)) e
+        ∙ ap (λ (v : Bytes). stand (typeNumber b) (typeNumber c) (key cat b) v) h ∙ sym (stand-of b c) ∙ s
 
     child-same : (p : ℕ) → isChild cat p c ≡ true → isChild cat p x ≡ true
     unfolding isChild

@@ -122,14 +122,14 @@ module _ (cat list : Bytes) (g : goodCatalogue cat ≡ true) (s : Segment) where
   heeds-none [] n = refl
   heeds-none (a ∷ ar) n = every-cons a ar ∙ rw (ne-eqb (a .code .0) (s .code .0) (n .0), heeds-none ar (n .1))
 
-  pub asked-heeds : (before : TypeCode) (ar : List Argument) → Downward cat list before ar → satisfies cat (s .bytes) (askedOf cat list ar (s .code)) ≡ every (heeds cat list s) ar
+  pub asked-heeds : (before : TypeCode) (ar : List Argument) → Downward cat list before ar → satisfies cat s (askedOf cat list ar (s .code)) ≡ every (heeds cat list s) ar
   unfolding askedOf every
   asked-heeds before [] d = refl
   asked-heeds before (a ∷ ar) d = elim (is (sameType (a .code) (s .code))) [
     | on e ↦
         let z : a .code .0 ≡ s .code .0 = eqb-true (a .code .0) (s .code .0) e in
         let n : Missing (s .code) ar = all-to (λ (c : Argument). a .code .0 < c .code .0) (λ (c : Argument). (c .code .0 ≡ s .code .0) → ⊥) ar (λ c p q. omega arith) (down-past cat list g (a .code .0) (a .code) ar (omega arith) (d .2)) in
-        rw (asked-in cat list (s .code) a ar e, every-cons a ar, e, heeds-none ar n) (sym (and-true (satisfies cat (s .bytes) (meant cat list (a .qualification)))))
+        rw (asked-in cat list (s .code) a ar e, every-cons a ar, e, heeds-none ar n) (sym (and-true (satisfies cat s (meant cat list (a .qualification)))))
     | off e ↦ rw (asked-out cat list (s .code) a ar e, every-cons a ar, e) (asked-heeds (a .code) ar (d .2))
   ]
 
@@ -176,7 +176,8 @@ pub record Asks (cat one two : Bytes) (l m : List Argument) : Type 0 where
   pub last : lastArgument (l ++ map (moved (length one)) m) .code ≡ lastArgument m .code
   -- the first part asks nothing of a type past its last
   pub past : (t : TypeCode) → lastArgument l .code .0 < t .0 → askedOf cat one l t ≡ implied
-  pub both : (t : TypeCode) (b : Bytes) → satisfies cat b (askedOf cat (one ++ two) (l ++ map (moved (length one)) m) t) ≡ (satisfies cat b (askedOf cat one l t) && satisfies cat b (askedOf cat two m t))
+  pub both : (t : TypeCode) (s : Segment) → satisfies cat s (askedOf cat (one ++ two) (l ++ map (moved (length one)) m) t)
+      ≡ (satisfies cat s (askedOf cat one l t) && satisfies cat s (askedOf cat two m t))
 
 module _ (cat one two : Bytes) (g : goodCatalogue cat ≡ true) where
   pub asks : (l m : List Argument) → isNil l ≡ false → isNil m ≡ false → Downward cat one (code 0) l → Downward cat two (code 0) m

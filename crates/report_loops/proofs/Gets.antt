@@ -26,11 +26,12 @@ use Rattle.forest.specs.Good.{both-left, both-right}
 use Rattle.forest.specs.Numbers.{range}
 use Rattle.rules.specs.Block.{Bytes, byte, every, zeros, marked}
 use Rattle.rules.specs.Catalogue.{lengthOf, goodCatalogue}
-use Rattle.rules.specs.Cells.{Segment, segment, long, levelAt, endAt, goodListing}
+use Rattle.rules.specs.Cells.{Segment, segment, shownBytes, long, levelAt, endAt, goodListing}
 use Rattle.rules.specs.Table.{count, cellSize, cellStart, room, listing, goodRoom, padded, goodTable}
 use Rattle.rules.specs.Position.{goodPlace, goodParentage, goodHold, goodPosition}
 use Rattle.rules.specs.Arguments.{Level, listRead, getLevels}
 use Rattle.rules.specs.Matching.{matches, seek, firstMatch}
+use Rattle.rules.specs.Change.{nothing}
 use Rattle.rules.specs.Calls.{answerOf, missed, over, missStatus, levelStatus, getNext, getNextWithin, called}
 use Rattle.rules.specs.Outcome.{Outcome, unsound, misused, unless, afterSound, afterCall, landed, outcomeOf, outcome}
 use Rattle.rules.proofs.Search.{seek-none, seek-here, seek-next}
@@ -133,8 +134,8 @@ module _ (cat tab : Bytes) (g : goodCatalogue cat ≡ true) (h : goodTable cat t
       (goodListing cat cs) h
 
   -- a segment has as many bytes as its type says
-  data-long : (j : ℕ) → j < length cs → length (segment cs j .bytes) ≡ long cat (segment cs j)
-  unfolding long
+  data-long : (j : ℕ) → j < length cs → length (shownBytes cat (segment cs j)) ≡ long cat (segment cs j)
+  unfolding long shownBytes
   data-long j l =
       let s = good-sized cat tab g h in
       let m : j < count tab = omega (arith, listing-length cat tab) in
@@ -165,7 +166,12 @@ module _ (cat tab : Bytes) (g : goodCatalogue cat ≡ true) (h : goodTable cat t
     gone miss = landed cat tab (missed miss pos area)
 
     abbrev got : Status → Parentage → ℕ → Outcome
-    got status q j = landed cat tab (record { answer = answerOf cat status (movedOnto j q false) (segment cs j) 0; cells = none; area = over (segment cs j .bytes) area })
+    got status q j = landed cat tab (record {
+      answer = answerOf cat status (movedOnto j q false) (segment cs j) 0;
+      change = nothing;
+      cells = none;
+      area = over (shownBytes cat (segment cs j)) area;
+    })
 
     gone-fit : (miss : Status) → goodPosition cat cs pos ≡ true → Fit (handedOn (gone miss))
     gone-fit miss p = record { table = refl; position = dropped-good cat cs pos p; area = l }
@@ -175,12 +181,12 @@ module _ (cat tab : Bytes) (g : goodCatalogue cat ≡ true) (h : goodTable cat t
 
     got-fit : (status : Status) (p j : ℕ) → p ≤ j → j < endAt cat cs p → j < length cs → Fit (handedOn (got status (Of (cell p)) j))
     unfolding answerOf
-    got-fit status p j a b m = record { table = refl; position = moved-good cat cs p j a b m; area = area-kept (segment cs j .bytes) }
+    got-fit status p j a b m = record { table = refl; position = moved-good cat cs p j a b m; area = area-kept (shownBytes cat (segment cs j)) }
 
     got-sight : (status : Status) (q : Parentage) (j : ℕ) → j < length cs → sight (got status q j) ≡ seenAt cat tab j
     unfolding answerOf
     got-sight status q j m =
-        let b : Bytes = segment cs j .bytes in
+        let b : Bytes = shownBytes cat (segment cs j) in
         ap (λ (x : Bytes). record { cell = j; bytes = x }) (take-at b (drop (length b) area) (long cat (segment cs j)) (data-long j m))
 
   short : (area : Bytes) → cellSize cat ≤ suc (length area) → ltb (length area) (cellSize cat - 1) ≡ false

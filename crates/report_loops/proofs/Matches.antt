@@ -94,7 +94,7 @@ levels-some cat g list ar t h = let r = type-range cat t h in omega (arith, comp
 module _ (cat : Bytes) (cs : List Segment) where
   -- the segment of cell j satisfies what is asked of its type
   abbrev pub content : (TypeCode → Asked) → ℕ → Bool
-  content asked j = satisfies cat (segment cs j .bytes) (asked (segment cs j .code))
+  content asked j = satisfies cat (segment cs j) (asked (segment cs j .code))
 
   module _ (asked : TypeCode → Asked) where
     abbrev levelOf : ℕ → Level
@@ -112,8 +112,8 @@ module _ (cat : Bytes) (cs : List Segment) where
     agrees-to : (u i : ℕ) → agrees cat (levelOf u) (segment cs i) ≡ true → (typ cs i ≡ u) × (content asked i ≡ true)
     unfolding agrees
     agrees-to u i e =
-        let z : u ≡ typ cs i = eqb-true u (typ cs i) (both-left (eqb u (typ cs i)) (satisfies cat (segment cs i .bytes) (asked (code u))) e) in
-        (sym z, rw z at (both-right (eqb u (typ cs i)) (satisfies cat (segment cs i .bytes) (asked (code u))) e))
+        let z : u ≡ typ cs i = eqb-true u (typ cs i) (both-left (eqb u (typ cs i)) (satisfies cat (segment cs i) (asked (code u))) e) in
+        (sym z, rw z at (both-right (eqb u (typ cs i)) (satisfies cat (segment cs i) (asked (code u))) e))
 
     agrees-from : (i : ℕ) → content asked i ≡ true → agrees cat (levelOf (typ cs i)) (segment cs i) ≡ true
     unfolding agrees
@@ -212,10 +212,10 @@ module _ (cat : Bytes) (cs : List Segment) where
         where
           unasked : (xs : List ℕ) → All (λ i. typ cs p < typ cs i) xs → All (λ i. content asked₁ i ≡ true) xs
           unasked [] a = tt
-          unasked (i ∷ xs) a = (ap (satisfies cat (segment cs i .bytes)) (A .past (segment cs i .code) (omega (arith, a .0))), unasked xs (a .1))
+          unasked (i ∷ xs) a = (ap (satisfies cat (segment cs i)) (A .past (segment cs i .code) (omega (arith, a .0))), unasked xs (a .1))
 
       joined-is : (k : ℕ) → fulfils asked₃ t₂ k ≡ (eqb (typ cs k) (t₂ .0) && (every (content asked₁) (rowAt cat cs k) && every (content asked₂) (rowAt cat cs k)))
-      joined-is k = ap (λ (b : Bool). eqb (typ cs k) (t₂ .0) && b) (every-both (content asked₃) (content asked₁) (content asked₂) (λ j. A .both (segment cs j .code) (segment cs j .bytes)) (rowAt cat cs k))
+      joined-is k = ap (λ (b : Bool). eqb (typ cs k) (t₂ .0) && b) (every-both (content asked₃) (content asked₁) (content asked₂) (λ j. A .both (segment cs j .code) (segment cs j)) (rowAt cat cs k))
 
       of-type : (asked : TypeCode → Asked) (t : TypeCode) (p : ℕ) → fulfils asked t p ≡ true → (typ cs p ≡ t .0) × (every (content asked) (rowAt cat cs p) ≡ true)
       of-type asked t p e = (eqb-true (typ cs p) (t .0) (both-left (eqb (typ cs p) (t .0)) (every (content asked) (rowAt cat cs p)) e), both-right (eqb (typ cs p) (t .0)) (every (content asked) (rowAt cat cs p)) e)

@@ -17,7 +17,7 @@ use Rattle.terms.specs.declared.Status.{Status}
 use Rattle.terms.specs.declared.Status.the-variants.{Blank, GB, GE}
 use Rattle.rules.specs.Block.{Bytes}
 use Rattle.rules.specs.Catalogue.{goodCatalogue}
-use Rattle.rules.specs.Cells.{segment}
+use Rattle.rules.specs.Cells.{segment, shownBytes}
 use Rattle.rules.specs.Table.{count, cellSize, listing, goodTable}
 use Rattle.rules.specs.Position.{goodPosition}
 use Rattle.rules.specs.Arguments.{listRead}
@@ -38,7 +38,7 @@ module _ (store : Store) (tab area : Bytes) where
 module _ (cat tab : Bytes) where
   -- a cell's number and its data
   abbrev pub seenAt : ℕ → Seen
-  seenAt i = record { cell = i; bytes = segment (listing cat tab) i .bytes }
+  seenAt i = record { cell = i; bytes = shownBytes cat (segment (listing cat tab) i) }
 
   -- a report has shown these cells, and ended with this status
   pub record Reports (shown : Shown) (cells : List ℕ) (status : Status) : Type 0 where

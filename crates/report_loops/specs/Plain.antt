@@ -20,7 +20,7 @@ filter t (x ∷ xs) = elim (t x) [ true ↦ x ∷ filter t xs | false ↦ filter
 module _ (cat list : Bytes) where
   -- a segment satisfies an argument, if that is one for its type
   abbrev pub heeds : Segment → Argument → Bool
-  heeds s a = not (sameType (a .code) (s .code)) || satisfies cat (s .bytes) (meant cat list (a .qualification))
+  heeds s a = not (sameType (a .code) (s .code)) || satisfies cat s (meant cat list (a .qualification))
 
   -- "A segment matches a list when it has the last type and it and its ancestors satisfy every argument for their type. .. The empty list matches
   -- every segment."

@@ -69,17 +69,17 @@ module _ {cat tab list : Bytes} {size : ℕ} (g : Given cat tab list size) where
   heeded j = every (heeds cat list (segment cs j)) ar
 
   module _ (i : ℕ) (u : TypeCode) (e : u ≡ segment cs i .code) (w : Wanted) (f : w ≡ wantedOf ar u) where
-    own-heeds : satisfies cat (segment cs i .bytes) (meaning cat list w) ≡ heeded i
+    own-heeds : satisfies cat (segment cs i) (meaning cat list w) ≡ heeded i
     own-heeds =
-        ap (λ (v : Wanted). satisfies cat (segment cs i .bytes) (meaning cat list v)) f
-        ∙ sym (ap (satisfies cat (segment cs i .bytes)) (asked-wanted cat list ar u))
-        ∙ ap (λ (t : TypeCode). satisfies cat (segment cs i .bytes) (askedOf cat list ar t)) e
+        ap (λ (v : Wanted). satisfies cat (segment cs i) (meaning cat list v)) f
+        ∙ sym (ap (satisfies cat (segment cs i)) (asked-wanted cat list ar u))
+        ∙ ap (λ (t : TypeCode). satisfies cat (segment cs i) (askedOf cat list ar t)) e
         ∙ asked-heeds cat list (g .sound .catalogue) (segment cs i) (code 0) ar (sound-down cat list (sound-list g))
 
     pub heeds-implied : w ≡ Implied → true ≡ heeded i
     heeds-implied x = rw x at own-heeds
 
-    pub heeds-named : (q : Qualification) (b : Bool) → w ≡ Named q → b ≡ satisfies cat (segment cs i .bytes) (meant cat list q) → b ≡ heeded i
+    pub heeds-named : (q : Qualification) (b : Bool) → w ≡ Named q → b ≡ satisfies cat (segment cs i) (meant cat list q) → b ≡ heeded i
     heeds-named q b x y = y ∙ (rw x at own-heeds)
 
     pub heeds-testable : (q : Qualification) → i < count tab → w ≡ Named q → Testable cat tab list size i q

@@ -1,7 +1,9 @@
 pub mod Every
 pub mod Order
+pub mod Values
 pub mod Catalogue
 pub mod Cells
 pub mod Search
 pub mod Tree
 pub mod Bench
+pub mod Change

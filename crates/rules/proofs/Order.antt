@@ -88,20 +88,19 @@ smaller-first x y xs ys e l = elim (side y x) [
   | outside m ↦ (let z : x ≡ y = omega arith in (z, sym (order-on x y xs ys z) ∙ e))
 ]
 
--- LAW 29: transitive
-pub order-transitive : (xs ys zs : Bytes) → length xs ≡ length ys → length ys ≡ length zs
-    → order xs ys ≡ Smaller → order ys zs ≡ Smaller → order xs zs ≡ Smaller
+-- LAW 29: transitive, whatever the lengths
+pub order-transitive : (xs ys zs : Bytes) → order xs ys ≡ Smaller → order ys zs ≡ Smaller → order xs zs ≡ Smaller
 unfolding order
-order-transitive [] ys zs e f h k = absurd (unequal-less (sym h))
-order-transitive (x ∷ xs) [] zs e f h k = absurd (omega arith)
-order-transitive (x ∷ xs) (y ∷ ys) [] e f h k = absurd (omega arith)
-order-transitive (x ∷ xs) (y ∷ ys) (z ∷ zs) e f h k = elim (side x z) [
+order-transitive [] ys zs h k = absurd (unequal-less (sym h))
+order-transitive (x ∷ xs) [] zs h k = absurd (unequal-less (sym h))
+order-transitive (x ∷ xs) (y ∷ ys) [] h k = absurd (unequal-less (sym k))
+order-transitive (x ∷ xs) (y ∷ ys) (z ∷ zs) h k = elim (side x z) [
   | inside l ↦ order-less x z xs zs l
   | outside l ↦ elim (side x y) [
     | inside m ↦ absurd (let q = smaller-first y z ys zs k (omega arith) in omega (arith, q .0))
     | outside m ↦
         let p = smaller-first x y xs ys h m in
         let q = smaller-first y z ys zs k (omega (arith, p .0)) in
-        order-on x z xs zs (p .0 ∙ q .0) ∙ order-transitive xs ys zs (omega arith) (omega arith) (p .1) (q .1)
+        order-on x z xs zs (p .0 ∙ q .0) ∙ order-transitive xs ys zs (p .1) (q .1)
   ]
 ]

@@ -5,7 +5,7 @@ use mathlib.Core.Option.{Option, none, some}
 use mathlib.Core.List.{List, [], _∷_, _++_}
 use Prim.Native.Nat.{ℕ, suc, _+_, _-_}
 use lib.Dec.{ltb, eqb}
-use lib.ListN.{length, take, drop, set}
+use lib.ListN.{length, drop}
 use Rattle.terms.specs.declared.TypeCode.{TypeCode}
 use Rattle.terms.specs.declared.Place.{Place}
 use Rattle.terms.specs.declared.Place.the-variants.{On, Before}
@@ -25,13 +25,15 @@ use Rattle.forest.specs.Numbers.{range, isIn}
 use Rattle.forest.specs.Insert.{spot}
 use Rattle.rules.specs.Block.{Bytes, every, sameBytes}
 use Rattle.rules.specs.Catalogue.{keyKind, level}
-use Rattle.rules.specs.Cells.{Segment, segment, segmentOf, long, key, sameKey, goesBefore, segmentLevel, levelAt, runAt, endAt, rowAt}
+use Rattle.rules.specs.Cells.{Segment, segment, arriving, shownBytes, long, key, sameKey, goesBefore, segmentLevel, levelAt, runAt, endAt, rowAt}
+use Rattle.rules.specs.Change.{Change, nothing, put, swap, cut, applied}
 use Rattle.rules.specs.Arguments.{Level, lastArgument, getLevels, parentLevels}
 use Rattle.rules.specs.Matching.{firstMatch, along}
 
--- what a call leaves: its answer, the cells if they changed, and the area
+-- what a call leaves: its answer, its change and the cells if they changed, and the area
 pub record After : Type 0 where
   pub answer : Answer
+  pub change : Change
   pub cells : Option (List Segment)
   pub area : Bytes
 
@@ -41,14 +43,14 @@ bare s p = record { status = s; position = p; code = code 0; level = 0; length =
 
 -- "20 and above changes nothing, area included"
 abbrev pub refused : Status → Position → Bytes → After
-refused s p area = record { answer = bare s p; cells = none; area = area }
+refused s p area = record { answer = bare s p; change = nothing; cells = none; area = area }
 
 -- "Status 10 to 12 clears the hold only"; GB: "the place stays, so the next one answers GB again"
 abbrev pub afterMiss : Status → Position → Position
 afterMiss s p = holdDropped p
 
 abbrev pub missed : Status → Position → Bytes → After
-missed s p area = record { answer = bare s (afterMiss s p); cells = none; area = area }
+missed s p area = record { answer = bare s (afterMiss s p); change = nothing; cells = none; area = area }
 
 -- "writes its L bytes to the front of the area; the area's other bytes stay"
 abbrev pub over : Bytes → Bytes → Bytes
@@ -76,9 +78,9 @@ module _ (cat : Bytes) where
   unfoldable pub answerOf : Status → Position → Segment → ℕ → Answer
   answerOf s p x removed = record { status = s; position = p; code = x .code; level = level cat (x .code); length = long cat x; removed = removed }
 
-  -- ISRT, REPL and DLET done: these are the cells now
-  unfoldable pub changed : Position → Segment → ℕ → List Segment → Bytes → After
-  changed p x removed cs area = record { answer = answerOf Blank p x removed; cells = some cs; area = area }
+  -- ISRT, REPL and DLET done: the change, and these are the cells now
+  unfoldable pub changed : Position → Segment → ℕ → Change → List Segment → Bytes → After
+  changed p x removed ch cs area = record { answer = answerOf Blank p x removed; change = ch; cells = some cs; area = area }
 
   module _ (cs : List Segment) where
     -- GA: "empty list, place was on a cell, found level smaller"; GK: "the same, level equal and type different"
@@ -104,8 +106,9 @@ module _ (cat : Bytes) where
     gotten miss status parentage hold Nothing = missed miss pos area
     gotten miss status parentage hold (At c) = record {
       answer = answerOf (status (c .0)) (movedOnto (c .0) (parentage (c .0)) hold) (segment cs (c .0)) 0;
+      change = nothing;
       cells = none;
-      area = over (segment cs (c .0) .bytes) area;
+      area = over (shownBytes cat (segment cs (c .0))) area;
     }
 
     -- "GU: first match in cell order, along the position." "GU and GN set the parentage to the found cell."
@@ -126,13 +129,13 @@ module _ (cat : Bytes) where
     inserted m x above taken r new =
         pick (eqb (keyKind cat (x .code)) 1 && taken) (refused II pos area)
         (pick (eqb (length cs) m) (refused FX pos area)
-        (changed (afterInsert r (isOneOf above (pos .parentage)) pos) x 0 new area))
+        (changed (afterInsert r (isOneOf above (pos .parentage)) pos) x 0 (put r (x ∷ [])) new area))
 
     -- x among the n cells from i on, which are all those beneath its parent
     unfoldable pub insertAmong : ℕ → Segment → List ℕ → ℕ → ℕ → After
     insertAmong m x above i n =
         let r = i + spot (segmentLevel cat) x (goesBefore cat x) (drop i cs) in
-        inserted m x above (keyTaken cs x i n) r (take r cs ++ x ∷ drop r cs)
+        inserted m x above (keyTaken cs x i n) r (applied (put r (x ∷ [])) cs)
 
     -- "ISRT without parent": GE
     abbrev pub insertUnder : ℕ → Segment → Found → After
@@ -143,30 +146,30 @@ module _ (cat : Bytes) where
     -- first L bytes, goes among its twins"
     unfoldable pub insert : ℕ → TypeCode → List Level → After
     insert m t ls =
-        let x = segmentOf cat t area in
+        let x = arriving cat t area in
         pick (eqb (t .0) 1) (insertAmong m x [] 0 (length cs)) (insertUnder m x (along cat cs ls (pos .place)))
 
     -- REPL: "Place and parentage stay; the hold goes." DA: "REPL changes a key byte"
     unfoldable pub replaced : ℕ → Segment → List Segment → After
     replaced i x new =
         pick (not (sameBytes (key cat (segment cs i)) (key cat x))) (refused DA pos area)
-        (changed (holdDropped pos) x 0 new area)
+        (changed (holdDropped pos) x 0 (swap i x) new area)
 
     -- the held cell's type with "the area's first L bytes"
     unfoldable pub replacement : ℕ → Segment
-    replacement i = segmentOf cat (segment cs i .code) area
+    replacement i = arriving cat (segment cs i .code) area
 
     -- "stores the area's first L bytes in the held cell"
     unfoldable pub replace : After
-    replace = let i = placeNumber (pos .place) in replaced i (replacement i) (set cs i (replacement i))
+    replace = let i = placeNumber (pos .place) in replaced i (replacement i) (applied (swap i (replacement i)) cs)
 
     -- DLET: "The place is the gap where the run began. The parentage goes if it was in the run. No hold."
     unfoldable pub deleted : ℕ → ℕ → List Segment → After
-    deleted i n new = changed (afterDelete i n pos) (segment cs i) n new area
+    deleted i n new = changed (afterDelete i n pos) (segment cs i) n (cut i n) new area
 
     -- "removes the held cell's run; later cells move down"
     unfoldable pub delete : After
-    delete = let i = placeNumber (pos .place) in deleted i (runAt cat cs i) (take i cs ++ drop (endAt cat cs i) cs)
+    delete = let i = placeNumber (pos .place) in deleted i (runAt cat cs i) (applied (cut i (runAt cat cs i)) cs)
 
     -- the call of this number, on the arguments of a list
     unfoldable pub called : ℕ → ℕ → Bytes → List Argument → After

@@ -44,6 +44,10 @@ module _ (cat : Bytes) where
   unfoldable pub keyLength : TypeCode → ℕ
   keyLength t = typeByte t 4
 
+  -- the value type of the key: one of the three zero bytes
+  unfoldable pub keyValue : TypeCode → ℕ
+  keyValue t = typeByte t 7
+
   -- "F entries of 4": field numbers run from 1
   unfoldable pub fieldByte : FieldNumber → ℕ → ℕ
   fieldByte f k = byte cat (4 + 8 * types + 4 * f .0 + k)
@@ -57,6 +61,10 @@ module _ (cat : Bytes) where
 
   unfoldable pub fieldLength : FieldNumber → ℕ
   fieldLength f = fieldByte f 2
+
+  -- the value type of the field: the zero byte
+  unfoldable pub fieldValue : FieldNumber → ℕ
+  fieldValue f = fieldByte f 3
 
   -- a type and the types above it, nearest first
   unfoldable pub lineage : TypeCode → List ℕ

@@ -15,8 +15,8 @@ use Rattle.forest.specs.Good.{formed}
 use Rattle.forest.specs.Groups.{ok}
 use Rattle.forest.specs.Numbers.{ancestors, run}
 use Rattle.rules.specs.Block.{Bytes, part}
-use Rattle.rules.specs.Order.{order}
-use Rattle.rules.specs.Catalogue.{isType, parentOf, lengthOf, keyKind, keyStart, keyLength, level}
+use Rattle.rules.specs.Order.{valueOrder}
+use Rattle.rules.specs.Catalogue.{isType, parentOf, lengthOf, keyKind, keyStart, keyLength, keyValue, level}
 
 -- "A cell is its type code, L data bytes": the segment that a cell holds
 pub record Segment : Type 0 where
@@ -39,6 +39,14 @@ module _ (cat : Bytes) where
   unfoldable pub segmentOf : TypeCode → Bytes → Segment
   segmentOf t b = record { code = t; bytes = take (lengthOf cat t) b }
 
+  -- the segment that new data makes: "the area's first L bytes"
+  unfoldable pub arriving : TypeCode → Bytes → Segment
+  arriving t area = segmentOf t area
+
+  -- what a get writes to the area: "its L bytes"
+  unfoldable pub shownBytes : Segment → Bytes
+  shownBytes s = s .bytes
+
   -- the length that an answer tells
   unfoldable pub long : Segment → ℕ
   long s = lengthOf cat (s .code)
@@ -49,7 +57,7 @@ module _ (cat : Bytes) where
 
   -- how the key of c stands to that of d, a segment of the same type
   unfoldable pub keyOrder : Segment → Segment → Order
-  keyOrder c d = order (key c) (key d)
+  keyOrder c d = valueOrder (keyValue cat (c .code)) (key c) (key d)
 
   -- "Twins with a unique key ascend strictly, with a multiple key they never descend; without a key any order stands."
   unfoldable pub twinOrder : Segment → Segment → Bool

@@ -6,6 +6,7 @@ pub mod Table
 pub mod Position
 pub mod Arguments
 pub mod Matching
+pub mod Change
 pub mod Calls
 pub mod Outcome
 pub mod Listing

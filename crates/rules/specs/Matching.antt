@@ -5,6 +5,7 @@ use Prim.Native.Nat.{ℕ, zero, suc, _-_}
 use lib.Dec.{eqb}
 use lib.ListN.{length}
 use Rattle.terms.specs.declared.FieldNumber.{FieldNumber}
+use Rattle.terms.specs.declared.Operator.{Operator}
 use Rattle.terms.specs.declared.Place.{Place}
 use Rattle.terms.specs.declared.Place.the-variants.{On, Before}
 use Rattle.terms.specs.declared.Found.{Found}
@@ -13,8 +14,8 @@ use Rattle.terms.specs.Choice.{pick}
 use Rattle.terms.specs.Names.{cell, sameType}
 use Rattle.terms.specs.Operators.{holds}
 use Rattle.rules.specs.Block.{Bytes, part}
-use Rattle.rules.specs.Order.{order}
-use Rattle.rules.specs.Catalogue.{fieldStart, fieldLength}
+use Rattle.rules.specs.Order.{valueOrder}
+use Rattle.rules.specs.Catalogue.{fieldStart, fieldLength, fieldValue}
 use Rattle.rules.specs.Cells.{Segment, segment, levelAt, endAt, rowAt}
 use Rattle.rules.specs.Arguments.{Asked, implied, unqualified, qualified, Level}
 
@@ -24,17 +25,21 @@ isImplied unqualified = false
 isImplied (qualified o f v) = false
 
 module _ (cat : Bytes) where
-  unfoldable pub fieldBytes : FieldNumber → Bytes → Bytes
-  fieldBytes f b = part b (fieldStart cat f - 1) (fieldLength cat f)
+  unfoldable pub fieldBytes : FieldNumber → Segment → Bytes
+  fieldBytes f s = part (s .bytes) (fieldStart cat f - 1) (fieldLength cat f)
 
-  abbrev pub satisfies : Bytes → Asked → Bool
-  satisfies b implied = true
-  satisfies b unqualified = true
-  satisfies b (qualified o f v) = holds o (order (fieldBytes f b) v)
+  -- "The segment's field stands left of the operator."
+  unfoldable pub tested : Segment → Operator → FieldNumber → Bytes → Bool
+  tested s o f v = holds o (valueOrder (fieldValue cat f) (fieldBytes f s) v)
+
+  abbrev pub satisfies : Segment → Asked → Bool
+  satisfies s implied = true
+  satisfies s unqualified = true
+  satisfies s (qualified o f v) = tested s o f v
 
   -- a segment "agrees in type and satisfies" one level
   unfoldable pub agrees : Level → Segment → Bool
-  agrees l s = sameType (l .code) (s .code) && satisfies (s .bytes) (l .asked)
+  agrees l s = sameType (l .code) (s .code) && satisfies s (l .asked)
 
   module _ (cs : List Segment) where
     -- "the path from root to that cell"

@@ -26,7 +26,7 @@ use Rattle.forest.specs.Runs.{prune, swap}
 use Rattle.forest.specs.Insert.{graft, insertUnder as graftUnder}
 use Rattle.forest.specs.Numbers.{range, isIn}
 use Rattle.rules.specs.Block.{Bytes}
-use Rattle.rules.specs.Cells.{Segment, segment, segmentOf, sameKey, goesBefore, segmentLevel, levelAt}
+use Rattle.rules.specs.Cells.{Segment, segment, arriving, sameKey, goesBefore, segmentLevel, levelAt}
 use Rattle.rules.specs.Arguments.{Level, lastArgument, getLevels, parentLevels}
 use Rattle.rules.specs.Matching.{agrees, isImplied}
 use Rattle.rules.specs.Calls.{After, missed, gotten, levelStatus, missStatus, inserted, replacement, replaced, deleted, byNumber}
@@ -156,7 +156,7 @@ module _ (cat : Bytes) (cs : List Segment) where
     -- (47) int-Isrt: the parent by the list without its last argument; for type 1 there is none (01)
     unfoldable pub intIsrt : ℕ → TypeCode → List Level → After
     intIsrt m t ls =
-        let x = segmentOf cat t area in
+        let x = arriving cat t area in
         pick (eqb (t .0) 1) (insertRec m x [] 0 segments (graft (segmentLevel cat) x (goesBefore cat x) segments))
         (insertAt m x (evalAlong ls (pos .place)))
 

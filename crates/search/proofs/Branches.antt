@@ -146,13 +146,13 @@ module _ {cat tab list : Bytes} {size : ℕ} {t : TypeCode} (g : Good cat tab li
 
   -- one segment against the list: u is its type and w what the list wants of that, as the code has read them
   module _ (i : ℕ) (u : TypeCode) (e : u ≡ segment cs i .code) where
-    abbrev bytesOf : Bytes
-    bytesOf = segment cs i .bytes
+    abbrev own : Segment
+    own = segment cs i
 
     abbrev given : List Argument
     given = listRead cat list .arguments
 
-    own-test : isIn (u .0) (lineage cat t) ≡ true → agreesAlone cat list t (segment cs i) ≡ satisfies cat bytesOf (askedOf cat list given u)
+    own-test : isIn (u .0) (lineage cat t) ≡ true → agreesAlone cat list t (segment cs i) ≡ satisfies cat own (askedOf cat list given u)
     unfolding agreesAlone
     own-test a = rw (sym e, a)
 
@@ -161,11 +161,11 @@ module _ {cat tab list : Bytes} {size : ℕ} {t : TypeCode} (g : Good cat tab li
     agrees-not a = rw (sym e, a)
 
     pub agrees-implied : (w : Wanted) → isIn (u .0) (lineage cat t) ≡ true → w ≡ wantedOf given u → w ≡ Implied → true ≡ agreesAlone cat list t (segment cs i)
-    agrees-implied w a f x = sym (own-test a ∙ ap (satisfies cat bytesOf) (asked-wanted cat list given u ∙ ap (meaning cat list) (sym f ∙ x)))
+    agrees-implied w a f x = sym (own-test a ∙ ap (satisfies cat own) (asked-wanted cat list given u ∙ ap (meaning cat list) (sym f ∙ x)))
 
     pub agrees-named : (w : Wanted) (q : Qualification) (b : Bool) → isIn (u .0) (lineage cat t) ≡ true → w ≡ wantedOf given u → w ≡ Named q
-        → b ≡ satisfies cat bytesOf (meant cat list q) → b ≡ agreesAlone cat list t (segment cs i)
-    agrees-named w q b a f x y = y ∙ sym (own-test a ∙ ap (satisfies cat bytesOf) (asked-wanted cat list given u ∙ ap (meaning cat list) (sym f ∙ x)))
+        → b ≡ satisfies cat own (meant cat list q) → b ≡ agreesAlone cat list t (segment cs i)
+    agrees-named w q b a f x y = y ∙ sym (own-test a ∙ ap (satisfies cat own) (asked-wanted cat list given u ∙ ap (meaning cat list) (sym f ∙ x)))
 
     pub named-testable : (w : Wanted) (q : Qualification) → i < count tab → w ≡ wantedOf given u → w ≡ Named q → Testable cat tab list size i q
     named-testable w q h f x = record {
@@ -221,7 +221,7 @@ module _ {cat tab list : Bytes} {size : ℕ} {t : TypeCode} (g : Good cat tab li
     unfolding agreesAlone
     own-kept x =
         let y : agreesAlone cat list t (segment cs i) ≡ true = sym (agrees-cell i (r .long) l h e) ∙ full-agrees cat cs ls (count tab) steps i (r .long) h (a .long) (whole x) in
-        let z : isIn (segment cs i .code .0) (lineage cat t) ≡ true = both-left (isIn (segment cs i .code .0) (lineage cat t)) (satisfies cat (segment cs i .bytes) (askedOf cat list (listRead cat list .arguments) (segment cs i .code))) y in
+        let z : isIn (segment cs i .code .0) (lineage cat t) ≡ true = both-left (isIn (segment cs i .code .0) (lineage cat t)) (satisfies cat (segment cs i) (askedOf cat list (listRead cat list .arguments) (segment cs i .code))) y in
         kept-full cat cs ls (count tab) steps i h (whole x)
         ∙ ap (λ (b : Bool). pick b (At (cell i)) (keptOn cat cs ls (reverse (ancestors lev i)) Nothing)) (implied-own cat list (listRead cat list .arguments) cs i (g .catalogue) t (g .known) (level-some i h) z)
         ∙ ap (pick leftOut (At (cell i))) (sym (a .kept))

@@ -14,10 +14,10 @@ use Rattle.terms.specs.declared.Qualification.the-variants.{Test}
 use Rattle.forest.specs.Good.{both-left, both-right}
 use Rattle.forest.specs.Numbers.{range}
 use Rattle.rules.specs.Block.{Bytes, part, every}
-use Rattle.rules.specs.Catalogue.{types, fields, fieldByte, fieldType, fieldStart, fieldLength, lengthOf, isType, goodSpan, goodType, goodField, goodHeader, goodCatalogue}
+use Rattle.rules.specs.Catalogue.{types, fields, fieldByte, fieldType, fieldStart, fieldLength, fieldValue, lengthOf, isType, goodSpan, goodType, goodField, goodHeader, goodCatalogue}
 use Rattle.rules.specs.Cells.{segment}
 use Rattle.rules.specs.Table.{cellSize, listing}
-use Rattle.rules.specs.Order.{order}
+use Rattle.rules.specs.Order.{order, valueOrder}
 use Rattle.rules.specs.Matching.{fieldBytes}
 use Rattle.rules.proofs.Every.{every-at}
 use Rattle.cells.proofs.Entries.{length-in}
@@ -74,7 +74,7 @@ module _ {cat tab list : Bytes} {size i v : ℕ} {o : Operator} {f : FieldNumber
   pub field-small : i * size ≤ 495616
   field-small = start-small (h .sized) i (omega (arith, h .cell))
 
-  pub field-of : part tab (8 + i * size + start) long ≡ fieldBytes cat f (segment (listing cat tab) i .bytes)
+  pub field-of : part tab (8 + i * size + start) long ≡ fieldBytes cat f (segment (listing cat tab) i)
   unfolding fieldBytes
   field-of =
       let L = lengthOf cat (segment (listing cat tab) i .code) in
@@ -85,7 +85,8 @@ module _ {cat tab list : Bytes} {size i v : ℕ} {o : Operator} {f : FieldNumber
   -- the two parts that the code compares
   pub field-order : (s n : ℕ) → s ≡ start → n ≡ long
       → order (part tab (8 + i * size + s) (8 + i * size + s + n - (8 + i * size + s))) (part list v (v + n - v))
-      ≡ order (fieldBytes cat f (segment (listing cat tab) i .bytes)) (part list v long)
+      ≡ valueOrder (fieldValue cat f) (fieldBytes cat f (segment (listing cat tab) i)) (part list v long)
+  unfolding valueOrder
   field-order s n a b =
       let x : 8 + i * size + s + n - (8 + i * size + s) ≡ n = omega arith in
       let y : v + n - v ≡ n = omega arith in

@@ -152,11 +152,11 @@ module _ (cat list : Bytes) (ar : List Argument) where
     abbrev own : TypeCode
     own = segment cs i .code
 
-    first-agrees : (us : List ℕ) → headAgrees cat cs (map levelOf us) i ≡ (isFirst (own .0) us && satisfies cat (segment cs i .bytes) (askedOf cat list ar own))
+    first-agrees : (us : List ℕ) → headAgrees cat cs (map levelOf us) i ≡ (isFirst (own .0) us && satisfies cat (segment cs i) (askedOf cat list ar own))
     unfolding agrees
     first-agrees [] = refl
     first-agrees (u ∷ us) = elim (is (eqb (own .0) u)) [
-      | on e ↦ (let z : u ≡ own .0 = sym (eqb-true (own .0) u e) in rw (e, eq-eqb u (own .0) z) (ap (λ (v : ℕ). satisfies cat (segment cs i .bytes) (askedOf cat list ar (code v))) z))
+      | on e ↦ (let z : u ≡ own .0 = sym (eqb-true (own .0) u e) in rw (e, eq-eqb u (own .0) z) (ap (λ (v : ℕ). satisfies cat (segment cs i) (askedOf cat list ar (code v))) z))
       | off e ↦ rw (e, ne-eqb u (own .0) (λ z. eqb-false (own .0) u e (sym z)))
     ]
 
@@ -175,10 +175,10 @@ module _ (cat list : Bytes) (ar : List Argument) where
 
       -- LAW: whether a cell agrees with the level of a completed list that is its own is seen from the segment alone
       pub agrees-own : headAgrees cat cs (drop (levelAt cat cs i - 1) (complete cat list ar t)) i
-          ≡ (isIn (own .0) (lineage cat t) && satisfies cat (segment cs i .bytes) (askedOf cat list ar own))
+          ≡ (isIn (own .0) (lineage cat t) && satisfies cat (segment cs i) (askedOf cat list ar own))
       agrees-own =
           ap (λ (ls : List Level). headAgrees cat cs ls i) own-levels ∙ first-agrees (drop (levelAt cat cs i - 1) (reverse (lineage cat t)))
-          ∙ ap (λ (b : Bool). b && satisfies cat (segment cs i .bytes) (askedOf cat list ar own)) own-first
+          ∙ ap (λ (b : Bool). b && satisfies cat (segment cs i) (askedOf cat list ar own)) own-first
 
       pub implied-own : isIn (own .0) (lineage cat t) ≡ true
           → headImplied cat cs (drop (levelAt cat cs i - 1) (complete cat list ar t)) ≡ isImplied (askedOf cat list ar own)

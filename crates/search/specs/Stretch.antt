@@ -19,7 +19,7 @@ module _ (cat list : Bytes) (t : TypeCode) where
 
   -- a segment agrees with the level of its own type, by itself: no level has to be counted
   unfoldable pub agreesAlone : Segment → Bool
-  agreesAlone s = isIn (s .code .0) (lineage cat t) && satisfies cat (s .bytes) (askedOf cat list (listRead cat list .arguments) (s .code))
+  agreesAlone s = isIn (s .code .0) (lineage cat t) && satisfies cat s (askedOf cat list (listRead cat list .arguments) (s .code))
 
 module _ (cat : Bytes) (cs : List Segment) (ls : List Level) where
   -- "the longest stretch of the path from root to that cell which agrees in type and satisfies the completed list level by level"

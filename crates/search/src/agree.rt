@@ -36,7 +36,7 @@ fn passes(
     v: usize,
 ) -> bool
     requires { ⌜ Testable (now cat) (now tab) (now list) size (c .0) (Qualification.Test o f v) ⌝ }
-    ensures { λ r. ⌜ r ≡ satisfies (now (cat .entry)) (segment (listing (now (cat .entry)) (now (tab .entry))) (c .0) .bytes) (meant (now (cat .entry)) (now (list .entry)) (Qualification.Test o f v)) ⌝ }
+    ensures { λ r. ⌜ r ≡ satisfies (now (cat .entry)) (segment (listing (now (cat .entry)) (now (tab .entry))) (c .0)) (meant (now (cat .entry)) (now (list .entry)) (Qualification.Test o f v)) ⌝ }
 {
     let long = wide(field_length(cat, f));
     let i = c.0;
@@ -56,7 +56,7 @@ pub fn satisfies(
     q: Qualification,
 ) -> bool
     requires { ⌜ Testable (now cat) (now tab) (now list) size (c .0) q ⌝ }
-    ensures { λ r. ⌜ r ≡ satisfies (now (cat .entry)) (segment (listing (now (cat .entry)) (now (tab .entry))) (c .0) .bytes) (meant (now (cat .entry)) (now (list .entry)) q) ⌝ }
+    ensures { λ r. ⌜ r ≡ satisfies (now (cat .entry)) (segment (listing (now (cat .entry)) (now (tab .entry))) (c .0)) (meant (now (cat .entry)) (now (list .entry)) q) ⌝ }
 {
     match q {
         Qualification::None => true,

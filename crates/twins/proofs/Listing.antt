@@ -20,7 +20,7 @@ use Rattle.forest.specs.Numbers.{range}
 use Rattle.forest.specs.Types as Types
 use Rattle.rules.specs.Block.{Bytes, byte, every, zeros, marked}
 use Rattle.rules.specs.Catalogue.{types, parentOf, keyKind, lineage, level, isType, goodCatalogue}
-use Rattle.rules.specs.Cells.{Segment, segment, segmentOf, blank, typeNumber, isChild, siblings, sameKey, goesBefore, segmentLevel, goodListing, levelAt, runAt, endAt}
+use Rattle.rules.specs.Cells.{Segment, segment, segmentOf, arriving, blank, typeNumber, isChild, siblings, sameKey, goesBefore, segmentLevel, goodListing, levelAt, runAt, endAt}
 use Rattle.rules.specs.Table.{count, cellSize, cellStart, room, listing, padded, goodRoom, goodTable}
 use Rattle.rules.specs.Calls.{keyTaken}
 use Rattle.rules.proofs.Catalogue.{par, good-lower}
@@ -136,9 +136,9 @@ module _ {cat tab : Bytes} {size : ℕ} {t : TypeCode} {area : Bytes} (n : New c
   good-cells =
       last-of (goodRoom cat tab) (marked 0x54 tab) (eqb (byte tab 5) (cellSize cat)) (leb (count tab) (room cat tab)) (every (padded cat tab) (range 0 (count tab))) (zeros (drop (cellStart cat (count tab)) tab)) (goodListing cat (listing cat tab)) (n .sound .table)
 
-  pub row-new : Row cat tab (segmentOf cat t area) from to
-  unfolding segmentOf
-  row-new = row-of cat tab (segmentOf cat t area) (n .sound .catalogue) good-cells (n .known) b
+  pub row-new : Row cat tab (arriving cat t area) from to
+  unfolding arriving segmentOf
+  row-new = row-of cat tab (arriving cat t area) (n .sound .catalogue) good-cells (n .known) b
 
 -- II over the cells, one after the other
 module _ (cat : Bytes) (cs : List Segment) (x : Segment) where

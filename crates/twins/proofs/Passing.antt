@@ -14,9 +14,9 @@ use Rattle.terms.specs.Names.{code}
 use Rattle.terms.specs.Operators.{isSmaller, isEqual}
 use Rattle.forest.specs.Insert.{passes, spot}
 use Rattle.rules.specs.Block.{Bytes, part}
-use Rattle.rules.specs.Order.{order}
+use Rattle.rules.specs.Order.{order, valueOrder}
 use Rattle.rules.specs.Catalogue.{lengthOf, keyStart, keyLength, keyKind, level}
-use Rattle.rules.specs.Cells.{Segment, segment, segmentOf, blank, key, keyOrder, sameKey, goesBefore, segmentLevel}
+use Rattle.rules.specs.Cells.{Segment, segment, segmentOf, arriving, blank, key, keyOrder, sameKey, goesBefore, segmentLevel}
 use Rattle.rules.specs.Table.{count, cellSize, listing}
 use Rattle.rules.specs.Calls.{keyTaken}
 use Rattle.rules.proofs.Cells.{listing-length}
@@ -50,21 +50,21 @@ module _ {cat tab : Bytes} {size : ℕ} {t : TypeCode} {area : Bytes} (n : New c
       omega (arith, key-in cat (n .sound .catalogue) t (n .known) .0, length-in cat (n .sound .catalogue) t (n .known), n .sound .sized .is, cell-in (n .sound .sized) i l)
 
   -- without a key nothing is compared
-  pub order-unkeyed : (s : Segment) (start : ℕ) → start ≡ keyStart cat t → start ≡ 0 → Equal ≡ keyOrder cat (segmentOf cat t area) s
-  unfolding keyOrder key segmentOf order
+  pub order-unkeyed : (s : Segment) (start : ℕ) → start ≡ keyStart cat t → start ≡ 0 → Equal ≡ keyOrder cat (arriving cat t area) s
+  unfolding keyOrder valueOrder key arriving segmentOf order
   order-unkeyed s start e z =
       let k : keyLength cat t ≡ 0 = key-in cat (n .sound .catalogue) t (n .known) .1 (sym e ∙ z) in
       rw k
 
-  new-key : 1 ≤ keyStart cat t → part area (keyStart cat t - 1) (keyLength cat t) ≡ key cat (segmentOf cat t area)
-  unfolding key segmentOf
+  new-key : 1 ≤ keyStart cat t → part area (keyStart cat t - 1) (keyLength cat t) ≡ key cat (arriving cat t area)
+  unfolding key arriving segmentOf
   new-key h = sym (part-front (keyLength cat t) (keyStart cat t - 1) (lengthOf cat t) area (omega (arith, key-in cat (n .sound .catalogue) t (n .known) .0)))
 
   -- the keys that the code compares
   pub order-keyed : (i start long : ℕ) → i < count tab → segment (listing cat tab) i .code ≡ t → start ≡ keyStart cat t → long ≡ keyLength cat t → (start ≡ 0 → ⊥)
       → order (part area (start - 1) (start - 1 + long - (start - 1))) (part tab (8 + i * size + start) (8 + i * size + start + long - (8 + i * size + start)))
-      ≡ keyOrder cat (segmentOf cat t area) (segment (listing cat tab) i)
-  unfolding keyOrder
+      ≡ keyOrder cat (arriving cat t area) (segment (listing cat tab) i)
+  unfolding keyOrder valueOrder
   order-keyed i start long l e p q ne =
       let x : start - 1 + long - (start - 1) ≡ long = omega arith in
       let y : 8 + i * size + start + long - (8 + i * size + start) ≡ long = omega arith in
@@ -152,37 +152,37 @@ module _ (cat : Bytes) (t : TypeCode) (area : Bytes) (c : Segment) {u : TypeCode
   at-type : u .0 ≡ c .code .0
   at-type = ap (λ (v : TypeCode). v .0) e
 
-  pub new-more : u .0 < t .0 → Greater ≡ standing cat (segmentOf cat t area) c
-  unfolding segmentOf
-  new-more l = stands-more cat (segmentOf cat t area) c (omega (arith, at-type))
+  pub new-more : u .0 < t .0 → Greater ≡ standing cat (arriving cat t area) c
+  unfolding arriving segmentOf
+  new-more l = stands-more cat (arriving cat t area) c (omega (arith, at-type))
 
-  pub new-twin : u .0 ≡ t .0 → keyOrder cat (segmentOf cat t area) c ≡ standing cat (segmentOf cat t area) c
-  unfolding segmentOf
-  new-twin z = stands-twin cat (segmentOf cat t area) c (omega (arith, at-type))
+  pub new-twin : u .0 ≡ t .0 → keyOrder cat (arriving cat t area) c ≡ standing cat (arriving cat t area) c
+  unfolding arriving segmentOf
+  new-twin z = stands-twin cat (arriving cat t area) c (omega (arith, at-type))
 
   -- and its level as `here`
   module _ (a : t .0 ≤ u .0) (n : u .0 ≡ t .0 → ⊥) {depth here : ℕ} (d : depth ≡ level cat t) (h : here ≡ level cat u) where
     at-level : here ≡ level cat (c .code)
     at-level = h ∙ ap (level cat) e
 
-    pub new-deep : depth < here → Greater ≡ standing cat (segmentOf cat t area) c
-    unfolding segmentOf
-    new-deep l = stands-deep cat (segmentOf cat t area) c (omega (arith, at-type)) (omega (arith, at-level))
+    pub new-deep : depth < here → Greater ≡ standing cat (arriving cat t area) c
+    unfolding arriving segmentOf
+    new-deep l = stands-deep cat (arriving cat t area) c (omega (arith, at-type)) (omega (arith, at-level))
 
-    pub new-less : here ≤ depth → Smaller ≡ standing cat (segmentOf cat t area) c
-    unfolding segmentOf
-    new-less l = stands-less cat (segmentOf cat t area) c (omega (arith, at-type)) (omega (arith, at-level))
+    pub new-less : here ≤ depth → Smaller ≡ standing cat (arriving cat t area) c
+    unfolding arriving segmentOf
+    new-less l = stands-less cat (arriving cat t area) c (omega (arith, at-type)) (omega (arith, at-level))
 
 -- types of one number are one type
 pub type-same : {s t u : TypeCode} → u ≡ s → u .0 ≡ t .0 → s ≡ t
 type-same {s} {t} {u} e z = sym e ∙ ap code z
 
 -- the answer, from what the row gave
-module _ {cat tab : Bytes} {size : ℕ} {t : TypeCode} {area : Bytes} (n : New cat tab size t area) {from to : ℕ} (b : Beneath cat tab t from to) {s : Spot} (e : s ≡ placed cat (listing cat tab) (segmentOf cat t area) from) {kind : ℕ} (k : kind ≡ keyKind cat t) where
-  pub spot-unique : kind ≡ 1 → s ≡ spotAmong cat (listing cat tab) (segmentOf cat t area) from to
-  unfolding segmentOf placed spotAmong
+module _ {cat tab : Bytes} {size : ℕ} {t : TypeCode} {area : Bytes} (n : New cat tab size t area) {from to : ℕ} (b : Beneath cat tab t from to) {s : Spot} (e : s ≡ placed cat (listing cat tab) (arriving cat t area) from) {kind : ℕ} (k : kind ≡ keyKind cat t) where
+  pub spot-unique : kind ≡ 1 → s ≡ spotAmong cat (listing cat tab) (arriving cat t area) from to
+  unfolding arriving segmentOf placed spotAmong
   spot-unique h = e ∙ rw (row-taken (row-new n b) (sym k ∙ h), eq-eqb (keyKind cat t) 1 (sym k ∙ h))
 
-  pub spot-other : (kind ≡ 1 → ⊥) → record { at = s .at; taken = false } ≡ spotAmong cat (listing cat tab) (segmentOf cat t area) from to
-  unfolding segmentOf placed spotAmong
+  pub spot-other : (kind ≡ 1 → ⊥) → record { at = s .at; taken = false } ≡ spotAmong cat (listing cat tab) (arriving cat t area) from to
+  unfolding arriving segmentOf placed spotAmong
   spot-other h = rw (e, ne-eqb (keyKind cat t) 1 (λ z. h (k ∙ z)))

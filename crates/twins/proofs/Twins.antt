@@ -12,10 +12,10 @@ use Rattle.terms.specs.Operators.{isSmaller, isEqual}
 use Rattle.forest.specs.Forest.{inside, outside, side}
 use Rattle.forest.specs.Insert.{passes}
 use Rattle.rules.specs.Block.{Bytes}
-use Rattle.rules.specs.Order.{order}
-use Rattle.rules.specs.Catalogue.{keyKind, level}
+use Rattle.rules.specs.Order.{valueOrder}
+use Rattle.rules.specs.Catalogue.{keyKind, keyValue, level}
 use Rattle.rules.specs.Cells.{Segment, typeNumber, key, keyOrder, twinOrder, sameKey, siblings, goesBefore, segmentLevel}
-use Rattle.rules.proofs.Order.{order-on, order-less, order-more}
+use Rattle.rules.proofs.Values.{value-transitive}
 use Rattle.twins.specs.Among.{standing}
 use Rattle.twins.proofs.Rows.{pass-deep, pass-same}
 
@@ -35,30 +35,6 @@ smaller-is : (o : Order) → isSmaller o ≡ true → o ≡ Smaller
 smaller-is Smaller e = refl
 smaller-is Equal e = let z : _≡_ {A = ℕ} 0 1 = cc in absurd (omega arith)
 smaller-is Greater e = let z : _≡_ {A = ℕ} 0 1 = cc in absurd (omega arith)
-
--- what the first bytes say, where one value is smaller: they are smaller, or the same and the rest is smaller
-smaller-first : (x y : ℕ) (xs ys : Bytes) → order (x ∷ xs) (y ∷ ys) ≡ Smaller → y ≤ x → (x ≡ y) × (order xs ys ≡ Smaller)
-smaller-first x y xs ys e l = elim (side y x) [
-  | inside m ↦ absurd (let h : Smaller ≡ Greater = sym e ∙ order-more x y xs ys m in let z : _≡_ {A = ℕ} 0 1 = cc in omega arith)
-  | outside m ↦ (let z : x ≡ y = omega arith in (z, sym (order-on x y xs ys z) ∙ e))
-]
-
--- smaller than a smaller one, whatever the lengths
-pub smaller-through : (xs ys zs : Bytes) → order xs ys ≡ Smaller → order ys zs ≡ Smaller → order xs zs ≡ Smaller
-unfolding order
-smaller-through [] ys zs h k = absurd (let z : _≡_ {A = ℕ} 0 1 = cc in omega arith)
-smaller-through (x ∷ xs) [] zs h k = absurd (let z : _≡_ {A = ℕ} 0 1 = cc in omega arith)
-smaller-through (x ∷ xs) (y ∷ ys) [] h k = absurd (let z : _≡_ {A = ℕ} 0 1 = cc in omega arith)
-smaller-through (x ∷ xs) (y ∷ ys) (z ∷ zs) h k = elim (side x z) [
-  | inside l ↦ order-less x z xs zs l
-  | outside l ↦ elim (side x y) [
-    | inside m ↦ absurd (let q = smaller-first y z ys zs k (omega arith) in omega (arith, q .0))
-    | outside m ↦
-        let p = smaller-first x y xs ys h m in
-        let q = smaller-first y z ys zs k (omega (arith, p .0)) in
-        order-on x z xs zs (p .0 ∙ q .0) ∙ smaller-through xs ys zs (p .1) (q .1)
-  ]
-]
 
 module _ (cat : Bytes) (x : Segment) where
   -- goes before, by cases of the types
@@ -126,8 +102,9 @@ module _ (cat : Bytes) (x : Segment) where
         let e : typeNumber x ≡ typeNumber c = omega (arith, before-le c h, siblings-le c d g) in
         let f : typeNumber c ≡ typeNumber d = omega (arith, before-le c h, siblings-le c d g) in
         let kc : keyKind cat (c .code) ≡ 1 = sym (ap (λ (n : ℕ). keyKind cat (code n)) e) ∙ k in
-        let a : order (key cat x) (key cat c) ≡ Smaller = smaller-is (keyOrder cat x c) (sym (before-same c e) ∙ h) in
-        before-same d (e ∙ f) ∙ ap isSmaller (smaller-through (key cat x) (key cat c) (key cat d) a (twins-ascend c d kc f g))
+        let a : keyOrder cat x c ≡ Smaller = smaller-is (keyOrder cat x c) (sym (before-same c e) ∙ h) in
+        let b : valueOrder (keyValue cat (x .code)) (key cat c) (key cat d) ≡ Smaller = ap (λ (n : ℕ). valueOrder (keyValue cat (code n)) (key cat c) (key cat d)) e ∙ twins-ascend c d kc f g in
+        before-same d (e ∙ f) ∙ ap isSmaller (value-transitive (keyValue cat (x .code)) (key cat x) (key cat c) (key cat d) a b)
   ]
 
   module _ (c : Segment) where

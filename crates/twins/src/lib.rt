@@ -15,7 +15,7 @@ use terms::operators::is_smaller;
 ghost use mathlib.Core.Path.{_≡_};
 ghost use Prim.Native.Nat.{_<_};
 ghost use Rattle.rules.specs.Catalogue.{level};
-ghost use Rattle.rules.specs.Cells.{segment, segmentOf, keyOrder};
+ghost use Rattle.rules.specs.Cells.{segment, arriving, keyOrder};
 ghost use Rattle.rules.specs.Table.{count, listing};
 ghost use Rattle.twins.specs.Among.{New, Beneath, standing, placed, spotAmong};
 
@@ -35,7 +35,7 @@ fn key_order_with(
     c: CellNumber,
 ) -> Order
     requires { ⌜ New (now cat) (now tab) size t (now area) × (c .0 < count (now tab)) × (segment (listing (now cat) (now tab)) (c .0) .code ≡ t) ⌝ }
-    ensures { λ r. ⌜ r ≡ keyOrder (now (cat .entry)) (segmentOf (now (cat .entry)) t (now (area .entry))) (segment (listing (now (cat .entry)) (now (tab .entry))) (c .0)) ⌝ }
+    ensures { λ r. ⌜ r ≡ keyOrder (now (cat .entry)) (arriving (now (cat .entry)) t (now (area .entry))) (segment (listing (now (cat .entry)) (now (tab .entry))) (c .0)) ⌝ }
 {
     let start = wide(key_start(cat, t));
     if start == 0 {
@@ -62,7 +62,7 @@ fn stands_to(
     c: CellNumber,
 ) -> Order
     requires { ⌜ New (now cat) (now tab) size t (now area) × (c .0 < count (now tab)) × (depth ≡ level (now cat) t) ⌝ }
-    ensures { λ r. ⌜ r ≡ standing (now (cat .entry)) (segmentOf (now (cat .entry)) t (now (area .entry))) (segment (listing (now (cat .entry)) (now (tab .entry))) (c .0)) ⌝ }
+    ensures { λ r. ⌜ r ≡ standing (now (cat .entry)) (arriving (now (cat .entry)) t (now (area .entry))) (segment (listing (now (cat .entry)) (now (tab .entry))) (c .0)) ⌝ }
 {
     let u = code_at(cat, tab, size, c);
     if u.0 < t.0 {
@@ -89,7 +89,7 @@ fn pass_row(
     to: usize,
 ) -> Spot
     requires { ⌜ New (now cat) (now tab) size t (now area) × Beneath (now cat) (now tab) t from to ⌝ }
-    ensures { λ r. ⌜ r ≡ placed (now (cat .entry)) (listing (now (cat .entry)) (now (tab .entry))) (segmentOf (now (cat .entry)) t (now (area .entry))) from ⌝ }
+    ensures { λ r. ⌜ r ≡ placed (now (cat .entry)) (listing (now (cat .entry)) (now (tab .entry))) (arriving (now (cat .entry)) t (now (area .entry))) from ⌝ }
 {
     let depth = level(cat, t);
     let mut at = from;
@@ -119,7 +119,7 @@ pub fn spot_sound(
     to: usize,
 ) -> Spot
     requires { ⌜ New (now cat) (now tab) size t (now area) × Beneath (now cat) (now tab) t from to ⌝ }
-    ensures { λ r. ⌜ r ≡ spotAmong (now (cat .entry)) (listing (now (cat .entry)) (now (tab .entry))) (segmentOf (now (cat .entry)) t (now (area .entry))) from to ⌝ }
+    ensures { λ r. ⌜ r ≡ spotAmong (now (cat .entry)) (listing (now (cat .entry)) (now (tab .entry))) (arriving (now (cat .entry)) t (now (area .entry))) from to ⌝ }
 {
     let s = pass_row(cat, tab, size, t, area, from, to);
     if key_kind(cat, t) == 1 {

@@ -11,7 +11,7 @@ use borrow.Rule.Slice.PartMut.{midOf, putMid}
 use Rattle.terms.specs.declared.TypeCode.{TypeCode}
 use Rattle.rules.specs.Block.{Bytes, wordBytes, part}
 use Rattle.rules.specs.Catalogue.{lengthOf, isType}
-use Rattle.rules.specs.Cells.{segment, segmentOf}
+use Rattle.rules.specs.Cells.{segment, segmentOf, arriving}
 use Rattle.rules.specs.Table.{count, cellSize, cellStart, room, typeAt, listing, cellBytes}
 use Rattle.cells.specs.Sound.{Sound}
 use Rattle.cells.proofs.Located.{type-of}
@@ -47,10 +47,10 @@ module _ {cat tab area : Bytes} {size r : ℕ} {t : TypeCode} (s : Insertable ca
   insert-fits long f = (omega (arith, s .long), omega (arith, length-cell cat t (s .known), s .sound .sized .is))
 
   inserted-bytes : IsBytes tab → withCell cat tab r t area
-      ≡ take 6 tab ++ (wordBytes (suc (count tab)) ++ (part tab 8 (r * size) ++ (cellBytes cat (segmentOf cat t area)
+      ≡ take 6 tab ++ (wordBytes (suc (count tab)) ++ (part tab 8 (r * size) ++ (cellBytes cat (arriving cat t area)
       ++ (part tab (8 + r * size) ((count tab - r) * size) ++ drop (8 + suc (count tab) * size) tab))))
   unfolding withCell
-  inserted-bytes bytes = rw (s .sound .sized .is) (insert-bytes cat tab (s .sound .table) bytes r (segmentOf cat t area) (s .place) (s .free))
+  inserted-bytes bytes = rw (s .sound .sized .is) (insert-bytes cat tab (s .sound .table) bytes r (arriving cat t area) (s .place) (s .free))
 
   pub insert-is : IsBytes tab → (n long : ℕ) (y cell tab′ : Bytes) → n ≡ count tab → long ≡ lengthOf cat t
       → (let start : ℕ = 8 + r * size in
@@ -61,7 +61,7 @@ module _ {cat tab area : Bytes} {size r : ℕ} {t : TypeCode} (s : Insertable ca
       → cell ≡ t .0 ∷ take long area ++ replicate (length (midOf start (start + size - start) b) - suc (length (take long area))) 0
       → tab′ ≡ take 6 d ++ (wordBytes (n + 1) ++ drop 8 d)
       → tab′ ≡ withCell cat tab r t area)
-  unfolding cellBytes segmentOf
+  unfolding cellBytes arriving segmentOf
   insert-is bytes n long y cell tab′ e f g h i =
       let start : ℕ = 8 + r * size in
       let end : ℕ = 8 + (n + 1) * size in
@@ -70,13 +70,13 @@ module _ {cat tab area : Bytes} {size r : ℕ} {t : TypeCode} (s : Insertable ca
       let l = insert-end n e in
       let m : n + 1 ≡ suc (count tab) = omega arith in
       let k : end - start - size ≡ (count tab - r) * size = omega (arith, split (s .sound) r (count tab) (s .place), ap (λ (j : ℕ). j * size) e) in
-      let c : cell ≡ cellBytes cat (segmentOf cat t area) =
+      let c : cell ≡ cellBytes cat (arriving cat t area) =
       h ∙ ap (λ (j : ℕ). t .0 ∷ take long area ++ replicate (j - suc (length (take long area))) 0) (up-room tab y start end size (l .0) (l .1) g ∙ s .sound .sized .is)
       ∙ ap (λ (j : ℕ). t .0 ∷ take j area ++ replicate (cellSize cat - suc (length (take j area))) 0) f in
       i ∙ counted tab d _ (wordBytes (n + 1)) (r * size) (omega arith) (up-cell tab y start end size (l .0) (l .1) g cell)
       ∙ ap (λ (x : Bytes). take 6 tab ++ (wordBytes (n + 1) ++ (part tab 8 (r * size) ++ (x ++ (take (end - start - size) (drop start tab) ++ drop end tab))))) c
-      ∙ ap (λ (j : ℕ). take 6 tab ++ (wordBytes (n + 1) ++ (part tab 8 (r * size) ++ (cellBytes cat (segmentOf cat t area) ++ (take j (drop start tab) ++ drop end tab))))) k
-      ∙ ap (λ (j : ℕ). take 6 tab ++ (wordBytes j ++ (part tab 8 (r * size) ++ (cellBytes cat (segmentOf cat t area)
+      ∙ ap (λ (j : ℕ). take 6 tab ++ (wordBytes (n + 1) ++ (part tab 8 (r * size) ++ (cellBytes cat (arriving cat t area) ++ (take j (drop start tab) ++ drop end tab))))) k
+      ∙ ap (λ (j : ℕ). take 6 tab ++ (wordBytes j ++ (part tab 8 (r * size) ++ (cellBytes cat (arriving cat t area)
       ++ (part tab start ((count tab - r) * size) ++ drop (8 + j * size) tab))))) m
       ∙ sym (inserted-bytes bytes)
 

@@ -7,7 +7,7 @@ use lib.ListN.{length, take, drop, set}
 use Rattle.terms.specs.declared.TypeCode.{TypeCode}
 use Rattle.rules.specs.Block.{Bytes}
 use Rattle.rules.specs.Catalogue.{lengthOf, isType}
-use Rattle.rules.specs.Cells.{Segment, segment, segmentOf}
+use Rattle.rules.specs.Cells.{Segment, segment, arriving}
 use Rattle.rules.specs.Table.{count, room, listing, tableBytes}
 use Rattle.cells.specs.Sound.{Sound}
 
@@ -22,11 +22,11 @@ module _ (cat tab : Bytes) where
 
   -- a cell of type t, from the front of the area, put in before cell r
   unfoldable pub withCell : ℕ → TypeCode → Bytes → Bytes
-  withCell r t area = withCells (take r cells ++ segmentOf cat t area ∷ drop r cells)
+  withCell r t area = withCells (take r cells ++ arriving cat t area ∷ drop r cells)
 
   -- the data of cell i taken from the front of the area
   unfoldable pub withData : ℕ → Bytes → Bytes
-  withData i area = withCells (set cells i (segmentOf cat (segment cells i .code) area))
+  withData i area = withCells (set cells i (arriving cat (segment cells i .code) area))
 
   -- the cells from i up to e taken out
   unfoldable pub withoutCells : ℕ → ℕ → Bytes

@@ -3,7 +3,7 @@ use mathlib.Core.Path.{_≡_, sym, _∙_}
 use mathlib.Core.Logic.{⊎-elim}
 use Prim.Native.Nat.{_≤_, _-_}
 use native.Mathlib.Omega.{arith}
-use Rattle.rules.specs.Cells.{segmentOf}
+use Rattle.rules.specs.Cells.{arriving}
 use Rattle.rules.specs.Table.{listing}
 use Rattle.twins.specs.Among.{placed}
 use Rattle.twins.proofs.Listing.{row-new}
@@ -13,7 +13,7 @@ use Rattle.twins.proofs.pass_row.Tie as tie
 
 abbrev Inv-loop : tie.InvT-loop
 Inv-loop cat tab size t area from to depth at₀ taken₀ at taken = (from ≤ at) × (at ≤ to) ×
-    (onward cat (listing cat tab) (segmentOf cat t area) at taken ≡ placed cat (listing cat tab) (segmentOf cat t area)
+    (onward cat (listing cat tab) (arriving cat t area) at taken ≡ placed cat (listing cat tab) (arriving cat t area)
     from)
 
 abbrev μ-loop : tie.MeasureT-loop

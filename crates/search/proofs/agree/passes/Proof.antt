@@ -1,6 +1,7 @@
 use native.Mathlib.Omega.{arith}
 use mathlib.Core.Path.{ap, _∙_}
 use Rattle.terms.specs.Operators.{holds}
+use Rattle.rules.specs.Matching.{tested}
 use Rattle.search.proofs.Fields.{field-in, field-small, field-order}
 use borrow.Author.Needs.{needs}
 use Rattle.search.proofs.agree.passes.Statement.{statement}
@@ -73,6 +74,7 @@ holds-requires : tie.Need-holds-requires
 holds-requires c κs = search needs
 
 returns : tie.Need-returns
+unfolding tested
 returns c =
     let ·args = c .before .before .before .before .before .before .before .before .before .before .before .args in
     let ·pre = c .before .before .before .before .before .before .before .before .before .before .before .pre in

@@ -28,7 +28,7 @@ returns-2 : tie.Need-returns-2
 returns-2 c = let ·args = c .before .before .before .before .before .before .before .args in
     let ·q = c .before .before .q in
     c .passes .ensures ∙ ap (λ (q : Qualification). satisfies (·args .cat .now)
-    (segment (listing (·args .cat .now) (·args .tab .now)) (·args .c .0) .bytes)
+    (segment (listing (·args .cat .now) (·args .tab .now)) (·args .c .0))
     (meant (·args .cat .now) (·args .list .now) q)) (sym (·q .given .1))
 
 pub satisfies-spec : {M : Type 1} → statement M
