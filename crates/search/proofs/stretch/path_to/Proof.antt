@@ -59,8 +59,11 @@ sub-l c = omega (
 )
 
 loop-less : tie.Need-loop-less Inv-loop μ-loop
-loop-less c = let ·parent-of = c .before .before .before .parent-of in
-    parent-some _ _ _ _ (sym (c .before .p .given .1) ∙ ·parent-of .ensures) .0
+loop-less c = omega (
+  arith,
+  parent-some _ _ _ _
+      (sym (c .before .p .given .1) ∙ c .before .before .before .parent-of .ensures) .0,
+)
 
 loop-again : tie.Need-loop-again Inv-loop μ-loop
 loop-again c = (
