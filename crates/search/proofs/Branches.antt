@@ -1,14 +1,14 @@
 -- The laws of a search, in the shape of the code's branches: over good blocks, with what the code has read. Assumes nothing.
 use mathlib.Core.Path.{_≡_, refl, ap, sym, _∙_, subst}
 use mathlib.Core.Bool.{Bool, true, false, _&&_}
-use mathlib.Core.List.{List, [], _∷_, reverse}
+use mathlib.Core.List.{List, [], _∷_}
 use mathlib.Core.Logic.{inl, inr}
 use Prim.Native.Nat.{ℕ, zero, suc, _+_, _-_, _<_, _≤_}
 use native.Mathlib.Numerals.{add-one}
 use native.Mathlib.Omega.{arith}
-use lib.Dec.{leb, eqb}
+use lib.Dec.{eqb}
 use lib.ListN.{length, drop}
-use borrow.Author.Tests.{le-leb, lt-leb, eq-eqb, ne-eqb, ltb-true, eqb-true, eqb-false}
+use borrow.Author.Tests.{eq-eqb, ne-eqb, ltb-true, eqb-true, eqb-false}
 use Rattle.terms.specs.declared.TypeCode.{TypeCode}
 use Rattle.terms.specs.declared.CellNumber.{CellNumber}
 use Rattle.terms.specs.declared.Qualification.{Qualification}
@@ -16,18 +16,17 @@ use Rattle.terms.specs.declared.Qualification.the-variants.{None, Test}
 use Rattle.terms.specs.declared.Argument.{Argument}
 use Rattle.terms.specs.declared.Place.{Place}
 use Rattle.terms.specs.declared.Place.the-variants.{On, Before}
-use Rattle.terms.specs.declared.Found.{Found}
 use Rattle.terms.specs.declared.Found.the-variants.{At, Nothing}
 use Rattle.terms.specs.Choice.{pick}
 use Rattle.terms.specs.Names.{cell}
 use Rattle.forest.specs.Forest.{inside, outside, side}
-use Rattle.forest.specs.Good.{on, off, is, both-left, both-right}
-use Rattle.forest.specs.Numbers.{ancestors, isIn, range}
+use Rattle.forest.specs.Good.{on, off, is}
+use Rattle.forest.specs.Numbers.{ancestors, isIn}
 use Rattle.forest.specs.Types as Types
-use Rattle.rules.specs.Block.{Bytes, byte, marked, every, zeros}
+use Rattle.rules.specs.Block.{Bytes}
 use Rattle.rules.specs.Catalogue.{types, parentOf, isType, lineage, level}
-use Rattle.rules.specs.Cells.{Segment, segment, levelAt, endAt, rowAt, goodListing}
-use Rattle.rules.specs.Table.{count, listing, room, cellSize, cellStart, goodRoom, padded, goodTable}
+use Rattle.rules.specs.Cells.{Segment, segment, levelAt, endAt, goodListing}
+use Rattle.rules.specs.Table.{count, listing}
 use Rattle.rules.specs.Arguments.{Level, ListRead, listRead, lastArgument, askedOf, meant}
 use Rattle.rules.specs.Matching.{satisfies, isImplied, pathTo, matches, seek, firstMatch, keptOn, kept, soughtBeneath, along}
 use Rattle.rules.specs.Position.{goodPlace}
@@ -37,13 +36,14 @@ use Rattle.rules.proofs.Search.{seek-none, seek-here, seek-next}
 use Rattle.catalogue.proofs.Hierarchy.{parent-least, parent-before, level-child, level-least}
 use Rattle.cells.specs.Lent.{nearest, parentAt}
 use Rattle.cells.proofs.Located.{end-within}
-use Rattle.cells.proofs.Ancestry.{own-type}
+use Rattle.cells.proofs.Ancestry.{own-type, sound-listing}
 use Rattle.search.specs.declared.Reached.{Reached}
-use Rattle.search.specs.Stretch.{levels, agreesAlone, stretch, stretchBefore, Carried}
-use Rattle.search.specs.Good.{Good, Testable, NextRoot, reached, Above}
+use Rattle.search.specs.Stretch.{levels, isLeftOut, agreesAlone, stretch, stretchBefore, Carried}
+use Rattle.search.specs.Good.{Good, Testable, NextRoot, Upcoming, reached}
 use Rattle.search.proofs.Rows.{Regular, back-parts}
-use Rattle.search.proofs.Carry.{headAgrees, headImplied, kept-none, stretch-within, stretch-le, carried-before, carried-parent, carried-root, next-short, next-on, next-off, full-agrees, match-yes, match-not, kept-short, kept-full}
-use Rattle.search.proofs.Levels.{regular, agrees-own, implied-own}
+use Rattle.search.proofs.Carry.{headAgrees, headImplied, stretch-within, stretch-le, carried-before, next-short, next-on, next-off, match-yes, match-not}
+use Rattle.search.proofs.Carry.{kept-none, keptTried, kept-row, kept-short, kept-full}
+use Rattle.search.proofs.Levels.{regular, agrees-own}
 use Rattle.arguments.specs.declared.Wanted.{Wanted}
 use Rattle.arguments.specs.declared.Wanted.the-variants.{Implied, Named}
 use Rattle.arguments.specs.Sound.{SoundList, GoodQualification, wantedOf, meaning}
@@ -57,18 +57,18 @@ not-implied cat list (Test o f v) = refl
 
 -- whether the type of cell i is left out: u is that type and w what the list wants of it, as the code has read them
 module _ (cat tab list : Bytes) (i : ℕ) (u : TypeCode) (e : u ≡ segment (listing cat tab) i .code) (w : Wanted) (f : w ≡ wantedOf (listRead cat list .arguments) u) where
-  abbrev isLeftOut : Bool
-  isLeftOut = isImplied (askedOf cat list (listRead cat list .arguments) (segment (listing cat tab) i .code))
+  abbrev leftOut : Bool
+  leftOut = isLeftOut cat list (segment (listing cat tab) i .code)
 
-  asked-own : isLeftOut ≡ isImplied (meaning cat list w)
+  asked-own : leftOut ≡ isImplied (meaning cat list w)
   asked-own =
       ap isImplied
       (ap (askedOf cat list (listRead cat list .arguments)) (sym e) ∙ asked-wanted cat list (listRead cat list .arguments) u ∙ ap (meaning cat list) (sym f))
 
-  pub implied-left : w ≡ Implied → true ≡ isLeftOut
+  pub implied-left : w ≡ Implied → true ≡ leftOut
   implied-left x = sym (asked-own ∙ ap (λ (v : Wanted). isImplied (meaning cat list v)) x)
 
-  pub implied-named : (q : Qualification) → w ≡ Named q → false ≡ isLeftOut
+  pub implied-named : (q : Qualification) → w ≡ Named q → false ≡ leftOut
   implied-named q x = sym (asked-own ∙ ap (λ (v : Wanted). isImplied (meaning cat list v)) x ∙ not-implied cat list q)
 
 -- the first match before e, cell by cell
@@ -77,17 +77,17 @@ module _ (cat : Bytes) (cs : List Segment) (ls : List Level) (i e : ℕ) where
   unfolding firstMatch
   first-none h = let z : e - i ≡ 0 = omega arith in sym (ap (seek cat cs ls i) z ∙ seek-none cat cs ls i)
 
-  pub first-here : i < e → matches cat cs ls i ≡ true → At (cell i) ≡ firstMatch cat cs ls i e
+  first-here : i < e → matches cat cs ls i ≡ true → At (cell i) ≡ firstMatch cat cs ls i e
   unfolding firstMatch
   first-here h m = sym (seek-here cat cs ls i (e - i) (omega arith) m)
 
-  pub first-next : i < e → matches cat cs ls i ≡ false → firstMatch cat cs ls (i + 1) e ≡ firstMatch cat cs ls i e
+  first-next : i < e → matches cat cs ls i ≡ false → firstMatch cat cs ls (i + 1) e ≡ firstMatch cat cs ls i e
   unfolding firstMatch
   first-next h m =
       let z : e - suc i ≡ e - i - 1 = omega arith in
       rw add-one (sym (seek-next cat cs ls i (e - i) (omega arith) m ∙ sym (ap (seek cat cs ls (suc i)) z)))
 
-pub every-match : (cat : Bytes) (cs : List Segment) (i : ℕ) → matches cat cs [] i ≡ true
+every-match : (cat : Bytes) (cs : List Segment) (i : ℕ) → matches cat cs [] i ≡ true
 unfolding matches
 every-match cat cs i = refl
 
@@ -121,8 +121,7 @@ module _ {cat tab list : Bytes} {size : ℕ} {t : TypeCode} (g : Good cat tab li
   lev = levelAt cat cs
 
   good-cells : goodListing cat cs ≡ true
-  unfolding goodTable
-  good-cells = both-right (goodRoom cat tab && marked 0x54 tab && eqb (byte tab 5) (cellSize cat) && leb (count tab) (room cat tab) && every (padded cat tab) (range 0 (count tab)) && zeros (drop (cellStart cat (count tab)) tab)) (goodListing cat cs) (g .table)
+  good-cells = sound-listing (record { catalogue = g .catalogue; table = g .table; sized = g .sized })
 
   pub steps : Regular lev (count tab)
   steps i h = regular cat (g .catalogue) cs good-cells i (omega (arith, listing-length cat tab))
@@ -133,7 +132,7 @@ module _ {cat tab list : Bytes} {size : ℕ} {t : TypeCode} (g : Good cat tab li
   last-level : length ls ≡ level cat t
   last-level = complete-length cat list (listRead cat list .arguments) t
 
-  pub some-level : 0 < t .0 → 0 < length ls
+  some-level : 0 < t .0 → 0 < length ls
   unfolding level lineage
   some-level h = omega (arith, last-level, ap length (Types.lineage-step (par cat) (types cat) (good-lower cat (g .catalogue)) (t .0) h (g .known)))
 
@@ -177,7 +176,7 @@ module _ {cat tab list : Bytes} {size : ℕ} {t : TypeCode} (g : Good cat tab li
 
   -- one cell: l is its level, as the code has read it
   module _ (i k l : ℕ) (h : i < count tab) (e : l ≡ lev i) where
-    agrees-cell : headAgrees cat cs (drop (lev i - 1) ls) i ≡ agreesAlone cat list t (segment cs i)
+    pub agrees-cell : headAgrees cat cs (drop (lev i - 1) ls) i ≡ agreesAlone cat list t (segment cs i)
     unfolding agreesAlone
     agrees-cell = agrees-own cat list (listRead cat list .arguments) cs i (g .catalogue) t (g .known) (level-some i h)
 
@@ -191,7 +190,7 @@ module _ {cat tab list : Bytes} {size : ℕ} {t : TypeCode} (g : Good cat tab li
     stretch-off c x a = ap (λ (n : ℕ). n - 1) e ∙ next-off cat cs ls (count tab) steps i k h c (omega arith) (agrees-cell ∙ a)
 
   -- a cell of another type than the root's lies beneath a root: with nothing carried its stretch is nothing
-  pub stretch-none : (i k : ℕ) (u : TypeCode) → i < count tab → Carried cat cs ls i k → k ≡ 0 → u ≡ segment cs i .code → (u .0 ≡ 1 → ⊥) → 0 ≡ stretch cat cs ls i
+  stretch-none : (i k : ℕ) (u : TypeCode) → i < count tab → Carried cat cs ls i k → k ≡ 0 → u ≡ segment cs i .code → (u .0 ≡ 1 → ⊥) → 0 ≡ stretch cat cs ls i
   unfolding levelAt
   stretch-none i k u h c z e n =
       let o = own-type cat cs (g .catalogue) good-cells i (omega (arith, listing-length cat tab)) in
@@ -202,58 +201,12 @@ module _ {cat tab list : Bytes} {size : ℕ} {t : TypeCode} (g : Good cat tab li
       let l : 2 ≤ lev i = omega (arith, level-child cat (g .catalogue) v (o .0) (o .1), level-least cat (g .catalogue) (parentOf cat v) p (omega (arith, o .1))) in
       sym z ∙ stretch-short i k (lev i) h refl c (omega arith)
 
-  -- one cell more on a path
-  module _ (i l long : ℕ) (r : Reached) (h : i < count tab) (a : Above cat cs ls i r) (e : l ≡ lev i) (f : long ≡ stretch cat cs ls i) where
-    abbrev leftOut : Bool
-    leftOut = isImplied (askedOf cat list (listRead cat list .arguments) (segment cs i .code))
-
-    together : (q : Found) → q ≡ keptOn cat cs ls (pathTo cat cs i) Nothing → record { long = long; kept = q } ≡ reached cat cs ls i
-    unfolding reached
-    together q x = rw (f, x)
-
-    pub reached-short : long < l → record { long = long; kept = r .kept } ≡ reached cat cs ls i
-    reached-short x = together (r .kept) (a .kept ∙ sym (kept-short cat cs ls (count tab) steps i h (omega arith)))
-
-    whole : l ≤ long → stretch cat cs ls i ≡ lev i
-    whole x = omega (arith, stretch-le cat cs ls (count tab) steps i h)
-
-    own-kept : l ≤ long → keptOn cat cs ls (pathTo cat cs i) Nothing ≡ pick leftOut (At (cell i)) (r .kept)
-    unfolding agreesAlone
-    own-kept x =
-        let y : agreesAlone cat list t (segment cs i) ≡ true = sym (agrees-cell i (r .long) l h e) ∙ full-agrees cat cs ls (count tab) steps i (r .long) h (a .long) (whole x) in
-        let z : isIn (segment cs i .code .0) (lineage cat t) ≡ true = both-left (isIn (segment cs i .code .0) (lineage cat t)) (satisfies cat (segment cs i) (askedOf cat list (listRead cat list .arguments) (segment cs i .code))) y in
-        kept-full cat cs ls (count tab) steps i h (whole x)
-        ∙ ap (λ (b : Bool). pick b (At (cell i)) (keptOn cat cs ls (reverse (ancestors lev i)) Nothing)) (implied-own cat list (listRead cat list .arguments) cs i (g .catalogue) t (g .known) (level-some i h) z)
-        ∙ ap (pick leftOut (At (cell i))) (sym (a .kept))
-
-    pub reached-implied : l ≤ long → leftOut ≡ true → record { long = long; kept = At (cell i) } ≡ reached cat cs ls i
-    reached-implied x n = together (At (cell i)) (sym (own-kept x ∙ ap (λ (b : Bool). pick b (At (cell i)) (r .kept)) n))
-
-    pub reached-named : l ≤ long → leftOut ≡ false → record { long = long; kept = r .kept } ≡ reached cat cs ls i
-    reached-named x n = together (r .kept) (sym (own-kept x ∙ ap (λ (b : Bool). pick b (At (cell i)) (r .kept)) n))
-
-  -- the path above a cell: none, or the path to its parent
-  module _ (i : ℕ) (h : i < count tab) where
-    pub above-root : Nothing ≡ parentAt cat cs i → Above cat cs ls i (record { long = 0; kept = Nothing })
-    above-root e =
-        let f = parent-none cat cs i e in
-        record { long = carried-root cat cs ls (count tab) steps i h f; kept = sym (ap (λ (p : List ℕ). keptOn cat cs ls (reverse p) Nothing) f ∙ kept-none cat cs ls Nothing) }
-
-    pub above-parent : (p : CellNumber) (r : Reached) → At p ≡ parentAt cat cs i → r ≡ reached cat cs ls (p .0) → Above cat cs ls i r
-    unfolding reached pathTo rowAt
-    above-parent p r e f =
-        let y = parent-some cat cs i p e .1 in
-        rw f (record { long = carried-parent cat cs ls (count tab) steps i (p .0) h y; kept = sym (ap (λ (q : List ℕ). keptOn cat cs ls (reverse q) Nothing) y) })
-
   -- the pass forward: what is carried, and what a turn finds
   pub carried-cell : (i k : ℕ) → i < count tab → k ≡ stretchBefore cat cs ls i → Carried cat cs ls i k
   carried-cell i k h e = rw e (carried-before cat cs ls (count tab) steps i h)
 
   pub before-next : (i long : ℕ) → long ≡ stretch cat cs ls i → long ≡ stretchBefore cat cs ls (i + 1)
   before-next i long e = rw add-one e
-
-  pub before-first : (i : ℕ) → i ≡ 0 → 0 ≡ stretchBefore cat cs ls i
-  before-first i e = rw e
 
   pub before-cell : (i : ℕ) (r : Reached) → (i ≡ 0 → ⊥) → r ≡ reached cat cs ls (i - 1) → r .long ≡ stretchBefore cat cs ls i
   unfolding reached
@@ -270,7 +223,7 @@ module _ {cat tab list : Bytes} {size : ℕ} {t : TypeCode} (g : Good cat tab li
         first-next cat cs ls i to h (match-not cat cs ls (count tab) steps i (omega arith) (some-level s) (λ a b. n (omega (arith, last-level)) (omega (arith, last-level))))
 
   -- where nothing is carried, a cell of another type than the root's is passed over
-  pub root-next : (i k to : ℕ) (u : TypeCode) → i < to → to ≤ count tab → 0 < t .0 → k ≡ 0 → k ≡ stretchBefore cat cs ls i → u ≡ segment cs i .code → (u .0 ≡ 1 → ⊥)
+  root-next : (i k to : ℕ) (u : TypeCode) → i < to → to ≤ count tab → 0 < t .0 → k ≡ 0 → k ≡ stretchBefore cat cs ls i → u ≡ segment cs i .code → (u .0 ≡ 1 → ⊥)
       → (k ≡ stretchBefore cat cs ls (i + 1)) × (firstMatch cat cs ls (i + 1) to ≡ firstMatch cat cs ls i to)
   root-next i k to u h w s z b e n =
       let f : 0 ≡ stretch cat cs ls i = stretch-none i k u (omega arith) (carried-cell i k (omega arith) b) z e n in
@@ -286,27 +239,13 @@ module _ {cat tab list : Bytes} {size : ℕ} {t : TypeCode} (g : Good cat tab li
       rw e (g .0, g .1 ∙ f .1)
 
   pub root-past : (i k to r : ℕ) → to ≤ count tab → 0 < t .0 → k ≡ 0 → k ≡ stretchBefore cat cs ls i → NextRoot cs i to r
-      → (i ≤ r) × (r ≤ to) × (k ≡ stretchBefore cat cs ls r) × (firstMatch cat cs ls r to ≡ firstMatch cat cs ls i to)
+      → Upcoming cat tab list t k i to r
   root-past i k to r w s z b n =
       let e : i + (r - i) ≡ r = omega (arith, n .least) in
       let g = rw e at (roots-past (r - i) i k to (omega (arith, n .most)) w s z b (λ j a c. n .others j a (omega arith))) in
       (n .least, n .most, g .0, g .1)
 
-  -- LAW: the stretch of a cell, from the stretch of the cell before it
-  pub stretch-next : (i : ℕ) → suc i < count tab
-      → stretch cat cs ls (suc i) ≡ pick (leb (lev (suc i) - 1) (stretch cat cs ls i)) (pick (agreesAlone cat list t (segment cs (suc i))) (lev (suc i)) (lev (suc i) - 1)) (stretch cat cs ls i)
-  stretch-next i h =
-      let k = stretch cat cs ls i in
-      let c = carried-before cat cs ls (count tab) steps (suc i) h in
-      elim (side k (lev (suc i) - 1)) [
-        | inside l ↦ rw (lt-leb (lev (suc i) - 1) k l) (sym (stretch-short (suc i) k (lev (suc i)) h refl c l))
-        | outside l ↦ rw (le-leb (lev (suc i) - 1) k l) (elim (is (agreesAlone cat list t (segment cs (suc i)))) [
-          | on a ↦ rw a (sym (stretch-on (suc i) k (lev (suc i)) h refl c l a))
-          | off a ↦ rw a (sym (stretch-off (suc i) k (lev (suc i)) h refl c l a))
-        ])
-      ]
-
-  -- LAW: and whether it matches, from that number
+  -- LAW: whether a cell matches, from its stretch
   pub match-stretch : (i : ℕ) → i < count tab → 0 < t .0 → matches cat cs ls i ≡ (eqb (lev i) (length ls) && eqb (stretch cat cs ls i) (length ls))
   match-stretch i h s = elim (is (eqb (lev i) (length ls))) [
     | on a ↦ rw a (elim (is (eqb (stretch cat cs ls i) (length ls))) [
@@ -324,19 +263,15 @@ module _ {cat tab list : Bytes} {size : ℕ} {t : TypeCode} (g : Good cat tab li
       none [] e = every-match cat cs i
       none (m ∷ ms) e = absurd (omega arith)
 
-  path-row : (i : ℕ) → keptOn cat cs ls (reverse (i ∷ ancestors lev i)) Nothing ≡ keptOn cat cs ls (pathTo cat cs i) Nothing
-  unfolding pathTo rowAt
-  path-row i = refl
-
   -- what is kept agrees as a whole
   abbrev Whole : CellNumber → Type 0
   Whole c = (c .0 < count tab) × (stretch cat cs ls (c .0) ≡ lev (c .0))
 
   kept-above : (i : ℕ) (c : CellNumber) → ((p : ℕ) → p < i → At c ≡ keptOn cat cs ls (pathTo cat cs p) Nothing → Whole c)
-      → At c ≡ keptOn cat cs ls (reverse (ancestors lev i)) Nothing → Whole c
+      → At c ≡ keptTried cat cs ls (ancestors lev i) → Whole c
   kept-above i c rec e = elim (back-parts lev (lev i) i) [
-    | inl f ↦ absurd (let y : At c ≡ Nothing = e ∙ ap (λ (p : List ℕ). keptOn cat cs ls (reverse p) Nothing) f ∙ kept-none cat cs ls Nothing in let z : _≡_ {A = ℕ} 0 1 = cc in omega arith)
-    | inr r ↦ rec (r .0) (r .1) (e ∙ ap (λ (p : List ℕ). keptOn cat cs ls (reverse p) Nothing) (r .3) ∙ path-row (r .0))
+    | inl f ↦ absurd (let y : At c ≡ Nothing = e ∙ ap (keptTried cat cs ls) f ∙ kept-none cat cs ls Nothing in let z : _≡_ {A = ℕ} 0 1 = cc in omega arith)
+    | inr r ↦ rec (r .0) (r .1) (e ∙ ap (keptTried cat cs ls) (r .3) ∙ sym (kept-row cat cs ls (count tab) steps (r .0)))
   ]
 
   kept-whole : (n i : ℕ) (c : CellNumber) → i < n → i < count tab → At c ≡ keptOn cat cs ls (pathTo cat cs i) Nothing → Whole c
@@ -347,8 +282,9 @@ module _ {cat tab list : Bytes} {size : ℕ} {t : TypeCode} (g : Good cat tab li
         | inside x ↦ kept-above i c rec (e ∙ kept-short cat cs ls (count tab) steps i h x)
         | outside x ↦
             let f : stretch cat cs ls i ≡ lev i = omega (arith, stretch-le cat cs ls (count tab) steps i h) in
-            let k : At c ≡ pick (headImplied cat cs (drop (lev i - 1) ls)) (At (cell i)) (keptOn cat cs ls (reverse (ancestors lev i)) Nothing) = e ∙ kept-full cat cs ls (count tab) steps i h f in
-            elim (is (headImplied cat cs (drop (lev i - 1) ls))) [
+            let m : Bool = headImplied cat cs (drop (lev i - 1) ls) in
+            let k : At c ≡ pick m (At (cell i)) (keptTried cat cs ls (ancestors lev i)) = e ∙ kept-full cat cs ls (count tab) steps i h f in
+            elim (is m) [
               | on b ↦
                   let y : At c ≡ At (cell i) = rw b at k in
                   let z : c ≡ cell i = cc in

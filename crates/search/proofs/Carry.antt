@@ -40,7 +40,7 @@ module _ (cat : Bytes) (cs : List Segment) where
   unfolding tryPath
   try-out l ls i p e = rw (tryPath, e)
 
-  try-none : (ls : List Level) → tryPath cat cs ls [] ≡ 0
+  pub try-none : (ls : List Level) → tryPath cat cs ls [] ≡ 0
   unfolding tryPath
   try-none [] = refl
   try-none (l ∷ ls) = refl
@@ -163,20 +163,20 @@ module _ (cat : Bytes) (cs : List Segment) where
 
   module _ (ls : List Level) where
     -- the same, for a row, nearest first
-    abbrev tried : List ℕ → ℕ
+    abbrev pub tried : List ℕ → ℕ
     tried row = tryPath cat cs ls (reverse row)
 
-    tried-le : (row : List ℕ) → tried row ≤ length row
+    pub tried-le : (row : List ℕ) → tried row ≤ length row
     tried-le row = omega (arith, try-le ls (reverse row) .0, length-reverse row)
 
-    tried-on : (row : List ℕ) (i : ℕ) → tried row ≡ length row → headAgrees (drop (length row) ls) i ≡ true → tried (i ∷ row) ≡ suc (length row)
+    pub tried-on : (row : List ℕ) (i : ℕ) → tried row ≡ length row → headAgrees (drop (length row) ls) i ≡ true → tried (i ∷ row) ≡ suc (length row)
     tried-on row i f e =
         rw (reverse-cons i row) (try-on ls (reverse row) i (f ∙ sym (length-reverse row)) (rw (length-reverse row) e) ∙ ap suc (length-reverse row))
 
-    tried-off : (row : List ℕ) (i : ℕ) → headAgrees (drop (length row) ls) i ≡ false → tried (i ∷ row) ≡ tried row
+    pub tried-off : (row : List ℕ) (i : ℕ) → headAgrees (drop (length row) ls) i ≡ false → tried (i ∷ row) ≡ tried row
     tried-off row i e = rw (reverse-cons i row) (try-off ls (reverse row) i (inl (rw (length-reverse row) e)))
 
-    tried-short : (row : List ℕ) (i : ℕ) → tried row < length row → tried (i ∷ row) ≡ tried row
+    pub tried-short : (row : List ℕ) (i : ℕ) → tried row < length row → tried (i ∷ row) ≡ tried row
     tried-short row i h = rw (reverse-cons i row) (try-off ls (reverse row) i (inr (rw (length-reverse row) h)))
 
     tried-either : (row : List ℕ) (i : ℕ) → (tried (i ∷ row) ≡ tried row) ⊎ ((tried row ≡ length row) × (tried (i ∷ row) ≡ suc (length row)))
@@ -189,6 +189,24 @@ module _ (cat : Bytes) (cs : List Segment) where
             | off e ↦ inl (tried-off row i e)
           ]
     ]
+
+    -- and what is kept of it
+    abbrev pub keptTried : List ℕ → Found
+    keptTried row = keptOn cat cs ls (reverse row) Nothing
+
+    pub keeps-on : (row : List ℕ) (i : ℕ) → tried (i ∷ row) ≡ suc (length row)
+        → keptTried (i ∷ row) ≡ pick (headImplied (drop (length row) ls)) (At (cell i)) (keptTried row)
+    keeps-on row i f =
+        let g : tryPath cat cs ls (reverse row ++ (i ∷ [])) ≡ suc (length (reverse row)) =
+        ap (tryPath cat cs ls) (sym (reverse-cons i row)) ∙ f ∙ ap suc (sym (length-reverse row)) in
+        ap (λ (p : List ℕ). keptOn cat cs ls p Nothing) (reverse-cons i row) ∙ kept-on ls (reverse row) i Nothing g
+        ∙ ap (λ (m : ℕ). pick (headImplied (drop m ls)) (At (cell i)) (keptTried row)) (length-reverse row)
+
+    pub keeps-off : (row : List ℕ) (i : ℕ) → tried (i ∷ row) ≤ length row → keptTried (i ∷ row) ≡ keptTried row
+    keeps-off row i l =
+        let e : tried (i ∷ row) ≡ tryPath cat cs ls (reverse row ++ (i ∷ [])) = ap (tryPath cat cs ls) (reverse-cons i row) in
+        ap (λ (p : List ℕ). keptOn cat cs ls p Nothing) (reverse-cons i row)
+        ∙ kept-off ls (reverse row) i Nothing (omega (arith, length-reverse row))
 
     abbrev lev : ℕ → ℕ
     lev = levelAt cat cs
@@ -230,10 +248,10 @@ module _ (cat : Bytes) (cs : List Segment) where
       abbrev rowOf : ℕ → List ℕ
       rowOf i = ancestors lev i
 
-      length-row : (i : ℕ) → i < n → suc (length (rowOf i)) ≡ lev i
+      pub length-row : (i : ℕ) → i < n → suc (length (rowOf i)) ≡ lev i
       length-row i h = let g = reg i h in length-back lev n reg i (lev i) (omega arith) (g .0) (g .1)
 
-      stretch-row : (i : ℕ) → stretch cat cs ls i ≡ tried (i ∷ rowOf i)
+      pub stretch-row : (i : ℕ) → stretch cat cs ls i ≡ tried (i ∷ rowOf i)
       unfolding stretch pathTo rowAt
       stretch-row i = refl
 
@@ -260,16 +278,6 @@ module _ (cat : Bytes) (cs : List Segment) where
           let u : above (suc (lev i)) (suc i) ≡ stretch cat cs ls i = ap tried (back-in lev (suc (lev i)) i (downTo i) (omega arith)) ∙ sym (stretch-row i) in
           let c = cut (suc i) (lev (suc i)) (suc (lev i)) (omega arith) (g .0) (g .1) (omega arith) in
           record { short = λ x. above-row (suc i) ∙ c .0 (omega arith) ∙ u; full = λ x. omega (arith, above-row (suc i), c .1 (omega arith)) }
-
-      -- and so is what its parent has
-      above-carried : (i k : ℕ) → i < n → stretchAbove cat cs ls i ≡ k → Carried cat cs ls i k
-      above-carried i k h e = record { short = λ x. e; full = λ x. omega (arith, above-row i, tried-le (rowOf i), length-row i h) }
-
-      pub carried-parent : (i p : ℕ) → i < n → rowOf i ≡ p ∷ rowOf p → Carried cat cs ls i (stretch cat cs ls p)
-      carried-parent i p h e = above-carried i (stretch cat cs ls p) h (above-row i ∙ ap tried e ∙ sym (stretch-row p))
-
-      pub carried-root : (i : ℕ) → i < n → rowOf i ≡ [] → Carried cat cs ls i 0
-      carried-root i h e = above-carried i 0 h (above-row i ∙ ap tried e ∙ try-none ls)
 
       module _ (i k : ℕ) (h : i < n) (c : Carried cat cs ls i k) where
         long : length (rowOf i) ≡ lev i - 1
@@ -315,25 +323,15 @@ module _ (cat : Bytes) (cs : List Segment) where
       abbrev keptAt : ℕ → Found
       keptAt i = keptOn cat cs ls (pathTo cat cs i) Nothing
 
-      abbrev keptAbove : ℕ → Found
-      keptAbove i = keptOn cat cs ls (reverse (rowOf i)) Nothing
-
-      path-cons : (i : ℕ) → pathTo cat cs i ≡ reverse (rowOf i) ++ (i ∷ [])
+      pub kept-row : (i : ℕ) → keptAt i ≡ keptTried (i ∷ rowOf i)
       unfolding pathTo rowAt
-      path-cons i = reverse-cons i (rowOf i)
+      kept-row i = refl
 
-      stretch-cons : (i : ℕ) → tryPath cat cs ls (reverse (rowOf i) ++ (i ∷ [])) ≡ stretch cat cs ls i
-      unfolding stretch
-      stretch-cons i = sym (ap (tryPath cat cs ls) (path-cons i))
+      pub kept-short : (i : ℕ) → i < n → stretch cat cs ls i < lev i → keptAt i ≡ keptTried (rowOf i)
+      kept-short i h l = kept-row i ∙ keeps-off (rowOf i) i (omega (arith, stretch-row i, length-row i h))
 
-      pub kept-short : (i : ℕ) → i < n → stretch cat cs ls i < lev i → keptAt i ≡ keptAbove i
-      kept-short i h l =
-          ap (λ (p : List ℕ). keptOn cat cs ls p Nothing) (path-cons i)
-          ∙ kept-off ls (reverse (rowOf i)) i Nothing (omega (arith, stretch-cons i, length-reverse (rowOf i), length-row i h))
-
-      pub kept-full : (i : ℕ) → i < n → stretch cat cs ls i ≡ lev i → keptAt i ≡ pick (headImplied (drop (lev i - 1) ls)) (At (cell i)) (keptAbove i)
+      pub kept-full : (i : ℕ) → i < n → stretch cat cs ls i ≡ lev i → keptAt i ≡ pick (headImplied (drop (lev i - 1) ls)) (At (cell i)) (keptTried (rowOf i))
       kept-full i h e =
-          let w : length (reverse (rowOf i)) ≡ lev i - 1 = omega (arith, length-reverse (rowOf i), length-row i h) in
-          ap (λ (p : List ℕ). keptOn cat cs ls p Nothing) (path-cons i)
-          ∙ kept-on ls (reverse (rowOf i)) i Nothing (omega (arith, stretch-cons i, w, length-row i h))
-          ∙ ap (λ (m : ℕ). pick (headImplied (drop m ls)) (At (cell i)) (keptAbove i)) w
+          let w : length (rowOf i) ≡ lev i - 1 = omega (arith, length-row i h) in
+          kept-row i ∙ keeps-on (rowOf i) i (omega (arith, stretch-row i, length-row i h))
+          ∙ ap (λ (m : ℕ). pick (headImplied (drop m ls)) (At (cell i)) (keptTried (rowOf i))) w

@@ -74,7 +74,7 @@ module _ {cat tab list : Bytes} {size i v : ℕ} {o : Operator} {f : FieldNumber
   pub field-small : i * size ≤ 495616
   field-small = start-small (h .sized) i (omega (arith, h .cell))
 
-  pub field-of : part tab (8 + i * size + start) long ≡ fieldBytes cat f (segment (listing cat tab) i)
+  field-of : part tab (8 + i * size + start) long ≡ fieldBytes cat f (segment (listing cat tab) i)
   unfolding fieldBytes
   field-of =
       let L = lengthOf cat (segment (listing cat tab) i .code) in

@@ -3,3 +3,4 @@ pub mod Carry
 pub mod Levels
 pub mod Fields
 pub mod Branches
+pub mod Climb

@@ -1,23 +1,28 @@
 -- What a search asks of the lent blocks, and what a path gives it. Assumes nothing: these are definitions.
 use mathlib.Core.Path.{_≡_}
 use mathlib.Core.Bool.{true}
-use mathlib.Core.List.{List, reverse}
+use mathlib.Core.List.{List, _∷_, reverse}
 use Prim.Native.Nat.{ℕ, _≤_, _<_}
+use lib.Dec.{ltb}
+use lib.ListN.{length}
 use Rattle.terms.specs.declared.TypeCode.{TypeCode}
 use Rattle.terms.specs.declared.Qualification.{Qualification}
 use Rattle.terms.specs.declared.Status.the-variants.{Blank}
-use Rattle.terms.specs.declared.Found.the-variants.{Nothing}
+use Rattle.terms.specs.declared.Found.{Found}
+use Rattle.terms.specs.declared.Found.the-variants.{At, Nothing}
+use Rattle.terms.specs.Choice.{pick}
 use Rattle.forest.specs.Numbers.{ancestors}
 use Rattle.rules.specs.Block.{Bytes}
 use Rattle.rules.specs.Catalogue.{types, goodCatalogue}
 use Rattle.rules.specs.Cells.{Segment, segment, levelAt}
 use Rattle.rules.specs.Table.{count, listing, goodTable}
 use Rattle.rules.specs.Arguments.{Level, listRead}
-use Rattle.rules.specs.Matching.{pathTo, keptOn}
+use Rattle.rules.specs.Matching.{pathTo, firstMatch, keptOn}
+use Rattle.rules.specs.Tree.{tryPath}
 use Rattle.cells.specs.Lent.{Sized}
 use Rattle.arguments.specs.Sound.{GoodQualification}
 use Rattle.search.specs.declared.Reached.{Reached}
-use Rattle.search.specs.Stretch.{stretch, Carried}
+use Rattle.search.specs.Stretch.{levels, stretch, stretchBefore}
 
 -- a good table on a good catalogue, a sound list, and a type of that catalogue or 0
 pub record Good (cat tab list : Bytes) (size : ℕ) (t : TypeCode) : Type 0 where
@@ -40,12 +45,34 @@ pub record NextRoot (cs : List Segment) (from to r : ℕ) : Type 0 where
   pub most : r ≤ to
   pub others : (j : ℕ) → from ≤ j → j < r → segment cs j .code .0 ≡ 1 → ⊥
 
+-- the lower of what two stretches keep, p below q
+abbrev pub lower : Found → Found → Found
+lower Nothing q = q
+lower (At c) q = At c
+
 module _ (cat : Bytes) (cs : List Segment) (ls : List Level) where
   -- of the path to cell i: how far it agrees, and what of that is kept
   unfoldable pub reached : ℕ → Reached
   reached i = record { long = stretch cat cs ls i; kept = keptOn cat cs ls (pathTo cat cs i) Nothing }
 
-  -- the same of the path to its parent, as it is carried to cell i
-  pub record Above (i : ℕ) (r : Reached) : Type 0 where
-    pub long : Carried cat cs ls i (r .long)
-    pub kept : r .kept ≡ keptOn cat cs ls (reverse (ancestors (levelAt cat cs) i)) Nothing
+  -- on the way up: what the whole path reaches, where the cells of this row, the nearest first, are still to be climbed, and b was gathered below
+  -- them. A row that does not agree as a whole ends the stretch; what is kept below goes before what is kept in the row
+  unfoldable pub joined : List ℕ → Reached → Reached
+  joined row b =
+      let long = tryPath cat cs ls (reverse row) in
+      let kept = keptOn cat cs ls (reverse row) Nothing in
+      pick (ltb long (length row)) (record { long = long; kept = kept }) (record { long = b .long; kept = lower (b .kept) kept })
+
+module _ (cat tab list : Bytes) (t : TypeCode) where
+  -- the same where cell i is still to be climbed, with its ancestors; and where its ancestors are
+  abbrev pub fromCell : ℕ → Reached → Reached
+  fromCell i = joined cat (listing cat tab) (levels cat list t) (i ∷ ancestors (levelAt cat (listing cat tab)) i)
+
+  abbrev pub aboveCell : ℕ → Reached → Reached
+  aboveCell i = joined cat (listing cat tab) (levels cat list t) (ancestors (levelAt cat (listing cat tab)) i)
+
+  -- a pass from cell `from` on may go to cell r at once: what it carries is k there too, and the first match before `to` is the same
+  abbrev pub Upcoming : ℕ → ℕ → ℕ → ℕ → Type 0
+  Upcoming k from to r =
+      (from ≤ r) × (r ≤ to) × (k ≡ stretchBefore cat (listing cat tab) (levels cat list t) r)
+      × (firstMatch cat (listing cat tab) (levels cat list t) r to ≡ firstMatch cat (listing cat tab) (levels cat list t) from to)

@@ -9,8 +9,12 @@ use Rattle.rules.specs.Block.{Bytes}
 use Rattle.rules.specs.Catalogue.{lineage}
 use Rattle.rules.specs.Cells.{Segment, levelAt}
 use Rattle.rules.specs.Arguments.{Level, listRead, askedOf, complete}
-use Rattle.rules.specs.Matching.{satisfies, pathTo}
+use Rattle.rules.specs.Matching.{satisfies, isImplied, pathTo}
 use Rattle.rules.specs.Tree.{tryPath}
+
+-- the list leaves out type u: its level is implied
+abbrev pub isLeftOut : Bytes → Bytes → TypeCode → Bool
+isLeftOut cat list u = isImplied (askedOf cat list (listRead cat list .arguments) u)
 
 module _ (cat list : Bytes) (t : TypeCode) where
   -- the list, completed down to type t; no levels, for no type

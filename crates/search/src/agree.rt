@@ -15,14 +15,14 @@ use terms::TypeCode;
 use terms::operators::holds;
 ghost use mathlib.Core.Path.{_≡_};
 ghost use Prim.Native.Nat.{_<_};
-ghost use Rattle.rules.specs.Arguments.{listRead, meant, askedOf};
+ghost use Rattle.rules.specs.Arguments.{meant};
 ghost use Rattle.rules.specs.Cells.{segment};
-ghost use Rattle.rules.specs.Matching.{satisfies, isImplied};
+ghost use Rattle.rules.specs.Matching.{satisfies};
 ghost use Rattle.rules.specs.Table.{count, listing};
 ghost use Rattle.cells.specs.Lent.{Sized};
 ghost use Rattle.arguments.specs.Sound.{SoundList};
 ghost use Rattle.search.specs.Good.{Good, Testable};
-ghost use Rattle.search.specs.Stretch.{agreesAlone};
+ghost use Rattle.search.specs.Stretch.{agreesAlone, isLeftOut};
 
 // "The segment's field stands left of the operator." The value begins at byte v of the list; a field counts from 1 behind the type code.
 fn passes(
@@ -36,7 +36,8 @@ fn passes(
     v: usize,
 ) -> bool
     requires { ⌜ Testable (now cat) (now tab) (now list) size (c .0) (Qualification.Test o f v) ⌝ }
-    ensures { λ r. ⌜ r ≡ satisfies (now (cat .entry)) (segment (listing (now (cat .entry)) (now (tab .entry))) (c .0)) (meant (now (cat .entry)) (now (list .entry)) (Qualification.Test o f v)) ⌝ }
+    ensures { λ r. ⌜ r ≡ satisfies (now (cat .entry)) (segment (listing (now (cat .entry)) (now (tab .entry))) (c .0))
+        (meant (now (cat .entry)) (now (list .entry)) (Qualification.Test o f v)) ⌝ }
 {
     let long = wide(field_length(cat, f));
     let i = c.0;
@@ -56,7 +57,8 @@ pub fn satisfies(
     q: Qualification,
 ) -> bool
     requires { ⌜ Testable (now cat) (now tab) (now list) size (c .0) q ⌝ }
-    ensures { λ r. ⌜ r ≡ satisfies (now (cat .entry)) (segment (listing (now (cat .entry)) (now (tab .entry))) (c .0)) (meant (now (cat .entry)) (now (list .entry)) q) ⌝ }
+    ensures { λ r. ⌜ r ≡ satisfies (now (cat .entry)) (segment (listing (now (cat .entry)) (now (tab .entry))) (c .0))
+        (meant (now (cat .entry)) (now (list .entry)) q) ⌝ }
 {
     match q {
         Qualification::None => true,
@@ -89,7 +91,7 @@ pub(crate) fn agrees(
 // Whether the list leaves out the type of a cell.
 pub(crate) fn is_implied(cat: &[u8], tab: &[u8], size: usize, list: &[u8], c: CellNumber) -> bool
     requires { ⌜ Sized (now cat) (now tab) size × SoundList (now cat) (now list) × (c .0 < count (now tab)) ⌝ }
-    ensures { λ r. ⌜ r ≡ isImplied (askedOf (now (cat .entry)) (now (list .entry)) (listRead (now (cat .entry)) (now (list .entry)) .arguments) (segment (listing (now (cat .entry)) (now (tab .entry))) (c .0) .code)) ⌝ }
+    ensures { λ r. ⌜ r ≡ isLeftOut (now (cat .entry)) (now (list .entry)) (segment (listing (now (cat .entry)) (now (tab .entry))) (c .0) .code) ⌝ }
 {
     match wanted(cat, list, code_at(cat, tab, size, c)) {
         Wanted::Implied => true,

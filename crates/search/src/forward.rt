@@ -12,7 +12,7 @@ ghost use Prim.Native.Nat.{_≤_, _<_};
 ghost use Rattle.rules.specs.Matching.{firstMatch};
 ghost use Rattle.rules.specs.Table.{count, listing};
 ghost use Rattle.cells.specs.Lent.{Sized};
-ghost use Rattle.search.specs.Good.{Good, NextRoot};
+ghost use Rattle.search.specs.Good.{Good, NextRoot, Upcoming};
 ghost use Rattle.search.specs.Stretch.{levels, stretchBefore};
 
 // The first cell of the root's type from `from` on and before `to`; or `to`.
@@ -41,8 +41,9 @@ fn upcoming(
     from: usize,
     to: usize,
 ) -> usize
-    requires { ⌜ Good (now cat) (now tab) (now list) size t × (0 < t .0) × (to ≤ count (now tab)) × (k ≡ stretchBefore (now cat) (listing (now cat) (now tab)) (levels (now cat) (now list) t) from) × (from ≤ to) ⌝ }
-    ensures { λ r. ⌜ (from ≤ r) × (r ≤ to) × (k ≡ stretchBefore (now (cat .entry)) (listing (now (cat .entry)) (now (tab .entry))) (levels (now (cat .entry)) (now (list .entry)) t) r) × (firstMatch (now (cat .entry)) (listing (now (cat .entry)) (now (tab .entry))) (levels (now (cat .entry)) (now (list .entry)) t) r to ≡ firstMatch (now (cat .entry)) (listing (now (cat .entry)) (now (tab .entry))) (levels (now (cat .entry)) (now (list .entry)) t) from to) ⌝ }
+    requires { ⌜ Good (now cat) (now tab) (now list) size t × (0 < t .0) × (to ≤ count (now tab))
+        × (k ≡ stretchBefore (now cat) (listing (now cat) (now tab)) (levels (now cat) (now list) t) from) × (from ≤ to) ⌝ }
+    ensures { λ r. ⌜ Upcoming (now (cat .entry)) (now (tab .entry)) (now (list .entry)) t k from to r ⌝ }
 {
     if k != 0 {
         return from;
@@ -61,8 +62,10 @@ pub fn forward(
     from: usize,
     to: usize,
 ) -> Found
-    requires { ⌜ Good (now cat) (now tab) (now list) size t × (0 < t .0) × (to ≤ count (now tab)) × (k ≡ stretchBefore (now cat) (listing (now cat) (now tab)) (levels (now cat) (now list) t) from) ⌝ }
-    ensures { λ r. ⌜ r ≡ firstMatch (now (cat .entry)) (listing (now (cat .entry)) (now (tab .entry))) (levels (now (cat .entry)) (now (list .entry)) t) from to ⌝ }
+    requires { ⌜ Good (now cat) (now tab) (now list) size t × (0 < t .0) × (to ≤ count (now tab))
+        × (k ≡ stretchBefore (now cat) (listing (now cat) (now tab)) (levels (now cat) (now list) t) from) ⌝ }
+    ensures { λ r. ⌜ r ≡ firstMatch (now (cat .entry)) (listing (now (cat .entry)) (now (tab .entry)))
+        (levels (now (cat .entry)) (now (list .entry)) t) from to ⌝ }
 {
     let last = level(cat, t);
     let mut long = k;
@@ -96,7 +99,8 @@ pub fn first_match(
     to: usize,
 ) -> Found
     requires { ⌜ Good (now cat) (now tab) (now list) size t × (to ≤ count (now tab)) ⌝ }
-    ensures { λ r. ⌜ r ≡ firstMatch (now (cat .entry)) (listing (now (cat .entry)) (now (tab .entry))) (levels (now (cat .entry)) (now (list .entry)) t) from to ⌝ }
+    ensures { λ r. ⌜ r ≡ firstMatch (now (cat .entry)) (listing (now (cat .entry)) (now (tab .entry)))
+        (levels (now (cat .entry)) (now (list .entry)) t) from to ⌝ }
 {
     if to <= from {
         return Found::Nothing;

@@ -11,7 +11,7 @@ ghost use mathlib.Core.Path.{_≡_};
 ghost use Prim.Native.Nat.{_<_};
 ghost use Rattle.rules.specs.Cells.{levelAt};
 ghost use Rattle.rules.specs.Table.{count, listing};
-ghost use Rattle.search.specs.Good.{Good, reached, Above};
+ghost use Rattle.search.specs.Good.{Good, reached, fromCell, aboveCell};
 ghost use Rattle.search.specs.Stretch.{levels, stretch, Carried};
 
 // From k, what is carried to a cell of level l, to the cell's own stretch. Where k does not reach its parent the cell need not be looked at.
@@ -25,7 +25,9 @@ pub(crate) fn stretched(
     l: u8,
     c: CellNumber,
 ) -> u8
-    requires { ⌜ Good (now cat) (now tab) (now list) size t × (c .0 < count (now tab)) × (l ≡ levelAt (now cat) (listing (now cat) (now tab)) (c .0)) × Carried (now cat) (listing (now cat) (now tab)) (levels (now cat) (now list) t) (c .0) k ⌝ }
+    requires { ⌜ Good (now cat) (now tab) (now list) size t × (c .0 < count (now tab))
+        × (l ≡ levelAt (now cat) (listing (now cat) (now tab)) (c .0))
+        × Carried (now cat) (listing (now cat) (now tab)) (levels (now cat) (now list) t) (c .0) k ⌝ }
     ensures { λ r. ⌜ r ≡ stretch (now (cat .entry)) (listing (now (cat .entry)) (now (tab .entry))) (levels (now (cat .entry)) (now (list .entry)) t) (c .0) ⌝ }
 {
     let above = l - 1;
@@ -38,41 +40,44 @@ pub(crate) fn stretched(
     l
 }
 
-// One cell more on a path: "Keep the part of it down to and including its last implied level".
-fn one_more(
+// One level on the way up; l is that of cell c, and `below` what was gathered beneath it. Where the cell does not agree the stretch ends above it, and
+// nothing beneath counts; else the lowest implied level is the one to keep, and it is met first.
+fn one_up(
     cat: &[u8],
     tab: &[u8],
     size: usize,
     list: &[u8],
     t: TypeCode,
-    above: Reached,
+    below: Reached,
+    l: u8,
     c: CellNumber,
 ) -> Reached
-    requires { ⌜ Good (now cat) (now tab) (now list) size t × (c .0 < count (now tab)) × Above (now cat) (listing (now cat) (now tab)) (levels (now cat) (now list) t) (c .0) above ⌝ }
-    ensures { λ r. ⌜ r ≡ reached (now (cat .entry)) (listing (now (cat .entry)) (now (tab .entry))) (levels (now (cat .entry)) (now (list .entry)) t) (c .0) ⌝ }
+    requires { ⌜ Good (now cat) (now tab) (now list) size t × (c .0 < count (now tab))
+        × (l ≡ levelAt (now cat) (listing (now cat) (now tab)) (c .0)) ⌝ }
+    ensures { λ r. ⌜ aboveCell (now (cat .entry)) (now (tab .entry)) (now (list .entry)) t (c .0) r
+        ≡ fromCell (now (cat .entry)) (now (tab .entry)) (now (list .entry)) t (c .0) below ⌝ }
 {
-    let kept = above.kept;
-    let l = level_at(cat, tab, size, c);
-    let long = stretched(cat, tab, size, list, t, above.long, l, c);
-    if long < l {
+    let kept = below.kept;
+    if !agrees(cat, tab, size, list, t, c) {
+        let above = l - 1;
         return Reached {
-            long: long,
-            kept: kept,
+            long: above,
+            kept: Found::Nothing,
         };
     }
-    if is_implied(cat, tab, size, list, c) {
-        return Reached {
-            long: long,
-            kept: Found::At(c),
-        };
+    if let Found::At(_) = kept {
+        return below;
+    }
+    if !is_implied(cat, tab, size, list, c) {
+        return below;
     }
     Reached {
-        long: long,
-        kept: kept,
+        long: below.long,
+        kept: Found::At(c),
     }
 }
 
-// The path from the root to a cell, by climbing.
+// The path from the root to a cell, by climbing: one loop, so that its stack does not grow with the levels.
 pub fn path_to(
     cat: &[u8],
     tab: &[u8],
@@ -82,15 +87,21 @@ pub fn path_to(
     c: CellNumber,
 ) -> Reached
     requires { ⌜ Good (now cat) (now tab) (now list) size t × (c .0 < count (now tab)) ⌝ }
-    ensures { λ r. ⌜ r ≡ reached (now (cat .entry)) (listing (now (cat .entry)) (now (tab .entry))) (levels (now (cat .entry)) (now (list .entry)) t) (c .0) ⌝ }
+    ensures { λ r. ⌜ r ≡ reached (now (cat .entry)) (listing (now (cat .entry)) (now (tab .entry)))
+        (levels (now (cat .entry)) (now (list .entry)) t) (c .0) ⌝ }
 {
-    let Found::At(p) = parent_of(cat, tab, size, c) else {
-        let none = Reached {
-            long: 0,
-            kept: Found::Nothing,
-        };
-        return one_more(cat, tab, size, list, t, none, c);
+    let mut at = c;
+    let mut l = level_at(cat, tab, size, c);
+    let mut below = Reached {
+        long: l,
+        kept: Found::Nothing,
     };
-    let above = path_to(cat, tab, size, list, t, p);
-    one_more(cat, tab, size, list, t, above, c)
+    loop {
+        below = one_up(cat, tab, size, list, t, below, l, at);
+        let Found::At(p) = parent_of(cat, tab, size, at) else {
+            return below;
+        };
+        at = p;
+        l -= 1;
+    }
 }
