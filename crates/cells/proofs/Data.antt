@@ -40,8 +40,8 @@ module _ {cat tab : Bytes} {size : ℕ} (s : Sized cat tab size) (i : ℕ) (l : 
   pub cell-inside : Inside tab size i
   cell-inside = inside-less (inside-sized s) i (omega arith)
 
-  pub code-in : startOf tab size i < length tab
-  code-in = omega (arith, start-in (inside-sized s) i l, s .some)
+  pub cell-ends : startOf tab size i + size ≤ length tab
+  cell-ends = start-in (inside-sized s) i l
 
   -- its first byte, where the code has found it to begin, is its type
   pub code-of : (at : ℕ) → at ≡ startOf tab size i → code (byte tab at) ≡ segment (listing cat tab) i .code

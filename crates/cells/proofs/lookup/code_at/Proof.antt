@@ -1,5 +1,5 @@
 use native.Mathlib.Omega.{arith}
-use Rattle.cells.proofs.Data.{cell-inside, code-in, code-of}
+use Rattle.cells.proofs.Data.{cell-inside, cell-ends, code-of}
 use Rattle.cells.proofs.lookup.code_at.Statement.{statement}
 use Rattle.cells.proofs.lookup.code_at.Tie as tie
 
@@ -12,8 +12,9 @@ shared-slice-read-t7 c = let ·args = c .before .before .before .before .args in
     omega (
       arith,
       c .before .start-of .ensures .0,
-      code-in (c .before .before .before .before .pre .0) (·args .c .0)
-          (c .before .before .before .before .pre .1),
+      c .before .before .before .before .pre .0 .some,
+      cell-ends
+          (c .before .before .before .before .pre .0) (·args .c .0) (c .before .before .before .before .pre .1),
     )
 
 returns : tie.Need-returns
