@@ -7,6 +7,7 @@ use catalogue::fields::field_length;
 use catalogue::fields::field_start;
 use catalogue::lineage::is_above;
 use cells::lookup::code_at;
+use cells::lookup::data_part;
 use terms::CellNumber;
 use terms::FieldNumber;
 use terms::Operator;
@@ -24,7 +25,7 @@ ghost use Rattle.arguments.specs.Sound.{SoundList};
 ghost use Rattle.search.specs.Good.{Good, Testable};
 ghost use Rattle.search.specs.Stretch.{agreesAlone};
 
-// "The segment's field stands left of the operator." The value begins at byte v of the list; a field counts from 1 behind the type code.
+// "The segment's field stands left of the operator." The value begins at byte v of the list.
 fn passes(
     cat: &[u8],
     tab: &[u8],
@@ -36,14 +37,15 @@ fn passes(
     v: usize,
 ) -> bool
     requires { ⌜ Testable (now cat) (now tab) (now list) size (c .0) (Qualification.Test o f v) ⌝ }
-    ensures { λ r. ⌜ r ≡ satisfies (now (cat .entry)) (segment (listing (now (cat .entry)) (now (tab .entry))) (c .0) .bytes) (meant (now (cat .entry)) (now (list .entry)) (Qualification.Test o f v)) ⌝ }
+    ensures { λ r. ⌜ r ≡ satisfies (now (cat .entry)) (segment (listing (now (cat .entry)) (now (tab .entry))) (c .0) .bytes)
+        (meant (now (cat .entry)) (now (list .entry)) (Qualification.Test o f v)) ⌝ }
 {
+    let start = wide(field_start(cat, f));
     let long = wide(field_length(cat, f));
-    let i = c.0;
-    let a = 8 + i * size + wide(field_start(cat, f));
-    let x = a + long;
-    let y = v + long;
-    holds(o, order_of(&tab[a..x], &list[v..y]))
+    let field = data_part(cat, tab, size, c, start, long);
+    let end = v + long;
+    let value = &list[v..end];
+    holds(o, order_of(field, value))
 }
 
 // Whether a segment satisfies what an argument asks.
