@@ -20,12 +20,12 @@ use Rattle.cells.proofs.Entries.{key-in, length-in}
 use Rattle.cells.proofs.Start.{start-is, start-in, inside-sized, inside-less}
 use Rattle.cells.proofs.Located.{type-of}
 
--- a part of the first L bytes, where it lies within them
-part-part : (n k L : ℕ) (xs : Bytes) → k + n ≤ L → take n (drop k (take L xs)) ≡ take n (drop k xs)
-part-part n zero L xs h = take-take n L xs (omega arith)
-part-part n (suc k) zero xs h = absurd (omega arith)
-part-part n (suc k) (suc L) [] h = refl
-part-part n (suc k) (suc L) (x ∷ xs) h = part-part n k L xs (omega arith)
+-- a part of the front of a list is a part of the list
+pub part-front : (n k L : ℕ) (xs : Bytes) → k + n ≤ L → part (take L xs) k n ≡ part xs k n
+part-front n zero L xs h = take-take n L xs (omega arith)
+part-front n (suc k) zero xs h = absurd (omega arith)
+part-front n (suc k) (suc L) [] h = refl
+part-front n (suc k) (suc L) (x ∷ xs) h = part-front n k L xs (omega arith)
 
 -- n bytes from byte `at + k` on are those from data byte k on, counted from 1, of a cell that begins at `at` and has L of them
 part-in : (at k n L : ℕ) (tab : Bytes) → k + n ≤ suc L → (k ≡ 0 → n ≡ 0) → part tab (at + k) n ≡ part (take L (drop (suc at) tab)) (k - 1) n
@@ -33,7 +33,7 @@ part-in at zero n L tab h z = let e : n ≡ 0 = z refl in rw e
 part-in at (suc k) n L tab h z =
     let a : suc k - 1 ≡ k = omega arith in
     let b : at + suc k ≡ suc at + k = omega arith in
-    rw (a, b, part-part n k L (drop (suc at) tab) (omega arith), drop-drop k (suc at) tab)
+    rw (a, b, part-front n k L (drop (suc at) tab) (omega arith), drop-drop k (suc at) tab)
 
 module _ {cat tab : Bytes} {size : ℕ} (s : Sized cat tab size) (i : ℕ) (l : i < count tab) where
   -- the cell lies within the slice
