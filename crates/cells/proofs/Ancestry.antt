@@ -28,9 +28,10 @@ use Rattle.rules.proofs.Tree.{segments-cells}
 use Rattle.catalogue.proofs.Chains.{clash, in-bounds}
 use Rattle.catalogue.proofs.Hierarchy as Hierarchy
 use Rattle.catalogue.proofs.Hierarchy.{type-range, level-child, beneath-parent, beneath-trans, beneath-later, none-later}
-use Rattle.cells.specs.Lent.{nearest, behind, endFrom, LastBeneath, climbed, parentAt}
+use Rattle.cells.specs.Lent.{startOf, nearest, behind, endFrom, LastBeneath, climbed, parentAt}
 use Rattle.cells.specs.Sound.{Sound}
-use Rattle.cells.proofs.Located.{code-of, under-few, behind-in, behind-low, behind-high, climb-none, climb-here, climb-more, climb-parent, parent-before}
+use Rattle.cells.proofs.Data.{code-of}
+use Rattle.cells.proofs.Located.{under-few, behind-in, behind-low, behind-high, climb-none, climb-here, climb-more, climb-parent, parent-before}
 
 module _ (cat : Bytes) (cs : List Segment) where
   -- the type of the nearest of these cells; 0, if there is none
@@ -227,8 +228,8 @@ module _ {cat tab : Bytes} {size : ℕ} (s : Sound cat tab size) where
     abbrev seen : ℕ → ℕ
     seen = behind tab size (t .0) last
 
-    code-byte : (k : ℕ) → k < count tab → segment cs k .code .0 ≡ byte tab (8 + k * size)
-    code-byte k h = ap (λ (x : TypeCode). x .0) (sym (code-of (s .sized) k h))
+    code-byte : (k : ℕ) → k < count tab → segment cs k .code .0 ≡ byte tab (startOf tab size k)
+    code-byte k h = ap (λ (x : TypeCode). x .0) (sym (code-of (s .sized) k h _ refl))
 
     deeper-seen : (k : ℕ) → i < k → k < count tab → typeBeneath cat (segment cs k .code) t ≡ true → seen k ≡ 1
     deeper-seen k a h b =

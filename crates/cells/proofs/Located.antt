@@ -1,140 +1,42 @@
--- Cells by number in the bytes of the table: where a cell lies, its type, level, data and key; the end of its run, its parent; what a good
--- table gives to these. Assumes nothing.
+-- Cells by number: type and level, the end of a run, the parent; what a good table gives to these. Assumes nothing.
 use mathlib.Core.Path.{_≡_, refl, ap, sym, _∙_}
 use mathlib.Core.Bool.{Bool, true, _&&_}
 use mathlib.Core.List.{List, [], _∷_}
 use Prim.Native.Nat.{ℕ, zero, suc, _+_, _-_, _*_, _<_, _≤_}
-use native.Mathlib.Nat.{mul-le-mul, mul-le-mul-right, add-mul}
 use native.Mathlib.Omega.{arith}
 use lib.Dec.{leb, eqb}
-use lib.ListN.{length, take, drop}
-use lib.Seq.{take-take, drop-drop}
+use lib.ListN.{length, drop}
 use borrow.Author.Tests.{lt-ltb, le-ltb, le-leb, lt-leb, leb-true, eqb-true}
-use Rattle.terms.specs.declared.TypeCode.{TypeCode}
 use Rattle.terms.specs.declared.CellNumber.{CellNumber}
 use Rattle.terms.specs.declared.Found.the-variants.{At, Nothing}
-use Rattle.terms.specs.Names.{code, cell}
+use Rattle.terms.specs.Names.{cell}
 use Rattle.forest.specs.Forest.{inside, outside, side}
 use Rattle.forest.specs.Good.{both-left, both-right}
 use Rattle.forest.specs.Runs.{under, under-in, under-out}
 use Rattle.forest.specs.Rows.{back, back-in, back-out}
 use Rattle.forest.specs.Numbers.{range, downTo}
 use Rattle.rules.specs.Block.{Bytes, byte, part, every, zeros, marked}
-use Rattle.rules.specs.Catalogue.{lengthOf, keyStart, keyLength, level, isType, goodCatalogue}
-use Rattle.rules.specs.Cells.{Segment, segment, segmentOf, key, keyOrder, levelAt, runAt, endAt, goodListing}
-use Rattle.rules.specs.Order.{order, valueOrder}
+use Rattle.rules.specs.Catalogue.{lengthOf, goodCatalogue}
+use Rattle.rules.specs.Cells.{Segment, segment, segmentOf, levelAt, runAt, endAt, goodListing}
 use Rattle.rules.specs.Table.{count, cellSize, cellStart, room, typeAt, segmentAt, listing, padded, goodRoom, goodTable}
-use Rattle.rules.proofs.Cells.{listing-at, listing-length}
-use Rattle.cells.specs.Lent.{Sized, Alike, Inside, behind, nearest, endFrom, climbed, parentAt}
+use Rattle.rules.proofs.Cells.{listing-at}
+use Rattle.cells.specs.Lent.{Sized, Inside, startOf, behind, nearest, endFrom, climbed, parentAt}
 use Rattle.cells.specs.Sound.{Sound}
-use Rattle.cells.proofs.Entries.{key-in, length-in, largest-some, largest-few}
+use Rattle.cells.proofs.Start.{start-made, start-in, inside-sized, inside-less, inside-room, room-sized}
 
-module _ (cat tab : Bytes) (i : ℕ) (l : i < count tab) where
-  -- the type of cell i
-  pub type-of : segment (listing cat tab) i .code ≡ typeAt cat tab i
-  unfolding segmentAt segmentOf
-  type-of = ap (λ (s : Segment). s .code) (listing-at cat tab i l)
+-- the type of cell i
+pub type-of : (cat tab : Bytes) (i : ℕ) → i < count tab → segment (listing cat tab) i .code ≡ typeAt cat tab i
+unfolding segmentAt segmentOf
+type-of cat tab i l = ap (λ (s : Segment). s .code) (listing-at cat tab i l)
 
-  -- its level
-  pub level-of : levelAt cat (listing cat tab) i ≡ level cat (typeAt cat tab i)
-  unfolding levelAt
-  level-of = ap (level cat) type-of
-
--- a part of the first L bytes, where it lies within them
-part-part : (n k L : ℕ) (xs : Bytes) → k + n ≤ L → take n (drop k (take L xs)) ≡ take n (drop k xs)
-part-part n zero L xs h = take-take n L xs (omega arith)
-part-part n (suc k) zero xs h = absurd (omega arith)
-part-part n (suc k) (suc L) [] h = refl
-part-part n (suc k) (suc L) (x ∷ xs) h = part-part n k L xs (omega arith)
-
--- n bytes from byte `at + k` on are those from data byte k on, counted from 1, of a cell that begins at `at` and has L of them
-part-in : (at k n L : ℕ) (tab : Bytes) → k + n ≤ suc L → (k ≡ 0 → n ≡ 0) → part tab (at + k) n ≡ part (take L (drop (suc at) tab)) (k - 1) n
-part-in at zero n L tab h z = let e : n ≡ 0 = z refl in rw e
-part-in at (suc k) n L tab h z =
-    let a : suc k - 1 ≡ k = omega arith in
-    let b : at + suc k ≡ suc at + k = omega arith in
-    rw (a, b, part-part n k L (drop (suc at) tab) (omega arith), drop-drop k (suc at) tab)
-
-module _ {cat tab : Bytes} {size : ℕ} (s : Sized cat tab size) (i : ℕ) where
-  -- where a cell begins is within the slice
-  pub start-in : i ≤ count tab → 8 + i * size ≤ length tab
-  start-in l =
-      let m : i * size ≤ count tab * size = mul-le-mul-right size l in
-      omega (arith, s .within)
-
-  -- and so is where it ends
-  pub cell-in : i < count tab → 8 + i * size + size ≤ length tab
-  cell-in l =
-      let m : (i + 1) * size ≤ count tab * size = mul-le-mul-right size (omega arith) in
-      omega (arith, add-mul i 1 size, s .within)
-
-  -- no cell begins far up: at most 4,096 cells of at most 121 bytes stand before it
-  pub start-small : i ≤ count tab → i * size ≤ 495616
-  start-small l =
-      let m : i * size ≤ 4096 * 121 = mul-le-mul {n₂ = 4096} (omega (arith, s .few)) (s .narrow) in
-      omega arith
-
--- the same of so many cells as lie within the slice
-module _ {tab : Bytes} {size n : ℕ} (s : Inside tab size n) (i : ℕ) where
-  pub inside-in : i < n → 8 + i * size < length tab
-  inside-in l =
-      let m : (i + 1) * size ≤ n * size = mul-le-mul-right size (omega arith) in
-      omega (arith, add-mul i 1 size, s .within, s .some)
-
-  pub inside-small : i < n → i * size ≤ 495616
-  inside-small l =
-      let m : i * size ≤ 4096 * 121 = mul-le-mul {n₂ = 4096} (omega (arith, s .few)) (s .narrow) in
-      omega arith
-
-  pub inside-less : i ≤ n → Inside tab size i
-  inside-less l =
-      let m : i * size ≤ n * size = mul-le-mul-right size l in
-      record { few = omega (arith, s .few); some = s .some; narrow = s .narrow; within = omega (arith, s .within) }
-
+-- the data of cell i, and its end, by numbers
 module _ {cat tab : Bytes} {size : ℕ} (s : Sized cat tab size) (i : ℕ) (l : i < count tab) where
-  -- the first byte of a cell is its type
-  pub code-of : code (byte tab (8 + i * size)) ≡ segment (listing cat tab) i .code
-  unfolding typeAt cellStart
-  code-of = ap (λ (n : ℕ). code (byte tab (8 + i * n))) (s .is) ∙ sym (type-of cat tab i l)
-
-  -- the data stand behind it
   pub bytes-of : segment (listing cat tab) i .bytes ≡ part tab (suc (8 + i * size)) (lengthOf cat (segment (listing cat tab) i .code))
   unfolding segmentAt segmentOf typeAt cellStart
   bytes-of = rw (s .is, listing-at cat tab i l)
 
-  -- and the key among them
-  pub key-of : goodCatalogue cat ≡ true → isType cat (segment (listing cat tab) i .code) ≡ true
-      → part tab (8 + i * size + keyStart cat (segment (listing cat tab) i .code)) (keyLength cat (segment (listing cat tab) i .code)) ≡ key cat (segment (listing cat tab) i)
-  unfolding key
-  key-of g h =
-      let t = segment (listing cat tab) i .code in
-      let k = key-in cat g t h in
-      part-in (8 + i * size) (keyStart cat t) (keyLength cat t) (lengthOf cat t) tab (k .0) (k .1)
-      ∙ ap (λ (b : Bytes). part b (keyStart cat t - 1) (keyLength cat t)) (sym bytes-of)
-
--- the keys of two cells of one type, which the code has read as t
-module _ {cat tab : Bytes} {size i j : ℕ} (s : Sized cat tab size) (a : Alike cat (listing cat tab) i j) {t : TypeCode} (e : t ≡ segment (listing cat tab) i .code) where
-  first-in : i < count tab
-  first-in = omega (arith, listing-length cat tab, a .first)
-
-  second-in : j < count tab
-  second-in = omega (arith, listing-length cat tab, a .second)
-
-  pub keys-in : (8 + i * size + keyStart cat t + keyLength cat t ≤ length tab) × (8 + j * size + keyStart cat t + keyLength cat t ≤ length tab)
-  unfolding cellSize
-  keys-in =
-      let h : isType cat t ≡ true = rw e (a .known) in
-      let n : keyStart cat t + keyLength cat t ≤ size = omega (arith, key-in cat (a .good) t h .0, length-in cat (a .good) t h, s .is) in
-      (omega (arith, cell-in s i first-in), omega (arith, cell-in s j second-in))
-
-  pub keys-order : (start long : ℕ) → start ≡ keyStart cat t → long ≡ keyLength cat t
-      → order (part tab (8 + i * size + start) (8 + i * size + start + long - (8 + i * size + start))) (part tab (8 + j * size + start) (8 + j * size + start + long - (8 + j * size + start)))
-      ≡ keyOrder cat (segment (listing cat tab) i) (segment (listing cat tab) j)
-  unfolding keyOrder valueOrder
-  keys-order start long p q =
-      let x : 8 + i * size + start + long - (8 + i * size + start) ≡ long = omega arith in
-      let y : 8 + j * size + start + long - (8 + j * size + start) ≡ long = omega arith in
-      rw (x, y, p, q, e, ← key-of s i first-in (a .good) (a .known), ← key-of s j second-in (a .good) (rw (a .same) (a .known)), a .same)
+  pub cell-in : 8 + i * size + size ≤ length tab
+  cell-in = rw (start-made tab size i) (start-in (inside-sized s) i l)
 
 module _ (lev : ℕ → ℕ) where
   pub under-few : (n s k : ℕ) → under lev n (range s k) ≤ k
@@ -156,13 +58,13 @@ module _ (tab : Bytes) (size t last i : ℕ) where
   end-none (suc n) e = absurd (omega arith)
 
   -- cell i is behind t and up to last, or it is not
-  pub behind-in : (u : ℕ) → u ≡ byte tab (8 + i * size) → t < u → u ≤ last → inner i ≡ 1
+  pub behind-in : (u : ℕ) → u ≡ byte tab (startOf tab size i) → t < u → u ≤ last → inner i ≡ 1
   behind-in u e a b = rw (← e, lt-ltb t u a, le-leb u last b)
 
-  pub behind-low : (u : ℕ) → u ≡ byte tab (8 + i * size) → u ≤ t → inner i ≡ 0
+  pub behind-low : (u : ℕ) → u ≡ byte tab (startOf tab size i) → u ≤ t → inner i ≡ 0
   behind-low u e a = rw (← e, le-ltb t u a)
 
-  pub behind-high : (u : ℕ) → u ≡ byte tab (8 + i * size) → last < u → inner i ≡ 0
+  pub behind-high : (u : ℕ) → u ≡ byte tab (startOf tab size i) → last < u → inner i ≡ 0
   behind-high u e a = elim (side t u) [
     | inside l ↦ rw (← e, lt-ltb t u l, lt-leb u last a)
     | outside l ↦ rw (← e, le-ltb t u l)
@@ -277,9 +179,6 @@ module _ (cat : Bytes) (cs : List Segment) (i : ℕ) where
   unfolding parentAt
   parent-before p e = nearest-before (levelAt cat cs) p (levelAt cat cs i) i e
 
-pub inside-sized : {cat tab : Bytes} {size : ℕ} → Sized cat tab size → Inside tab size (count tab)
-inside-sized s = record { few = s .few; some = omega (arith, s .some); narrow = s .narrow; within = s .within }
-
 -- what a good table says of its room: "the slice is exactly 8 + M·C bytes", "M from 0 to 4,096", "byte 5 the cell size C", "n is at most M"
 pub record Housed (cat tab : Bytes) : Type 0 where
   pub whole : length tab ≡ 8 + room cat tab * cellSize cat
@@ -294,10 +193,16 @@ module _ (cat tab : Bytes) (h : goodTable cat tab ≡ true) where
       let y : (a && b && c) ≡ true = both-left (a && b && c) d x in
       (both-left a b (both-left (a && b) c y), both-right (a && b) c y, both-right (a && b && c) d x)
 
+  front : (goodRoom cat tab ≡ true) × (eqb (byte tab 5) (cellSize cat) ≡ true) × (leb (count tab) (room cat tab) ≡ true)
+  unfolding goodTable
+  front =
+      front-of (goodRoom cat tab) (marked 0x54 tab) (eqb (byte tab 5) (cellSize cat)) (leb (count tab) (room cat tab)) (every (padded cat tab) (range 0 (count tab)))
+      (zeros (drop (cellStart cat (count tab)) tab)) (goodListing cat (listing cat tab)) h
+
   pub good-housed : Housed cat tab
-  unfolding goodTable goodRoom cellStart
+  unfolding goodRoom cellStart
   good-housed =
-      let p = front-of (goodRoom cat tab) (marked 0x54 tab) (eqb (byte tab 5) (cellSize cat)) (leb (count tab) (room cat tab)) (every (padded cat tab) (range 0 (count tab))) (zeros (drop (cellStart cat (count tab)) tab)) (goodListing cat (listing cat tab)) h in
+      let p = front in
       let q = both-left (leb 8 (length tab) && eqb (length tab) (cellStart cat (room cat tab))) (leb (room cat tab) 4096) (p .0) in
       record {
         whole = eqb-true (length tab) (cellStart cat (room cat tab)) (both-right (leb 8 (length tab)) (eqb (length tab) (cellStart cat (room cat tab))) q);
@@ -307,17 +212,11 @@ module _ (cat tab : Bytes) (h : goodTable cat tab ≡ true) where
       }
 
 pub good-sized : (cat tab : Bytes) → goodCatalogue cat ≡ true → goodTable cat tab ≡ true → Sized cat tab (cellSize cat)
-unfolding cellSize
-good-sized cat tab g h =
-    let o = good-housed cat tab h in
-    let m : count tab * cellSize cat ≤ room cat tab * cellSize cat = mul-le-mul-right (cellSize cat) (o .few) in
-    record {
-      is = refl;
-      some = omega (arith, largest-some cat g);
-      narrow = omega (arith, largest-few cat g);
-      few = omega (arith, o .few, o .most);
-      within = omega (arith, o .whole);
-    }
+good-sized cat tab g h = room-sized cat tab refl g (front cat tab h .0) (good-housed cat tab h .few)
+
+-- a good table has room for so many cells, used or not
+pub sound-inside : {cat tab : Bytes} {size : ℕ} → Sound cat tab size → (k : ℕ) → k ≤ room cat tab → Inside tab size k
+sound-inside {cat} {tab} s k l = inside-less (inside-room cat tab (s .sized .is) (s .catalogue) (front cat tab (s .table) .0)) k l
 
 pub good-sound : (cat tab : Bytes) → goodCatalogue cat ≡ true → goodTable cat tab ≡ true → Sound cat tab (cellSize cat)
 good-sound cat tab g h = record { catalogue = g; table = h; sized = good-sized cat tab g h }

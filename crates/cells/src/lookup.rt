@@ -1,4 +1,4 @@
-// What a cell says of itself: its type and its level.
+// Where a cell lies, and what it says of itself: its type, its level and its data.
 use blocks::wide;
 use blocks::word_at;
 use catalogue::lineage::level;
@@ -6,10 +6,12 @@ use catalogue::type_range::largest;
 use terms::CellNumber;
 use terms::TypeCode;
 ghost use mathlib.Core.Path.{_≡_};
-ghost use Prim.Native.Nat.{_<_};
+ghost use Prim.Native.Nat.{_-_, _≤_, _<_};
+ghost use lib.ListN.{length};
+ghost use Rattle.rules.specs.Block.{part};
 ghost use Rattle.rules.specs.Cells.{segment, levelAt};
 ghost use Rattle.rules.specs.Table.{count, cellSize, listing};
-ghost use Rattle.cells.specs.Lent.{Sized};
+ghost use Rattle.cells.specs.Lent.{Sized, Inside, InData, startOf};
 
 // "C is 1 plus the largest L."
 pub fn cell_size(cat: &[u8]) -> usize
@@ -25,12 +27,37 @@ pub fn count(tab: &[u8]) -> usize
     word_at(tab, 6)
 }
 
+// Where cell c begins, and so where the cells before it end. Only this function knows how the cells lie in a table.
+pub fn start_of(tab: &[u8], size: usize, c: CellNumber) -> usize
+    requires { ⌜ Inside (now tab) size (c .0) ⌝ }
+    ensures { λ r. ⌜ (r ≡ startOf (now (tab .entry)) size (c .0)) × (r ≤ length (now (tab .entry))) ⌝ }
+{
+    8 + c.0 * size
+}
+
 pub fn code_at(cat: &[u8], tab: &[u8], size: usize, c: CellNumber) -> TypeCode
     requires { ⌜ Sized (now cat) (now tab) size × (c .0 < count (now tab)) ⌝ }
     ensures { λ r. ⌜ r ≡ segment (listing (now (cat .entry)) (now (tab .entry))) (c .0) .code ⌝ }
 {
-    let i = c.0;
-    TypeCode(tab[8 + i * size])
+    let at = start_of(tab, size, c);
+    TypeCode(tab[at])
+}
+
+// `long` bytes of a cell's data from byte `start` on. A key and a field count from 1: the first data byte stands right behind the type code.
+pub fn data_part<'a>(
+    cat: &[u8],
+    tab: &'a [u8],
+    size: usize,
+    c: CellNumber,
+    start: usize,
+    long: usize,
+) -> &'a [u8]
+    requires { ⌜ InData (now cat) (now tab) size (c .0) start long ⌝ }
+    ensures { λ r. ⌜ now r ≡ part (segment (listing (now (cat .entry)) (now (tab .entry))) (c .0) .bytes) (start - 1) long ⌝ }
+{
+    let a = start_of(tab, size, c) + start;
+    let e = a + long;
+    &tab[a..e]
 }
 
 pub fn level_at(cat: &[u8], tab: &[u8], size: usize, c: CellNumber) -> u8

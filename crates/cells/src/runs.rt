@@ -1,6 +1,7 @@
 // The run of a cell, and the cell that it lies beneath.
 use crate::lookup::code_at;
 use crate::lookup::count;
+use crate::lookup::start_of;
 use catalogue::entries::parent;
 use catalogue::entry_bytes::types;
 use terms::CellNumber;
@@ -22,7 +23,8 @@ fn passed(tab: &[u8], size: usize, t: u8, last: u8, from: usize, to: usize) -> u
 {
     let mut i = from;
     while i < to {
-        let u = tab[8 + i * size];
+        let at = start_of(tab, size, CellNumber(i));
+        let u = tab[at];
         if u <= t {
             return i;
         }

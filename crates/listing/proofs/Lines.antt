@@ -226,7 +226,7 @@ module _ (cat tab : Bytes) (pos : Position) (f : SoundFor cat tab pos) (b : IsBy
   pub listed-got : (size : ℕ) → size ≡ byte tab 5 → (c : CellNumber) (s t : Status) → step ≡ Got c s → p ≡ movedOnto (c .0) (Of c) false → t ≡ fromPlace (pos .place) s
       → Wrote 0 (cellLine (answerOf cat t p (segment (listing cat tab) (c .0)) 0) (segment (listing cat tab) (c .0) .bytes)) before end after
       → Listed cat tab pos before (record { position = p; long = end; done = false }) after
-  unfolding answerOf
+  unfolding answerOf shownBytes
   listed-got size z c s t d q x w =
       let v : Segment = segment (listing cat tab) (c .0) in
       let m : Position = movedOnto (c .0) (Of c) false in

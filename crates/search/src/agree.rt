@@ -7,6 +7,7 @@ use catalogue::fields::field_length;
 use catalogue::fields::field_start;
 use catalogue::lineage::is_above;
 use cells::lookup::code_at;
+use cells::lookup::data_part;
 use terms::CellNumber;
 use terms::FieldNumber;
 use terms::Operator;
@@ -15,16 +16,16 @@ use terms::TypeCode;
 use terms::operators::holds;
 ghost use mathlib.Core.Path.{_≡_};
 ghost use Prim.Native.Nat.{_<_};
-ghost use Rattle.rules.specs.Arguments.{meant};
+ghost use Rattle.rules.specs.Arguments.{listRead, meant, askedOf};
 ghost use Rattle.rules.specs.Cells.{segment};
-ghost use Rattle.rules.specs.Matching.{satisfies};
+ghost use Rattle.rules.specs.Matching.{satisfies, isImplied};
 ghost use Rattle.rules.specs.Table.{count, listing};
 ghost use Rattle.cells.specs.Lent.{Sized};
 ghost use Rattle.arguments.specs.Sound.{SoundList};
 ghost use Rattle.search.specs.Good.{Good, Testable};
-ghost use Rattle.search.specs.Stretch.{agreesAlone, isLeftOut};
+ghost use Rattle.search.specs.Stretch.{agreesAlone};
 
-// "The segment's field stands left of the operator." The value begins at byte v of the list; a field counts from 1 behind the type code.
+// "The segment's field stands left of the operator." The value begins at byte v of the list.
 fn passes(
     cat: &[u8],
     tab: &[u8],
@@ -39,12 +40,12 @@ fn passes(
     ensures { λ r. ⌜ r ≡ satisfies (now (cat .entry)) (segment (listing (now (cat .entry)) (now (tab .entry))) (c .0))
         (meant (now (cat .entry)) (now (list .entry)) (Qualification.Test o f v)) ⌝ }
 {
+    let start = wide(field_start(cat, f));
     let long = wide(field_length(cat, f));
-    let i = c.0;
-    let a = 8 + i * size + wide(field_start(cat, f));
-    let x = a + long;
-    let y = v + long;
-    holds(o, order_of(&tab[a..x], &list[v..y]))
+    let field = data_part(cat, tab, size, c, start, long);
+    let end = v + long;
+    let value = &list[v..end];
+    holds(o, order_of(field, value))
 }
 
 // Whether a segment satisfies what an argument asks.
@@ -57,8 +58,7 @@ pub fn satisfies(
     q: Qualification,
 ) -> bool
     requires { ⌜ Testable (now cat) (now tab) (now list) size (c .0) q ⌝ }
-    ensures { λ r. ⌜ r ≡ satisfies (now (cat .entry)) (segment (listing (now (cat .entry)) (now (tab .entry))) (c .0))
-        (meant (now (cat .entry)) (now (list .entry)) q) ⌝ }
+    ensures { λ r. ⌜ r ≡ satisfies (now (cat .entry)) (segment (listing (now (cat .entry)) (now (tab .entry))) (c .0)) (meant (now (cat .entry)) (now (list .entry)) q) ⌝ }
 {
     match q {
         Qualification::None => true,
@@ -91,7 +91,7 @@ pub(crate) fn agrees(
 // Whether the list leaves out the type of a cell.
 pub(crate) fn is_implied(cat: &[u8], tab: &[u8], size: usize, list: &[u8], c: CellNumber) -> bool
     requires { ⌜ Sized (now cat) (now tab) size × SoundList (now cat) (now list) × (c .0 < count (now tab)) ⌝ }
-    ensures { λ r. ⌜ r ≡ isLeftOut (now (cat .entry)) (now (list .entry)) (segment (listing (now (cat .entry)) (now (tab .entry))) (c .0) .code) ⌝ }
+    ensures { λ r. ⌜ r ≡ isImplied (askedOf (now (cat .entry)) (now (list .entry)) (listRead (now (cat .entry)) (now (list .entry)) .arguments) (segment (listing (now (cat .entry)) (now (tab .entry))) (c .0) .code)) ⌝ }
 {
     match wanted(cat, list, code_at(cat, tab, size, c)) {
         Wanted::Implied => true,

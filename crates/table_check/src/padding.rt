@@ -4,6 +4,7 @@ use blocks::wide;
 use catalogue::entries::data_length;
 use cells::lookup::code_at;
 use cells::lookup::count;
+use cells::lookup::start_of;
 use terms::CellNumber;
 ghost use mathlib.Core.Path.{_≡_};
 ghost use Prim.Native.Nat.{_<_};
@@ -22,8 +23,9 @@ fn is_padded(cat: &[u8], tab: &[u8], size: usize, i: usize) -> bool
     if size <= used {
         return true;
     }
-    let a = 8 + i * size + used;
-    let b = 8 + i * size + size;
+    let at = start_of(tab, size, CellNumber(i));
+    let a = at + used;
+    let b = at + size;
     all_zero(&tab[a..b])
 }
 
@@ -46,6 +48,6 @@ pub fn all_free(cat: &[u8], tab: &[u8], size: usize) -> bool
     requires { ⌜ Sized (now cat) (now tab) size ⌝ }
     ensures { λ r. ⌜ r ≡ zeros (drop (cellStart (now (cat .entry)) (count (now (tab .entry)))) (now (tab .entry))) ⌝ }
 {
-    let from = 8 + count(tab) * size;
+    let from = start_of(tab, size, CellNumber(count(tab)));
     all_zero(&tab[from..])
 }

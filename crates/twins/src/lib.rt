@@ -7,6 +7,7 @@ use catalogue::entries::key_length;
 use catalogue::entries::key_start;
 use catalogue::lineage::level;
 use cells::lookup::code_at;
+use cells::lookup::data_part;
 use terms::CellNumber;
 use terms::Order;
 use terms::TypeCode;
@@ -35,19 +36,18 @@ fn key_order_with(
     c: CellNumber,
 ) -> Order
     requires { ⌜ New (now cat) (now tab) size t (now area) × (c .0 < count (now tab)) × (segment (listing (now cat) (now tab)) (c .0) .code ≡ t) ⌝ }
-    ensures { λ r. ⌜ r ≡ keyOrder (now (cat .entry)) (arriving (now (cat .entry)) t (now (area .entry))) (segment (listing (now (cat .entry)) (now (tab .entry))) (c .0)) ⌝ }
+    ensures { λ r. ⌜ r ≡ keyOrder (now (cat .entry)) (arriving (now (cat .entry)) t (now (area .entry)))
+        (segment (listing (now (cat .entry)) (now (tab .entry))) (c .0)) ⌝ }
 {
     let start = wide(key_start(cat, t));
     if start == 0 {
         return Order::Equal;
     }
     let long = wide(key_length(cat, t));
-    let i = c.0;
     let a = start - 1;
-    let b = 8 + i * size + start;
-    let x = a + long;
-    let y = b + long;
-    order_of(&area[a..x], &tab[b..y])
+    let e = a + long;
+    let own = &area[a..e];
+    order_of(own, data_part(cat, tab, size, c, start, long))
 }
 
 // How the new segment, of level `depth`, stands to cell c beneath its parent: greater, it passes c; smaller, it goes before c; equal, c is a

@@ -1,30 +1,31 @@
 use native.Mathlib.Omega.{arith}
-use Rattle.cells.proofs.Located.{cell-in, code-of}
+use Rattle.cells.proofs.Data.{cell-inside, cell-ends, code-of}
 use Rattle.cells.proofs.lookup.code_at.Statement.{statement}
 use Rattle.cells.proofs.lookup.code_at.Tie as tie
 
-mul-t6 : tie.Need-mul-t6
-mul-t6 c = omega (arith, cell-in (c .pre .0) (c .args .c .0) (c .pre .1))
+start-of-requires : tie.Need-start-of-requires
+start-of-requires c κs = let ·pre = c .before .before .pre in let ·args = c .before .before .args in
+    cell-inside (·pre .0) (·args .c .0) (·pre .1)
 
-add-t7 : tie.Need-add-t7
-add-t7 c = omega (arith, cell-in (c .pre .0) (c .args .c .0) (c .pre .1))
-
-shared-slice-read-t9 : tie.Need-shared-slice-read-t9
-shared-slice-read-t9 c = omega (
-  arith,
-  c .before .pre .0 .some,
-  cell-in (c .before .pre .0) (c .before .args .c .0)
-      (c .before .pre .1),
-)
+shared-slice-read-t7 : tie.Need-shared-slice-read-t7
+shared-slice-read-t7 c = let ·args = c .before .before .before .before .args in
+    omega (
+      arith,
+      c .before .start-of .ensures .0,
+      c .before .before .before .before .pre .0 .some,
+      cell-ends
+          (c .before .before .before .before .pre .0) (·args .c .0) (c .before .before .before .before .pre .1),
+    )
 
 returns : tie.Need-returns
-returns c = code-of (c .before .pre .0) (c .before .args .c .0) (c .before .pre .1)
+returns c = let ·pre = c .before .before .before .before .pre in
+    let ·args = c .before .before .before .before .args in
+    code-of (·pre .0) (·args .c .0) (·pre .1) (c .before .start-of .result) (c .before .start-of .ensures .0)
 
 pub code-at-spec : {M : Type 1} → statement M
 code-at-spec =
     tie.close
     (tie.spec
-    mul-t6
-    add-t7
-    shared-slice-read-t9
+    start-of-requires
+    shared-slice-read-t7
     returns)

@@ -1,7 +1,8 @@
 use Prim.Native.Nat.{_+_}
 use mathlib.Core.Path.{_∙_}
 use native.Mathlib.Omega.{arith}
-use Rattle.cells.proofs.Located.{inside-less, end-whole, end-past, end-short}
+use Rattle.cells.proofs.Start.{inside-less}
+use Rattle.cells.proofs.Located.{end-whole, end-past, end-short}
 use Prim.Native.Nat.{ℕ, _<_}
 use borrow.Fn.Kinds.{In}
 use borrow.Fn.PlainCycle.{Measures, is, falls, and}

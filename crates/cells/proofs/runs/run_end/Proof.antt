@@ -3,7 +3,7 @@ use native.Mathlib.Omega.{arith}
 use Prim.Native.Nat.{ℕ, _≤_}
 use Rattle.terms.specs.declared.TypeCode.{TypeCode}
 use Rattle.rules.proofs.Cells.{listing-length}
-use Rattle.cells.proofs.Located.{inside-less, inside-sized}
+use Rattle.cells.proofs.Start.{inside-less, inside-sized}
 use Rattle.cells.proofs.Ancestry.{sound-listing, own-type, end-run}
 use borrow.Author.Needs.{needs}
 use Rattle.cells.proofs.runs.run_end.Statement.{statement}

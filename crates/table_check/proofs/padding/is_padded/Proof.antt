@@ -1,6 +1,6 @@
 use mathlib.Core.Path.{_∙_}
 use native.Mathlib.Omega.{arith}
-use Rattle.cells.proofs.Located.{cell-in}
+use Rattle.cells.proofs.Data.{cell-inside, cell-ends}
 use Rattle.table_check.proofs.Unused.{pad-none, pad-some}
 use borrow.Author.Needs.{needs}
 use Rattle.table_check.proofs.padding.is_padded.Statement.{statement}
@@ -25,52 +25,27 @@ returns c = let ·pre = c .before .before .before .before .before .before .pre i
     pad-none (·pre .0) (·args .i) (·pre .1) (·code-at .ensures) (c .before .wide .ensures .0 ∙ ·data-length .ensures)
     (c .if1 .taken)
 
-mul-a : tie.Need-mul-a
-mul-a c = let ·args = c .before .before .before .before .before .before .args in
-    omega (
-      arith,
-      cell-in (c .before .before .before .before .before .before .pre .0) (·args .i)
-          (c .before .before .before .before .before .before .pre .1),
-    )
+start-of-requires : tie.Need-start-of-requires
+start-of-requires c κs = let ·pre = c .before .before .before .before .before .before .pre in
+    let ·args = c .before .before .before .before .before .before .args in
+    cell-inside (·pre .0) (·args .i) (·pre .1)
 
 add-a : tie.Need-add-a
-add-a c = let ·args = c .before .before .before .before .before .before .args in
+add-a c = let ·args = c .before .before .before .before .before .before .before .args in
     omega (
       arith,
-      cell-in (c .before .before .before .before .before .before .pre .0) (·args .i)
-          (c .before .before .before .before .before .before .pre .1),
-    )
-
-add-a-2 : tie.Need-add-a-2
-add-a-2 c = let ·args = c .before .before .before .before .before .before .args in
-    omega (
-      arith,
-      cell-in (c .before .before .before .before .before .before .pre .0) (·args .i)
-          (c .before .before .before .before .before .before .pre .1),
-    )
-
-mul-b : tie.Need-mul-b
-mul-b c = let ·args = c .before .before .before .before .before .before .args in
-    omega (
-      arith,
-      cell-in (c .before .before .before .before .before .before .pre .0) (·args .i)
-          (c .before .before .before .before .before .before .pre .1),
+      c .start-of .ensures .0,
+      cell-ends (c .before .before .before .before .before .before .before .pre .0)
+          (·args .i) (c .before .before .before .before .before .before .before .pre .1),
     )
 
 add-b : tie.Need-add-b
-add-b c = let ·args = c .before .before .before .before .before .before .args in
+add-b c = let ·args = c .before .before .before .before .before .before .before .args in
     omega (
       arith,
-      cell-in (c .before .before .before .before .before .before .pre .0) (·args .i)
-          (c .before .before .before .before .before .before .pre .1),
-    )
-
-add-b-2 : tie.Need-add-b-2
-add-b-2 c = let ·args = c .before .before .before .before .before .before .args in
-    omega (
-      arith,
-      cell-in (c .before .before .before .before .before .before .pre .0) (·args .i)
-          (c .before .before .before .before .before .before .pre .1),
+      c .start-of .ensures .0,
+      cell-ends (c .before .before .before .before .before .before .before .pre .0)
+          (·args .i) (c .before .before .before .before .before .before .before .pre .1),
     )
 
 sub-all-zero : tie.Need-sub-all-zero
@@ -80,23 +55,26 @@ part-all-zero-start : tie.Need-part-all-zero-start
 part-all-zero-start c = search needs
 
 part-all-zero-end : tie.Need-part-all-zero-end
-part-all-zero-end c = let ·args = c .before .before .before .before .before .before .args in
+part-all-zero-end c = let ·args = c .before .before .before .before .before .before .before .args in
     omega (
       arith,
-      cell-in (c .before .before .before .before .before .before .pre .0) (·args .i)
-          (c .before .before .before .before .before .before .pre .1),
+      c .start-of .ensures .0,
+      cell-ends (c .before .before .before .before .before .before .before .pre .0)
+          (·args .i) (c .before .before .before .before .before .before .before .pre .1),
     )
 
 all-zero-requires : tie.Need-all-zero-requires
 all-zero-requires c κs = search needs
 
 returns-2 : tie.Need-returns-2
-returns-2 c = let ·pre = c .before .before .before .before .before .before .before .before .pre in
-    let ·args = c .before .before .before .before .before .before .before .before .args in
-    let ·code-at = c .before .before .before .before .before .code-at in let ·wide = c .before .before .before .wide in
-    let ·data-length = c .before .before .before .before .data-length in
+returns-2 c = let ·pre = c .before .before .before .before .before .before .before .before .before .pre in
+    let ·args = c .before .before .before .before .before .before .before .before .before .args in
+    let ·code-at = c .before .before .before .before .before .before .code-at in
+    let ·wide = c .before .before .before .before .wide in
+    let ·data-length = c .before .before .before .before .before .data-length in
+    let ·start-of = c .before .before .start-of in
     c .all-zero .ensures ∙ pad-some (·pre .0) (·args .i) (·pre .1) (·code-at .ensures)
-    (·wide .ensures .0 ∙ ·data-length .ensures)
+    (·wide .ensures .0 ∙ ·data-length .ensures) (·start-of .result) (·start-of .ensures .0)
 
 pub is-padded-spec : {M : Type 1} → statement M
 is-padded-spec =
@@ -107,12 +85,9 @@ is-padded-spec =
     wide-requires
     add-used
     returns
-    mul-a
+    start-of-requires
     add-a
-    add-a-2
-    mul-b
     add-b
-    add-b-2
     sub-all-zero
     part-all-zero-start
     part-all-zero-end
