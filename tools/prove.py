@@ -7,10 +7,12 @@
   prove.py answers CRATE [FUNCTION]        print the answers that a Proof.antt holds, in any of its forms
   prove.py fill CRATE [FUNCTION [ANSWERS]] write a Proof.antt anew: its own answers, or those of a file, with the paths that hold now.
            CRATE FUNCTION if3+1            the same, and @if3, @if4 .. are @if4, @if5 .. now
-  prove.py check [PROOF.antt ..]           say which files (all of crates/) are not in the form that `fill` writes
+  prove.py anchors CRATE [FUNCTION]        write above each answer the line of the source that it is about; takes a check of the crate
+  prove.py check [PROOF.antt ..]           say which files (all of crates/) are not in the form that `fill` writes, or name a line that is gone
 
 FUNCTION is the folder below crates/CRATE/proofs/; without one, all of the crate's. An answer is `need = term`, in which `@thing` stands for the path
-to that thing at that need. In Proof.antt it is the argument below the comment `-- need`, a `let ·thing = c .before .. in` above each far thing.
+to that thing at that need. In Proof.antt it is a declaration of its own, a `let ·thing = c .before .. in` above each far thing; one may write `@thing`
+there and run `fill`. Functions that call each other keep the kit's frame, each answer below a comment with its need's name.
 With KEEP set, what the last run generated is read instead of generated again. None of this is a verdict: that is `make test`.
 """
 import difflib
@@ -21,7 +23,6 @@ import subprocess
 import sys
 import tempfile
 
-NAMED = bool(os.environ.get("NAMED"))  # write each answer as a declaration of its own, the kit's form, and not as an argument below its name
 WIDTH = 120  # where a line is broken
 NEAR = 1  # a path of so many `.before` is written where it is used; a longer one is bound by a `let`, but see READS
 # What reads every name in scope, with the fields of records: bound twice, a record of facts is read twice, which can double the time of a check.
@@ -194,6 +195,12 @@ def without_paths(term):
     return re.sub(LONE + PLACE + r" \.([a-z][\w-]*)", name, term), had
 
 
+def opened_in(term):
+    """`unfolding a b in ` at the front of an answer, which is a line of its own in the file, and the term behind it."""
+    front = re.match(r"unfolding (?:\S+ )+?in ", term)
+    return (front.group(0), term[front.end():]) if front else ("", term)
+
+
 def with_paths(term, known, lost):
     """The `let`s of the things that are far, and the term under them."""
     far, reads = [], READS.search(term)
@@ -311,18 +318,21 @@ class Proof:
 
     def take_named(self, head):
         """The answers of the kit's own form, which stand above as declarations of their own, by their name."""
-        named, kept = {}, []
+        named, kept, self.anchors = {}, [], {}
         for block in re.split(r"\n\n+", head.strip("\n")):
-            text = "\n".join(line for line in block.split("\n") if not re.match(r"-- src/", line))
+            anchor = "\n".join(line for line in block.split("\n") if line.startswith(ANCHOR))
+            text = "\n".join(line for line in block.split("\n") if not line.startswith(ANCHOR))
             need = re.match(r"(\S+) : (\(t : ℕ\) → )?\s*(\S*?)\.Need-", text)
             if not need:
                 kept.append(text)
                 continue
+            if anchor:
+                self.anchors[need.group(1)] = anchor
             opened = re.search(r"^unfolding (.*)$", text, re.M)
-            self.unfolding += [w for w in (opened.group(1).split() if opened else []) if w not in self.unfolding]
+            opened = f"unfolding {opened.group(1)} in " if opened else ""
             clause = re.search(r"^" + re.escape(need.group(1)) + r"((?: [^\s=]+)*) =\s*(.*)\Z", text, re.M | re.S)
             bound = " ".join(clause.group(1).split()[1 if need.group(2) else 0:])
-            named[need.group(1)] = f"(λ {bound}. {clause.group(2).rstrip()})" if bound else clause.group(2)
+            named[need.group(1)] = f"(λ {bound}. {opened}{clause.group(2).rstrip()})" if bound else clause.group(2)
         self.head = "\n\n".join(k for k in kept if k.strip())
         return named
 
@@ -341,7 +351,9 @@ class Proof:
                 bound = re.match(r"\(λ ([^.]*)\. (.*)\)$", joined(text))
                 if not bound or bound.group(1) != binders(need):
                     raise ValueError(f"{need}: no `λ {binders(need)}.` but {text[:40]}")
-                listed.append((need, *without_paths(bound.group(2))))
+                opened, term = opened_in(bound.group(2))
+                term, had = without_paths(term)
+                listed.append((need, opened + term, had))
             found[member] = [text for _, text in given[:first]], listed
         return found
 
@@ -353,13 +365,11 @@ class Proof:
     def text(self, found, lost):
         """The file in the form that is kept."""
         opened = "unfolding " + " ".join(self.unfolding) + "\n" if self.unfolding else ""
-        if self.plain and NAMED:
-            return self.as_declarations(*found[""], opened, lost)
-        name, frame, body = self.signature.split()[0], self.frame, ""
         if self.plain:
-            frame = [f"{name} {{M}} =\n    let s =\n    tie.spec {{M = M}}", "\n    in\n    tie.close s\n"]
+            return self.as_declarations(*found[""], opened, lost)
+        frame, body = self.frame, ""
         for start, (others, listed) in zip(frame, found.values()):
-            body += start + "".join(("\n    " if self.plain or k else " ") + text for k, text in enumerate(others))
+            body += start + "".join(("\n    " if k else " ") + text for k, text in enumerate(others))
             for need, term, known in listed:
                 lines = laid_out(f"(λ {binders(need)}.", *with_paths(term, known, lost), ")")
                 body += "\n    ".join(["", f"-- {need}", *lines])
@@ -370,8 +380,11 @@ class Proof:
         declared = ""
         for need, term, known in listed:
             signature = " ".join([need, ":", f"tie.Need-{need}", *others])
+            own, term = opened_in(term)
+            own = own[: -len(" in ")] + "\n" if own else opened if term != "search needs" else ""
             lines = laid_out(f"{need} {binders(need)} =", *with_paths(term, known, lost), "")
-            declared += f"\n\n{signature}\n" + (opened if term != "search needs" else "") + "\n    ".join(lines)
+            anchor = self.anchors[need] + "\n" if need in self.anchors else ""
+            declared += f"\n\n{anchor}{signature}\n" + own + "\n    ".join(lines)
         body = "\n    ".join([f"{self.signature.split()[0]} =", "tie.close", "(tie.spec", *others, *(need for need, _, _ in listed)]) + ")\n"
         return f"{self.above(body)}{declared}\n\npub {self.signature}\n{body}"
 
@@ -485,6 +498,8 @@ def renewed(proof, places, given=None, words=()):
             for word in words:
                 term = counted_on(term, word)
             listed.append((need, term, places[member].paths(need)))
+        if proof.plain:
+            proof.anchors = {new: proof.anchors[old] for new, old in pairs.items() if old in proof.anchors}
         notes += [f"{lead}{need} is gone: {terms[need]}" for need in terms if need not in pairs.values()]
         found[member] = places[member].loops if proof.plain else others, listed
     return found, notes
@@ -511,20 +526,63 @@ def fill(crate, function=None, *words):
         if not proof.members:
             print(f"{path}: left alone, a walk by hand")
             continue
-        beside = os.path.join(os.path.dirname(path), "answers.txt")
-        source = file or (beside if os.path.exists(beside) else None)
-        found, notes = renewed(proof, places_of(room, path), take(proof, source) if source else None, [w for w in words if w != file])
+        found, notes = renewed(proof, places_of(room, path), take(proof, file) if file else None, [w for w in words if w != file])
         if "search needs" in str(found) and "{needs}" not in proof.head:
             proof.head = NEEDS + "\n" + proof.head
         write(path, proof.text(found, lost))
         for note in notes + [f"{thing} is not known" for thing in dict.fromkeys(lost)]:
             print(f"{path}: {note}")
-    os.environ.get("NOFMT") or subprocess.run(["rt", "fmt"], stdout=subprocess.DEVNULL)
+    subprocess.run(["rt", "fmt"], stdout=subprocess.DEVNULL)
 
 
-def plainly(text):
-    uses, *rest = told(text)
-    return set(uses) - {NEEDS}, rest
+# The line of the source that a need is about, above its answer: its words and not its number, which every edit would move.
+
+ANCHOR = "-- src/"
+
+
+def anchored(crate, where):
+    """For the kit's `src/FILE:LINE:COLUMN`, the words of that line."""
+    file, line = re.match(r"(src/\S+):(\d+):\d+$", where).groups()
+    words = read(f"crates/{crate}/{file}").split("\n")[int(line) - 1].strip()
+    room = WIDTH - len(f"-- {file}: ")
+    return f"-- {file}: {words if len(words) <= room else words[: room - 3].rstrip() + ' ..'}"
+
+
+def stands(crate, anchor):
+    file, words = re.match(r"-- (src/\S+): (.*)$", anchor).groups()
+    path = f"crates/{crate}/{file}"
+    return os.path.exists(path) and (words[:-3] if words.endswith(" ..") else words) in read(path)
+
+
+def anchors(crate, function=None):
+    """Have the kit offer the proofs anew, which names the place of each need, and write those places' lines above the answers."""
+    found = [path for path in proofs(crate, function) if Proof(path).plain]
+    texts = {path: read(path) for path in found}
+    try:
+        for path in found:
+            os.remove(path)
+        said = rt_dev(crate)
+    finally:
+        for path, text in texts.items():
+            write(path, text)
+    path, where, places = None, None, {}
+    for line in said:
+        offered = re.match(r"help: write \S*/(crates/\S+/Proof\.antt) with these lines", line)
+        need = re.match(r"    (\S+) : tie\.Need-", line)
+        if offered:
+            path = offered.group(1)
+        elif line.startswith("    " + ANCHOR):
+            where = line.strip()[3:]
+        elif need and path:
+            places[path, need.group(1)] = where
+    for path in found:
+        proof = Proof(path)
+        given = proof.answers()
+        proof.anchors = {n: anchored(crate, places[path, n]) for n, _, _ in given[""][1] if (path, n) in places}
+        write(path, proof.text(given, []))
+        if len(proof.anchors) < len(given[""][1]):
+            print(f"{path}: {len(given[''][1]) - len(proof.anchors)} needs without a line")
+    subprocess.run(["rt", "fmt"], stdout=subprocess.DEVNULL)
 
 
 def check(*paths):
@@ -537,9 +595,9 @@ def check(*paths):
             found = proof.answers()
             if joined(proof.text(found, [])) != joined(read(path)):
                 raise ValueError("not as `prove.py fill` writes it")
-            beside = os.path.join(os.path.dirname(path), "answers.txt")
-            if os.path.exists(beside) and plainly(listing(proof, found)) != plainly(read(beside)):
-                raise ValueError("not what its answers.txt says")
+            lost = [anchor for anchor in proof.anchors.values() if not stands(path.split("/")[1], anchor)]
+            if lost:
+                raise ValueError(f"`prove.py anchors` is wanted: no such line, {lost[0][3:]}")
         except ValueError as why:
             wrong += 1
             print(f"{path}: {why}")
@@ -547,7 +605,7 @@ def check(*paths):
         sys.exit(f"{wrong} proofs are not in the form that is kept")
 
 
-COMMANDS = {f.__name__: f for f in (offer, errors, paths, answers, fill, check)}
+COMMANDS = {f.__name__: f for f in (offer, errors, paths, answers, fill, anchors, check)}
 
 if __name__ == "__main__":
     if len(sys.argv) < 2 or sys.argv[1] not in COMMANDS:

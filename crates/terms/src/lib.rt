@@ -1,4 +1,5 @@
 // The words of document 01 as types. What the calls make of a position stands beside it.
+mod greater;
 pub mod operators;
 pub mod positions;
 pub mod statuses;

@@ -1,8 +1,9 @@
 // What an operator asks of the order of two values.
 use crate::Operator;
 use crate::Order;
+use crate::greater::is_greater;
 ghost use mathlib.Core.Path.{_≡_};
-ghost use Rattle.terms.specs.Operators.{isSmaller, isEqual, isGreater, holds};
+ghost use Rattle.terms.specs.Operators.{isSmaller, isEqual, holds};
 
 pub fn is_smaller(o: Order) -> bool
     ensures { λ r. ⌜ r ≡ isSmaller o ⌝ }
@@ -21,17 +22,6 @@ pub fn is_equal(o: Order) -> bool
         Order::Smaller => false,
         Order::Equal => true,
         Order::Greater => false,
-    }
-}
-
-// Asked for by an operator alone: other callers go by smaller and equal.
-fn is_greater(o: Order) -> bool
-    ensures { λ r. ⌜ r ≡ isGreater o ⌝ }
-{
-    match o {
-        Order::Smaller => false,
-        Order::Equal => false,
-        Order::Greater => true,
     }
 }
 

@@ -19,9 +19,11 @@ Inv-loop cat tab size t area from to depth at₀ taken₀ at taken = (from ≤ a
 abbrev μ-loop : tie.MeasureT-loop
 μ-loop cat tab size t area from to depth at₀ taken₀ at taken = to - at
 
+-- src/lib.rt: let depth = level(cat, t);
 level-requires : tie.Need-level-requires Inv-loop μ-loop
 level-requires c κs = search needs
 
+-- src/lib.rt: while at < to {
 loop-holds : tie.Need-loop-holds Inv-loop μ-loop
 loop-holds c = (
   omega arith,
@@ -33,6 +35,7 @@ loop-holds c = (
   onward-start _ _ _ _,
 )
 
+-- src/lib.rt: let o = stands_to(cat, tab, size, depth, t, area, CellNumber(at));
 stands-to-requires : tie.Need-stands-to-requires Inv-loop μ-loop
 stands-to-requires c κs = (
   c .before .before .before .before .before .before .pre .0,
@@ -44,9 +47,11 @@ stands-to-requires c κs = (
   c .before .before .level .ensures,
 )
 
+-- src/lib.rt: if is_smaller(o) {
 is-smaller-requires : tie.Need-is-smaller-requires Inv-loop μ-loop
 is-smaller-requires c κs = search needs
 
+-- src/lib.rt: return Spot { at, taken };
 returns : tie.Need-returns Inv-loop μ-loop
 returns c = let ·pre = c .before .before .before .before .before .before .before .before .before .pre in
     let ·loop = c .before .before .before .before .loop in let ·loop-test = c .before .before .before .loop-test in
@@ -54,15 +59,19 @@ returns c = let ·pre = c .before .before .before .before .before .before .befor
     onward-stop (row-new (·pre .0) (·pre .1)) _ _ (·loop .inv .0) (·loop-test .taken) (·stands-to .ensures)
     (sym (c .before .is-smaller .ensures) ∙ c .if1 .taken) ∙ ·loop .inv .2
 
+-- src/lib.rt: if is_equal(o) {
 is-equal-requires : tie.Need-is-equal-requires Inv-loop μ-loop
 is-equal-requires c κs = search needs
 
+-- src/lib.rt: at += 1;
 add-at : tie.Need-add-at Inv-loop μ-loop
 add-at c = omega arith
 
+-- src/lib.rt: while at < to {
 loop-less : tie.Need-loop-less Inv-loop μ-loop
 loop-less c = omega arith
 
+-- src/lib.rt: while at < to {
 loop-again : tie.Need-loop-again Inv-loop μ-loop
 loop-again c = (
   omega arith,
@@ -86,6 +95,7 @@ loop-again c = (
       c .before .before .before .before .before .before .loop .inv .2) (c .if2 .came),
 )
 
+-- src/lib.rt: fn pass_row(
 returns-2 : tie.Need-returns-2 Inv-loop μ-loop
 returns-2 c = let ·pre = c .before .before .before .before .before .before .pre in
     onward-end (row-new (·pre .0) (·pre .1)) _ _ (c .before .loop .inv .0) (c .before .loop .inv .1)

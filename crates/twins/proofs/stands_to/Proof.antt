@@ -4,32 +4,39 @@ use borrow.Author.Needs.{needs}
 use Rattle.twins.proofs.stands_to.Statement.{statement}
 use Rattle.twins.proofs.stands_to.Tie as tie
 
+-- src/lib.rt: let u = code_at(cat, tab, size, c);
 code-at-requires : tie.Need-code-at-requires
 code-at-requires c κs = search needs
 
+-- src/lib.rt: return Order::Greater;
 returns : tie.Need-returns
 returns c = let ·code-at = c .before .before .before .code-at in
     new-more _ _ _ _ (·code-at .ensures) (c .if1 .taken)
 
+-- src/lib.rt: return key_order_with(cat, tab, size, t, area, c);
 key-order-with-requires : tie.Need-key-order-with-requires
 key-order-with-requires c κs =
     let ·pre = c .before .before .before .before .before .before .before .before .before .before .pre in
     let ·code-at = c .before .before .before .before .before .before .code-at in
     (·pre .0, ·pre .1, type-same (·code-at .ensures) (c .if2 .taken))
 
+-- src/lib.rt: return key_order_with(cat, tab, size, t, area, c);
 returns-2 : tie.Need-returns-2
 returns-2 c = let ·code-at = c .before .before .before .before .before .before .before .code-at in
     c .key-order-with .ensures ∙ new-twin _ _ _ _ (·code-at .ensures) (c .before .if2 .taken)
 
+-- src/lib.rt: if depth < level(cat, u) {
 level-requires : tie.Need-level-requires
 level-requires c κs = search needs
 
+-- src/lib.rt: return Order::Greater;
 returns-3 : tie.Need-returns-3
 returns-3 c = let ·code-at = c .before .before .before .before .before .before .before .before .code-at in
     let ·if1 = c .before .before .before .before .before .if1 in let ·if2 = c .before .before .if2 in
     let ·pre = c .before .before .before .before .before .before .before .before .before .before .before .before .pre in
     new-deep _ _ _ _ (·code-at .ensures) (·if1 .left) (·if2 .left) (·pre .2) (c .before .level .ensures) (c .if3 .taken)
 
+-- src/lib.rt: fn stands_to(
 returns-4 : tie.Need-returns-4
 returns-4 c = let ·code-at = c .before .before .before .before .before .before .before .before .code-at in
     let ·if1 = c .before .before .before .before .before .if1 in let ·if2 = c .before .before .if2 in
