@@ -5,8 +5,8 @@ use Prim.Native.Nat.{ℕ, suc, _+_, _-_, _≤_, _<_}
 use native.Mathlib.Nat.{add-zero, add-suc, add-comm}
 use native.Mathlib.Numerals.{add-one}
 use native.Mathlib.Omega.{arith}
-use lib.ListN.{length, take, drop, set, length-take, length-drop, length-set, drop-of-length-le, List·getD-append}
-use lib.Seq.{take-suc, drop-cons, append-snoc, set-at, set-split, take-suc-set, drop-set-lt, getD-take, getD-drop, getD-append-add, take-all, length-take-le}
+use lib.ListN.{length, take, drop, set, length-take, length-drop, drop-of-length-le, List·getD-append}
+use lib.Seq.{take-suc, drop-cons, append-snoc, set-at, getD-take, getD-drop, getD-append-add, take-all, length-take-le}
 use Rattle.rules.specs.Block.{Bytes, byte}
 
 -- the bytes from `gap + i` on are moved up already
@@ -69,11 +69,3 @@ down-more gap i b h =
 
 pub down-end : (gap i : ℕ) (b : Bytes) → length b ≤ gap + i → downAt gap i b ≡ drop gap b ++ drop i b
 down-end gap i b h = ap (λ (t : Bytes). t ++ drop i b) (take-all i (drop gap b) (simp length-drop (omega arith)))
-
--- the two bytes of the count
-pub count-set : (tab : Bytes) (x y : ℕ) → 8 ≤ length tab → set (set tab 6 x) 7 y ≡ take 6 tab ++ (x ∷ y ∷ drop 8 tab)
-count-set tab x y h =
-    set-split (set tab 6 x) 7 y (rw length-set (omega arith))
-    ∙ ap (λ (t : Bytes). t ++ y ∷ drop 8 (set tab 6 x)) (take-suc-set tab 6 x (omega arith))
-    ∙ ap (λ (t : Bytes). take 6 tab ++ (x ∷ []) ++ y ∷ t) (drop-set-lt 8 tab 6 x (omega arith))
-    ∙ append-snoc (take 6 tab) x (y ∷ drop 8 tab)

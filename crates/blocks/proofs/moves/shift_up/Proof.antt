@@ -3,9 +3,9 @@ use native.Mathlib.Omega.{arith}
 use mathlib.Core.Path.{_≡_, refl, ap, _∙_}
 use Prim.Native.Nat.{_≤_, _+_, _-_}
 use lib.ListN.{length, length-set, set, getD}
-use Rattle.update.proofs.Shifts.{upAt, up-more, up-start, up-end}
-use Rattle.update.proofs.moves.shift_up.Statement.{statement}
-use Rattle.update.proofs.moves.shift_up.Tie as tie
+use Rattle.blocks.proofs.Moved.{upAt, up-more, up-start, up-end}
+use Rattle.blocks.proofs.moves.shift_up.Statement.{statement}
+use Rattle.blocks.proofs.moves.shift_up.Tie as tie
 
 abbrev Inv-loop : tie.InvT-loop
 Inv-loop tail₀ gap i₀ tail i = (i ≤ i₀) × (gap + i₀ ≡ length tail₀) × (length tail ≡ length tail₀) ×

@@ -5,8 +5,8 @@ use mathlib.Core.Path.{_≡_, refl, ap, _∙_}
 use mathlib.Core.List.{[], _++_, append-nil}
 use Prim.Native.Nat.{_≤_, _+_, _-_}
 use lib.ListN.{length, length-set, set, replicate, drop, drop-of-length-le}
-use Rattle.maker.proofs.clear.Statement.{statement}
-use Rattle.maker.proofs.clear.Tie as tie
+use Rattle.blocks.proofs.moves.clear.Statement.{statement}
+use Rattle.blocks.proofs.moves.clear.Tie as tie
 
 abbrev Inv-loop : tie.InvT-loop
 Inv-loop tail₀ i₀ tail i = (i ≤ length tail₀) × (length tail ≡ length tail₀) ×

@@ -4,9 +4,9 @@ use mathlib.Core.Path.{_≡_, refl, ap, _∙_}
 use mathlib.Core.List.{_++_}
 use Prim.Native.Nat.{ℕ, _≤_, _+_, _-_}
 use lib.ListN.{length, length-set, set, getD, drop}
-use Rattle.update.proofs.Shifts.{downAt, down-more, down-end}
-use Rattle.update.proofs.moves.shift_down.Statement.{statement}
-use Rattle.update.proofs.moves.shift_down.Tie as tie
+use Rattle.blocks.proofs.Moved.{downAt, down-more, down-end}
+use Rattle.blocks.proofs.moves.shift_down.Statement.{statement}
+use Rattle.blocks.proofs.moves.shift_down.Tie as tie
 
 abbrev Inv-loop : tie.InvT-loop
 Inv-loop tail₀ gap n i₀ tail i = (i ≤ n) × (gap + n ≡ length tail₀) × (length tail ≡ length tail₀) ×

@@ -5,9 +5,9 @@ use Prim.Native.Nat.{ℕ, _≤_, _-_}
 use lib.ListN.{length, length-set, set, take, drop}
 use lib.Seq.{take-all}
 use Rattle.rules.specs.Block.{Bytes, byte}
-use Rattle.update.proofs.Shifts.{over-more}
-use Rattle.update.proofs.moves.put.Statement.{statement}
-use Rattle.update.proofs.moves.put.Tie as tie
+use Rattle.blocks.proofs.Moved.{over-more}
+use Rattle.blocks.proofs.moves.put.Statement.{statement}
+use Rattle.blocks.proofs.moves.put.Tie as tie
 
 abbrev Inv-loop : tie.InvT-loop
 Inv-loop tail₀ from i₀ tail i = (i ≤ length from) × (length from ≤ length tail₀) × (length tail ≡ length tail₀) ×
