@@ -1,8 +1,8 @@
 use Rattle.blocks.proofs.Negated.{told-no, told-yes}
-use Rattle.umbristal.proofs.Block.{position-bad, position-good}
+use Rattle.position.proofs.Parts.{position-bad, position-good}
 use borrow.Author.Needs.{needs}
-use Rattle.umbristal.proofs.lent.position_of.Statement.{statement}
-use Rattle.umbristal.proofs.lent.position_of.Tie as tie
+use Rattle.position.proofs.block.position_of.Statement.{statement}
+use Rattle.position.proofs.block.position_of.Tie as tie
 
 good-block-requires : tie.Need-good-block-requires
 good-block-requires c κs = search needs

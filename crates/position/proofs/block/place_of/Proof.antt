@@ -1,7 +1,7 @@
-use Rattle.umbristal.proofs.Block.{place-on, place-gap}
+use Rattle.position.proofs.Parts.{place-on, place-gap}
 use borrow.Author.Needs.{needs}
-use Rattle.umbristal.proofs.lent.place_of.Statement.{statement}
-use Rattle.umbristal.proofs.lent.place_of.Tie as tie
+use Rattle.position.proofs.block.place_of.Statement.{statement}
+use Rattle.position.proofs.block.place_of.Tie as tie
 
 word-at-requires : tie.Need-word-at-requires
 word-at-requires c κs = search needs

@@ -2,10 +2,10 @@ use mathlib.Core.Path.{ap}
 use native.Mathlib.Omega.{arith}
 use lib.ListN.{length-set}
 use Rattle.terms.specs.declared.CellNumber.{CellNumber}
-use Rattle.umbristal.proofs.Block.{position-put}
+use Rattle.position.proofs.Parts.{position-put}
 use borrow.Author.Needs.{needs}
-use Rattle.umbristal.proofs.lent.put_position.Statement.{statement}
-use Rattle.umbristal.proofs.lent.put_position.Tie as tie
+use Rattle.position.proofs.block.put_position.Statement.{statement}
+use Rattle.position.proofs.block.put_position.Tie as tie
 
 cell-requires : tie.Need-cell-requires
 cell-requires c κs = search needs

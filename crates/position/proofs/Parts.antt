@@ -2,26 +2,23 @@
 use mathlib.Core.Path.{_≡_, refl, ap, sym, _∙_}
 use mathlib.Core.Bool.{true, false}
 use mathlib.Core.List.{[], _∷_, _++_}
-use Prim.Native.Nat.{ℕ, _/_, _%_, _<_, _≤_}
+use Prim.Native.Nat.{ℕ, _/_, _%_}
 use native.Mathlib.Omega.{arith}
 use lib.Dec.{eqb}
 use lib.ListN.{length, set}
-use borrow.Author.Tests.{eq-eqb, ne-eqb, le-leb, lt-leb}
+use borrow.Author.Tests.{eq-eqb, ne-eqb}
 use Rattle.terms.specs.declared.CellNumber.{CellNumber}
 use Rattle.terms.specs.declared.Place.{Place}
 use Rattle.terms.specs.declared.Place.the-variants.{On, Before}
 use Rattle.terms.specs.declared.Parentage.{Parentage}
 use Rattle.terms.specs.declared.Parentage.the-variants.{Absent, Of}
 use Rattle.terms.specs.declared.Position.{Position}
-use Rattle.terms.specs.declared.Answer.{Answer}
 use Rattle.terms.specs.Choice.{pick}
 use Rattle.terms.specs.Names.{cell}
-use Rattle.terms.specs.Statuses.{number}
 use Rattle.terms.specs.Moves.{placeCell, placeNumber}
 use Rattle.rules.specs.Block.{Bytes, byte, word}
 use Rattle.rules.specs.Position.{placeBytes, parentageBytes, positionBytes, nowhere, goodBlock, positionOf}
-use Rattle.rules.specs.Outcome.{blockAfter}
-use Rattle.umbristal.specs.Face.{blockPlace, blockParentage, placeKind, parentageKind, parentageNumber, Writable}
+use Rattle.position.specs.Block.{blockPlace, blockParentage, placeKind, parentageKind, parentageNumber, Writable}
 
 -- read: x and n are the bytes that the code has
 module _ (b : Bytes) where
@@ -76,13 +73,3 @@ pub position-put : (b : Bytes) (p : Position) (c : CellNumber) (j k m h : ℕ) �
 unfolding positionBytes
 position-put b p c j k m h w e f g i o =
     eight-set b k (c .0 / 256) (c .0 % 256) m (j / 256) (j % 256) h 0 (w .long) ∙ rw (e, f, g, i, o) (eight-bytes (p .place) (p .parentage) (pick (p .hold) 1 0))
-
--- left as it was, or written
-module _ (b : Bytes) (a : Answer) (n : ℕ) (e : n ≡ number (a .status)) where
-  pub block-kept : 20 ≤ n → b ≡ blockAfter b a
-  unfolding blockAfter
-  block-kept h = let l : 20 ≤ number (a .status) = omega arith in rw (le-leb 20 (number (a .status)) l)
-
-  pub block-put : n < 20 → (out : Bytes) → out ≡ positionBytes (a .position) → out ≡ blockAfter b a
-  unfolding blockAfter
-  block-put h out f = let l : number (a .status) < 20 = omega arith in rw (lt-leb 20 (number (a .status)) l) f

@@ -2,8 +2,8 @@ use borrow.Author.Tests.{lt-leb, le-leb, eq-eqb, ne-eqb}
 use mathlib.Core.Path.{sym, _∙_}
 use Rattle.rules.specs.Position.{goodBlock}
 use borrow.Author.Needs.{needs}
-use Rattle.umbristal.proofs.lent.good_block.Statement.{statement}
-use Rattle.umbristal.proofs.lent.good_block.Tie as tie
+use Rattle.position.proofs.block.good_block.Statement.{statement}
+use Rattle.position.proofs.block.good_block.Tie as tie
 
 returns : tie.Need-returns
 unfolding goodBlock

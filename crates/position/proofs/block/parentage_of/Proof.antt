@@ -1,7 +1,7 @@
-use Rattle.umbristal.proofs.Block.{parent-of, parent-none}
+use Rattle.position.proofs.Parts.{parent-of, parent-none}
 use borrow.Author.Needs.{needs}
-use Rattle.umbristal.proofs.lent.parentage_of.Statement.{statement}
-use Rattle.umbristal.proofs.lent.parentage_of.Tie as tie
+use Rattle.position.proofs.block.parentage_of.Statement.{statement}
+use Rattle.position.proofs.block.parentage_of.Tie as tie
 
 byte-at-requires : tie.Need-byte-at-requires
 byte-at-requires c κs = search needs
