@@ -1,4 +1,5 @@
 // Blocks of bytes: "Bytes are counted from 0." Each of these takes any slice and any number.
+pub mod moves;
 pub mod slices;
 
 ghost use mathlib.Core.Path.{_≡_};

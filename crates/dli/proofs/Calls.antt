@@ -1,8 +1,8 @@
 -- A call that is stopped, and a call that goes on: what each leaves is the promised outcome. Assumes nothing.
-use mathlib.Core.Path.{_≡_, refl, ap, sym, _∙_}
+use mathlib.Core.Path.{_≡_, ap, sym, _∙_}
 use mathlib.Core.Bool.{Bool, true, false}
 use mathlib.Core.List.{List}
-use Prim.Native.Nat.{ℕ, suc, _<_, _≤_}
+use Prim.Native.Nat.{ℕ, suc, _-_, _<_, _≤_}
 use native.Mathlib.Omega.{arith}
 use lib.Dec.{leb, eqb}
 use lib.ListN.{length}
@@ -11,14 +11,13 @@ use Rattle.terms.specs.declared.Position.{Position}
 use Rattle.terms.specs.declared.Status.{Status}
 use Rattle.terms.specs.Choice.{pick}
 use Rattle.terms.specs.Statuses.{number}
-use Rattle.terms.specs.Moves.{isAbsent}
 use Rattle.forest.specs.Good.{on, off, is, isNil}
 use Rattle.rules.specs.Block.{Bytes, byte}
 use Rattle.rules.specs.Cells.{Segment}
 use Rattle.rules.specs.Table.{cellSize, room, listing}
 use Rattle.rules.specs.Arguments.{Level, ListRead, listRead, lastArgument, getLevels, parentLevels}
 use Rattle.rules.specs.Calls.{After, called, getUnique, getNext, getNextWithin, insert, replace, delete}
-use Rattle.rules.specs.Outcome.{Outcome, isBlank, isIsrt, isDlet, isGnp, isHeld, landed, unsound, misused, stopped, unless, afterSound, afterCall, outcomeOf, outcome, soundOutcome}
+use Rattle.rules.specs.Outcome.{isIsrt, isDlet, isGnp, isHeld, landed, unsound, misused, stopped, unless, afterSound, afterCall, outcomeOf, outcome, soundOutcome}
 use Rattle.model.proofs.Asked.{Usable, usable-of, sound-of}
 use Rattle.cells.specs.Sound.{Sound}
 use Rattle.cells.proofs.Located.{good-housed, good-sized}
@@ -26,12 +25,16 @@ use Rattle.arguments.proofs.Sound.{list-empty}
 use Rattle.answers.specs.Told.{stoppedAnswer}
 use Rattle.answers.specs.Ready.{SoundFor, Ready, Held, made}
 use Rattle.answers.proofs.Statuses.{blank-is}
+use Rattle.dli.specs.Called.{Callable, Getting, calledAfter, calledOutcome, getOf}
 
-at-most-nine : (c : ℕ) → 9 ≤ c → c ≤ 9 → c ≡ 9
-at-most-nine c l h = omega arith
+third : {c : ℕ} → c < 4 → 1 ≤ c → (c ≡ 1 → ⊥) → (c ≡ 2 → ⊥) → c ≡ 3
+third l h n m = omega arith
 
-more : (k c : ℕ) → k ≤ c → (c ≡ k → ⊥) → suc k ≤ c
-more k c l n = omega arith
+last-get : {c : ℕ} → 4 ≤ c → c < 7 → (c ≡ 4 → ⊥) → (c ≡ 5 → ⊥) → c ≡ 6
+last-get g l n m = omega arith
+
+sixth : {c : ℕ} → 4 ≤ c → c < 7 → (c - 3 ≡ 1 → ⊥) → (c - 3 ≡ 2 → ⊥) → c ≡ 6
+sixth g l n m = last-get g l (λ e. n (omega arith)) (λ e. m (omega arith))
 
 -- a refusal or a miss, as the code answers it
 stopped-made : (cat tab area : Bytes) (pos : Position) (s : Status) → made (stoppedAnswer s pos) tab area ≡ landed cat tab (stopped s pos area)
@@ -79,6 +82,10 @@ module _ (cat tab : Bytes) (pos : Position) (c : ℕ) (list area : Bytes) where
       stopped-made cat tab area pos s ∙ ap (λ (t : Status). landed cat tab (stopped t pos area)) e
       ∙ sym (ap (landed cat tab) (unless-not (misused cat pos c list area) pos area (called cat cs pos area (room cat tab) c list (listRead cat list .arguments)) (λ q. z (h ∙ ap number e ∙ q))))
 
+  next-is : c ≡ 2 → landed cat tab (getNext cat cs pos area false ls) ≡ calledOutcome cat tab pos c list area
+  unfolding calledOutcome calledAfter called
+  next-is k = rw k
+
   module _ (f : SoundFor cat tab pos) where
     pub five-in : 5 < length tab
     five-in = omega (arith, good-housed cat tab (f .table) .whole)
@@ -93,79 +100,110 @@ module _ (cat tab : Bytes) (pos : Position) (c : ℕ) (list area : Bytes) where
       none : number (misused cat pos c list area) ≡ 0
       none = sym (ap number e) ∙ sym h ∙ z
 
-      usable : Usable cat pos c list area
-      usable = usable-of cat pos c list area (eq-eqb (number (misused cat pos c list area)) 0 none)
+      pub callable : (size : ℕ) → size ≡ byte tab 5 → Callable cat tab size pos c list area
+      callable size w = record { sound = sound-blocks size w; position = f .position; asked = blank-is (misused cat pos c list area) none }
 
-      go-on : (a : After) → a ≡ called cat cs pos area (room cat tab) c list (listRead cat list .arguments) → landed cat tab a ≡ soundOutcome cat tab pos c list area
-      unfolding soundOutcome afterSound
-      go-on a k = ap (landed cat tab) (k ∙ sym (unless-done (misused cat pos c list area) pos area (called cat cs pos area (room cat tab) c list (listRead cat list .arguments)) none))
-
-      module _ (size : ℕ) (w : size ≡ byte tab 5) where
-        pub ready : Ready cat tab size pos list
-        ready = record {
-          sound = sound-blocks size w;
-          position = f .position;
-          asked = blank-is (listRead cat list .fault) (eqb-true (number (listRead cat list .fault)) 0 (usable .read));
-        }
-
-        pub long-enough : isDlet c ≡ false → size ≤ suc (length area)
-        long-enough d = omega (arith, usable .long d, size-is size w)
-
-        pub is-held : isHeld c ≡ true → Held cat tab size pos
-        is-held d = record { sound = sound-blocks size w; position = f .position; hold = usable .held d }
-
-      pub has-parent : isGnp c ≡ true → isAbsent (pos .parentage) ≡ false
-      has-parent d = usable .parent d
-
-      pub has-list : isIsrt c ≡ true → 0 < length list
-      has-list d = elim (is (eqb (length list) 0)) [
-        | on q ↦ absurd (
-            let y : isNil (listRead cat list .arguments) ≡ true = ap (λ (l : ListRead). isNil (l .arguments)) (list-empty cat list (eqb-true (length list) 0 q)) in
-            let x : false ≡ true = sym (usable .some d) ∙ y in
-            let v : _≡_ {A = ℕ} 0 1 = ap (λ (b : Bool). pick b 1 0) x in
-            omega arith)
-        | off q ↦ (let m : (length list ≡ 0) → ⊥ = eqb-false (length list) 0 q in omega arith)
-      ]
-
-      pub did-unique : c ≡ 1 → landed cat tab (getUnique cat cs pos area false ls) ≡ soundOutcome cat tab pos c list area
-      unfolding called
-      did-unique k = go-on (getUnique cat cs pos area false ls) (rw k)
+      pub did-call : calledOutcome cat tab pos c list area ≡ soundOutcome cat tab pos c list area
+      unfolding soundOutcome afterSound calledOutcome calledAfter
+      did-call = ap (landed cat tab) (sym (unless-done (misused cat pos c list area) pos area (calledAfter cat tab pos c list area) none))
 
       pub did-next : c ≡ 2 → landed cat tab (getNext cat cs pos area false ls) ≡ soundOutcome cat tab pos c list area
-      unfolding called
-      did-next k = go-on (getNext cat cs pos area false ls) (rw k)
+      did-next k = next-is k ∙ did-call
 
-      pub did-within : c ≡ 3 → landed cat tab (getNextWithin cat cs pos area false ls) ≡ soundOutcome cat tab pos c list area
-      unfolding called
-      did-within k = go-on (getNextWithin cat cs pos area false ls) (rw k)
+  -- the call itself
+  module _ {size : ℕ} (k : Callable cat tab size pos c list area) where
+    usable : Usable cat pos c list area
+    usable = usable-of cat pos c list area (eq-eqb (number (misused cat pos c list area)) 0 (ap number (k .asked)))
 
-      pub did-hold-unique : c ≡ 4 → landed cat tab (getUnique cat cs pos area true ls) ≡ soundOutcome cat tab pos c list area
-      unfolding called
-      did-hold-unique k = go-on (getUnique cat cs pos area true ls) (rw k)
+    pub ready : Ready cat tab size pos list
+    ready = record {
+      sound = k .sound;
+      position = k .position;
+      asked = blank-is (listRead cat list .fault) (eqb-true (number (listRead cat list .fault)) 0 (usable .read));
+    }
 
-      pub did-hold-next : c ≡ 5 → landed cat tab (getNext cat cs pos area true ls) ≡ soundOutcome cat tab pos c list area
-      unfolding called
-      did-hold-next k = go-on (getNext cat cs pos area true ls) (rw k)
+    pub long-enough : isDlet c ≡ false → size ≤ suc (length area)
+    long-enough d = omega (arith, usable .long d, k .sound .sized .is)
 
-      pub did-hold-within : c ≡ 6 → landed cat tab (getNextWithin cat cs pos area true ls) ≡ soundOutcome cat tab pos c list area
-      unfolding called
-      did-hold-within k = go-on (getNextWithin cat cs pos area true ls) (rw k)
+    pub is-held : isHeld c ≡ true → Held cat tab size pos
+    is-held d = record { sound = k .sound; position = k .position; hold = usable .held d }
 
-      pub did-insert : c ≡ 7
-          → landed cat tab (insert cat cs pos area (room cat tab) (lastArgument (listRead cat list .arguments) .code) (parentLevels cat list (listRead cat list .arguments)))
-          ≡ soundOutcome cat tab pos c list area
-      unfolding called
-      did-insert k = go-on (insert cat cs pos area (room cat tab) (lastArgument (listRead cat list .arguments) .code) (parentLevels cat list (listRead cat list .arguments))) (rw k)
+    pub has-list : isIsrt c ≡ true → 0 < length list
+    has-list d = elim (is (eqb (length list) 0)) [
+      | on q ↦ absurd (
+          let y : isNil (listRead cat list .arguments) ≡ true = ap (λ (l : ListRead). isNil (l .arguments)) (list-empty cat list (eqb-true (length list) 0 q)) in
+          let x : false ≡ true = sym (usable .some d) ∙ y in
+          let v : _≡_ {A = ℕ} 0 1 = ap (λ (b : Bool). pick b 1 0) x in
+          omega arith)
+      | off q ↦ (let m : (length list ≡ 0) → ⊥ = eqb-false (length list) 0 q in omega arith)
+    ]
 
-      pub did-replace : c ≡ 8 → landed cat tab (replace cat cs pos area) ≡ soundOutcome cat tab pos c list area
-      unfolding called
-      did-replace k = go-on (replace cat cs pos area) (rw k)
+    -- the three gets, and the three with hold
+    pub getting : c < 4 → Getting cat tab size pos c list area
+    getting l = record {
+      ready = ready;
+      long = long-enough (ne-eqb c 9 (λ e. omega arith));
+      parent = λ n m. usable .parent (ap isGnp (third l (usable .first) n m));
+    }
 
-      pub is-nine : (c ≡ 1 → ⊥) → (c ≡ 2 → ⊥) → (c ≡ 3 → ⊥) → (c ≡ 4 → ⊥) → (c ≡ 5 → ⊥) → (c ≡ 6 → ⊥) → (c ≡ 7 → ⊥) → (c ≡ 8 → ⊥) → c ≡ 9
-      is-nine n₁ n₂ n₃ n₄ n₅ n₆ n₇ n₈ =
-          let l : 9 ≤ c = more 8 c (more 7 c (more 6 c (more 5 c (more 4 c (more 3 c (more 2 c (more 1 c (usable .first) n₁) n₂) n₃) n₄) n₅) n₆) n₇) n₈ in
-          at-most-nine c l (usable .last)
+    pub getting-hold : 4 ≤ c → c < 7 → Getting cat tab size pos (c - 3) list area
+    getting-hold g l = record {
+      ready = ready;
+      long = long-enough (ne-eqb c 9 (λ e. omega arith));
+      parent = λ n m. usable .parent (ap isGnp (sixth g l n m));
+    }
 
-      pub did-delete : c ≡ 9 → landed cat tab (delete cat cs pos area) ≡ soundOutcome cat tab pos c list area
-      unfolding called
-      did-delete k = go-on (delete cat cs pos area) (rw k)
+    pub got-plain : c < 4 → landed cat tab (getOf cat tab pos c list area false) ≡ calledOutcome cat tab pos c list area
+    unfolding calledOutcome calledAfter called getOf
+    got-plain l = elim (is (eqb c 1)) [
+      | on e ↦ rw (eqb-true c 1 e)
+      | off e ↦ elim (is (eqb c 2)) [
+        | on f ↦ rw (eqb-true c 2 f)
+        | off f ↦ rw (third l (usable .first) (eqb-false c 1 e) (eqb-false c 2 f))
+      ]
+    ]
+
+    pub got-hold : 4 ≤ c → c < 7 → landed cat tab (getOf cat tab pos (c - 3) list area true) ≡ calledOutcome cat tab pos c list area
+    unfolding calledOutcome calledAfter called getOf
+    got-hold g l = elim (is (eqb c 4)) [
+      | on e ↦ rw (eqb-true c 4 e)
+      | off e ↦ elim (is (eqb c 5)) [
+        | on f ↦ rw (eqb-true c 5 f)
+        | off f ↦ (let x : c ≡ 6 = last-get g l (eqb-false c 4 e) (eqb-false c 5 f) in rw x)
+      ]
+    ]
+
+    -- the three changes
+    pub did-insert : c ≡ 7
+        → landed cat tab (insert cat cs pos area (room cat tab) (lastArgument (listRead cat list .arguments) .code) (parentLevels cat list (listRead cat list .arguments)))
+        ≡ calledOutcome cat tab pos c list area
+    unfolding calledOutcome calledAfter called
+    did-insert e = rw e
+
+    pub did-replace : c ≡ 8 → landed cat tab (replace cat cs pos area) ≡ calledOutcome cat tab pos c list area
+    unfolding calledOutcome calledAfter called
+    did-replace e = rw e
+
+    pub is-nine : 7 ≤ c → (c ≡ 7 → ⊥) → (c ≡ 8 → ⊥) → c ≡ 9
+    is-nine l n₇ n₈ = let u : c ≤ 9 = usable .last in omega arith
+
+    pub did-delete : c ≡ 9 → landed cat tab (delete cat cs pos area) ≡ calledOutcome cat tab pos c list area
+    unfolding calledOutcome calledAfter called
+    did-delete e = rw e
+
+-- the get of each form
+module _ (cat tab : Bytes) (pos : Position) (form : ℕ) (list area : Bytes) (hold : Bool) where
+  abbrev gs : List Level
+  gs = getLevels cat list (listRead cat list .arguments)
+
+  pub of-unique : form ≡ 1 → getUnique cat (listing cat tab) pos area hold gs ≡ getOf cat tab pos form list area hold
+  unfolding getOf
+  of-unique e = rw e
+
+  pub of-next : form ≡ 2 → getNext cat (listing cat tab) pos area hold gs ≡ getOf cat tab pos form list area hold
+  unfolding getOf
+  of-next e = rw e
+
+  pub of-within : (form ≡ 1 → ⊥) → (form ≡ 2 → ⊥) → getNextWithin cat (listing cat tab) pos area hold gs ≡ getOf cat tab pos form list area hold
+  unfolding getOf
+  of-within n m = rw (ne-eqb form 1 n, ne-eqb form 2 m)

@@ -1,1 +1,1 @@
--- Nothing beyond what `rules` says of a call.
+pub mod Called

@@ -1,11 +1,80 @@
-// The nine calls: `call` takes anything, `call_sound` what a check has accepted and only calls have changed since.
+// The nine calls: `call` takes anything, `call_sound` what a check has accepted and only calls have changed since, `called_sound` what no refusal
+// stops.
 
 use blocks::wide;
 use terms::Answer;
 use terms::Position;
 ghost use mathlib.Core.Path.{_≡_};
+ghost use Prim.Native.Nat.{_≤_};
 ghost use Rattle.rules.specs.Outcome.{outcome, soundOutcome};
-ghost use Rattle.answers.specs.Ready.{SoundFor, made};
+ghost use Rattle.answers.specs.Ready.{SoundFor, made, left};
+ghost use Rattle.dli.specs.Called.{Callable, Getting, calledOutcome, getOf};
+
+// GU, GN or GNP, with hold or without.
+fn get(
+    cat: &[u8],
+    tab: &[u8],
+    size: usize,
+    pos: Position,
+    form: u8,
+    list: &[u8],
+    area: &mut [u8],
+    hold: bool,
+) -> Answer
+    requires { ⌜ Getting (now cat) (now tab) size pos form (now list) (now area) ⌝ }
+    ensures { λ r. ⌜ left r (now (area .exit))
+        ≡ getOf (now (cat .entry)) (now (tab .entry)) pos form (now (list .entry)) (now (area .entry)) hold ⌝ }
+{
+    match form {
+        1 => gets::get_unique(cat, tab, size, pos, list, area, hold),
+        2 => gets::get_next(cat, tab, size, pos, list, area, hold),
+        _ => gets::get_next_within(cat, tab, size, pos, list, area, hold),
+    }
+}
+
+// ISRT, REPL or DLET.
+fn change(
+    cat: &[u8],
+    tab: &mut [u8],
+    size: usize,
+    pos: Position,
+    number: u8,
+    list: &[u8],
+    area: &[u8],
+) -> Answer
+    requires { ⌜ Callable (now cat) (now tab) size pos number (now list) (now area) × (7 ≤ number) ⌝ }
+    ensures { λ r. ⌜ made r (now (tab .exit)) (now (area .entry))
+        ≡ calledOutcome (now (cat .entry)) (now (tab .entry)) pos number (now (list .entry)) (now (area .entry)) ⌝ }
+{
+    match number {
+        7 => changes::insert::insert(cat, tab, size, pos, list, area),
+        8 => changes::held::replace(cat, tab, size, pos, area),
+        _ => changes::held::delete(cat, tab, size, pos),
+    }
+}
+
+// The call of this number alone: its refusals have been looked at, by whomever and in whatever order, and none holds.
+pub fn called_sound(
+    cat: &[u8],
+    tab: &mut [u8],
+    size: usize,
+    pos: Position,
+    number: u8,
+    list: &[u8],
+    area: &mut [u8],
+) -> Answer
+    requires { ⌜ Callable (now cat) (now tab) size pos number (now list) (now area) ⌝ }
+    ensures { λ r. ⌜ made r (now (tab .exit)) (now (area .exit))
+        ≡ calledOutcome (now (cat .entry)) (now (tab .entry)) pos number (now (list .entry)) (now (area .entry)) ⌝ }
+{
+    if number < 4 {
+        return get(cat, tab, size, pos, number, list, area, false);
+    }
+    if number < 7 {
+        return get(cat, tab, size, pos, number - 3, list, area, true);
+    }
+    change(cat, tab, size, pos, number, list, area)
+}
 
 // The call of this number, on blocks and a position that are sound: nothing of them is tested again.
 pub fn call_sound(
@@ -25,17 +94,7 @@ pub fn call_sound(
     if terms::statuses::number(s) != 0 {
         return answers::stopped(s, pos);
     }
-    match number {
-        1 => gets::get_unique(cat, tab, size, pos, list, area, false),
-        2 => gets::get_next(cat, tab, size, pos, list, area, false),
-        3 => gets::get_next_within(cat, tab, size, pos, list, area, false),
-        4 => gets::get_unique(cat, tab, size, pos, list, area, true),
-        5 => gets::get_next(cat, tab, size, pos, list, area, true),
-        6 => gets::get_next_within(cat, tab, size, pos, list, area, true),
-        7 => changes::insert::insert(cat, tab, size, pos, list, area),
-        8 => changes::held::replace(cat, tab, size, pos, area),
-        _ => changes::held::delete(cat, tab, size, pos),
-    }
+    called_sound(cat, tab, size, pos, number, list, area)
 }
 
 // The call of this number, on anything at all: "Every call on every input ends with a status of the table."

@@ -2,6 +2,7 @@
 use answers::missed;
 use answers::told;
 use arguments::lookup::last_of;
+use blocks::moves::put;
 use blocks::wide;
 use catalogue::entries::data_length;
 use catalogue::entries::parent;
@@ -19,7 +20,6 @@ use terms::Parentage;
 use terms::Place;
 use terms::Position;
 use terms::Status;
-use update::moves::put;
 ghost use mathlib.Core.Path.{_≡_};
 ghost use mathlib.Core.Bool.{false};
 ghost use Prim.Native.Nat.{suc, _<_, _≤_};

@@ -1,12 +1,10 @@
 -- What the maker writes, and that it is a good table with no cells. Assumes nothing.
 use mathlib.Core.Path.{_≡_, refl, ap, sym, _∙_}
 use mathlib.Core.Bool.{true, false}
-use mathlib.Core.List.{List, [], _∷_, _++_, flatMap, append-nil}
+use mathlib.Core.List.{[], _∷_, _++_, flatMap}
 use Prim.Native.Nat.{ℕ, zero, suc, _+_, _-_, _*_, _/_, _≤_}
 use native.Mathlib.Omega.{arith}
-use lib.ListN.{length, take, drop, set, replicate, length-drop, length-replicate, drop-of-length-le}
-use lib.Seq.{take-all}
-use borrow.Rule.Slice.PartMut.{putMid}
+use lib.ListN.{length, take, drop, set, replicate, length-replicate}
 use borrow.Author.Tests.{le-leb, eq-eqb}
 use Rattle.terms.specs.declared.Status.{Status}
 use Rattle.terms.specs.declared.Status.the-variants.{Blank, CX, TX}
@@ -21,13 +19,6 @@ use Rattle.rules.specs.Outcome.{makeStatus, madeTable}
 use Rattle.table_check.specs.Frame.{goodFrame, emptied}
 use Rattle.table_check.proofs.Space.{room-is}
 use Rattle.table_check.proofs.Frame.{table-frame}
-
--- a tail that was lent, said of the whole: F is what the callee did to it
-pub lent-tail : (F : List ℕ → List ℕ) (a y : List ℕ) (at : ℕ) → y ≡ F (take (length a - at) (drop at a)) → putMid at (length a - at) a y ≡ take at a ++ F (drop at a)
-lent-tail F a y at e =
-    let w : take (length a - at) (drop at a) ≡ drop at a = take-all (length a - at) (drop at a) (simp length-drop (omega arith)) in
-    let z : drop (length a - at) (drop at a) ≡ [] = drop-of-length-le (drop at a) {i = length a - at} (simp length-drop (omega arith)) in
-    simp (z, append-nil) (ap (λ (t : List ℕ). take at a ++ t) (e ∙ ap F w))
 
 -- the eight bytes of the header, written one after the other
 abbrev pub headed : ℕ → Bytes → Bytes

@@ -1,23 +1,14 @@
 // The maker of empty tables.
+use blocks::moves::clear;
 use catalogue::type_range::largest;
 use catalogue_check::check::is_good;
 use table_check::room::good_room;
 use terms::Status;
 ghost use mathlib.Core.Path.{_≡_};
 ghost use Prim.Native.Nat.{_≤_};
-ghost use lib.ListN.{length, replicate};
+ghost use lib.ListN.{length};
 ghost use Rattle.rules.specs.Outcome.{makeStatus, madeTable};
 ghost use Rattle.table_check.specs.Frame.{emptied};
-
-fn clear(tail: &mut [u8])
-    ensures { λ _. ⌜ now (tail .exit) ≡ replicate (length (now (tail .entry))) 0 ⌝ }
-{
-    let mut i = 0;
-    while i < tail.len() {
-        tail[i] = 0;
-        i += 1;
-    }
-}
 
 // "header and zeros"
 fn write_empty(tab: &mut [u8], size: u8)

@@ -1,1 +1,1 @@
--- Nothing beyond what `rules` says of a position.
+pub mod Block

@@ -1,13 +1,14 @@
 // The check of a position against the cells of a table: "Anything else is a bad position."
 // What the calls make of a position are the methods of terms::Position.
+pub mod block;
+
 use cells::lookup::count;
 use cells::runs::run_end;
-use terms::CellNumber;
 use terms::Parentage;
 use terms::Place;
 use terms::Position;
 ghost use mathlib.Core.Path.{_≡_};
-ghost use mathlib.Core.Bool.{true, _&&_};
+ghost use mathlib.Core.Bool.{true};
 ghost use Rattle.rules.specs.Position.{goodPlace, goodParentage, goodHold, goodPosition};
 ghost use Rattle.rules.specs.Table.{listing};
 ghost use Rattle.cells.specs.Sound.{Sound};

@@ -1,5 +1,5 @@
 // Two lists put one behind the other.
-use update::moves::put;
+use blocks::moves::put;
 ghost use mathlib.Core.Path.{_≡_};
 ghost use mathlib.Core.List.{_++_};
 ghost use Prim.Native.Nat.{_+_, _≤_};

@@ -1,11 +1,11 @@
 -- GN with an empty list on sound blocks: nothing refuses it, and what it leaves is what the calls promise. Assumes nothing.
 use mathlib.Core.Path.{_≡_, refl, ap, sym, _∙_, subst}
-use mathlib.Core.Bool.{Bool, true, false, _&&_}
+use mathlib.Core.Bool.{true, false, _&&_}
 use Prim.Native.Nat.{ℕ, suc, _-_, _<_, _≤_}
 use native.Mathlib.Omega.{arith}
 use lib.Dec.{leb, eqb}
 use lib.ListN.{length}
-use borrow.Author.Tests.{le-ltb, le-leb, lt-leb, eq-eqb, ne-eqb, eqb-true, leb-true}
+use borrow.Author.Tests.{le-ltb, eq-eqb, ne-eqb, eqb-true, leb-true}
 use Rattle.terms.specs.declared.Position.{Position}
 use Rattle.terms.specs.declared.Status.the-variants.{Blank}
 use Rattle.terms.specs.declared.Answer.{Answer}
@@ -15,7 +15,6 @@ use Rattle.rules.specs.Table.{cellSize, listing}
 use Rattle.rules.specs.Arguments.{ListRead, listRead, getLevels}
 use Rattle.rules.specs.Calls.{getNext}
 use Rattle.rules.specs.Outcome.{misused, soundOutcome, landed}
-use Rattle.rules.specs.Position.{positionOf}
 use Rattle.cells.proofs.Located.{good-housed}
 use Rattle.catalogue.proofs.Hierarchy.{cell-least}
 use Rattle.arguments.specs.Sound.{SoundList}
@@ -23,8 +22,8 @@ use Rattle.arguments.proofs.Sound.{list-empty}
 use Rattle.refusals.specs.Refusals.{tooShort, misusedGet}
 use Rattle.refusals.proofs.Order.{get-misused}
 use Rattle.answers.specs.Ready.{SoundFor, Ready, made, left as leftBy}
-use Rattle.dli.proofs.Calls.{five-in, size-is, ready, did-next}
-use Rattle.umbristal.specs.Face.{left, soundFace, isStep}
+use Rattle.dli.proofs.Calls.{five-in, callable, ready, did-next}
+use Rattle.umbristal.specs.Face.{soundFace, isStep}
 
 -- the test, as the code meets it
 module _ (tab : Bytes) (c : ℕ) (list area : Bytes) where
@@ -68,7 +67,11 @@ module _ (cat tab : Bytes) (pos : Position) (list area : Bytes) (f : SoundFor ca
         sym (sym (get-misused cat pos 2 list area (cellSize cat) refl list-sound (λ z. omega arith) (omega arith)) ∙ rw (le-ltb (length area) (cellSize cat - 1) l))
 
     pub step-ready : (size : ℕ) → size ≡ byte tab 5 → Ready cat tab size pos list × (size ≤ suc (length area)) × (length list ≡ 0)
-    step-ready size w = (ready cat tab pos 2 list area f Blank 0 none-misused refl refl size w, omega (arith, step-long tab 2 list area e), step-empty tab 2 list area e)
+    step-ready size w = (
+      ready cat tab pos 2 list area (callable cat tab pos 2 list area f Blank 0 none-misused refl refl size w),
+      omega (arith, step-long tab 2 list area e),
+      step-empty tab 2 list area e,
+    )
 
     pub step-made : (a : Answer) (r : Bytes) → leftBy a r ≡ getNext cat (listing cat tab) pos area false (getLevels cat list (listRead cat list .arguments)) → made a tab r ≡ soundOutcome cat tab pos 2 list area
     step-made a r h = ap (landed cat tab) h ∙ did-next cat tab pos 2 list area f Blank 0 none-misused refl refl refl

@@ -31,11 +31,12 @@ use Rattle.encoding.proofs.Bytes.{table-room, table-count}
 use Rattle.model.specs.Kept.{Kept}
 use Rattle.model.proofs.Asked.{sound-of, good-place, good-parentage, good-hold, parent-before}
 use Rattle.model.proofs.Kept.{tables-stay-good}
+use Rattle.position.specs.Block.{parentageNumber}
+use Rattle.position.proofs.Parts.{position-bad}
 use Rattle.answers.specs.Told.{stoppedAnswer}
 use Rattle.answers.specs.Ready.{SoundFor, made}
 use Rattle.dli.proofs.Calls.{call-stopped, call-on}
-use Rattle.umbristal.specs.Face.{left, leftOf, face, soundFace, packed, parentageNumber, Fitting}
-use Rattle.umbristal.proofs.Block.{position-bad}
+use Rattle.umbristal.specs.Face.{left, leftOf, face, soundFace, packed, Fitting}
 
 never : true ≡ false → ⊥
 never e = let z : _≡_ {A = ℕ} 1 0 = ap (λ (b : Bool). pick b 1 0) e in omega arith

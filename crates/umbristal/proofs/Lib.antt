@@ -1,4 +1,4 @@
-pub mod Block
+pub mod Left
 pub mod Fitting
 pub mod Reports
 pub mod EmptyList

@@ -3,6 +3,7 @@ mod lent;
 
 use crate::lent::packed_report;
 use blocks::wide;
+use position::block::position_of;
 ghost use mathlib.Core.Path.{_≡_};
 ghost use mathlib.Core.Bool.{true};
 ghost use Prim.Native.Nat.{_<_, _≤_};
@@ -51,7 +52,7 @@ pub extern "C" fn umbristal_call(
     ensures { λ r. ⌜ left r (now (tab .exit)) (now (pos .exit)) (now (area .exit))
         ≡ face (now (cat .entry)) (now (tab .entry)) (now (pos .entry)) number (now (list .entry)) (now (area .entry)) ⌝ }
 {
-    let p = lent::position_of(pos);
+    let p = position_of(pos);
     let a = dli::call(cat, tab, p, number, list, area);
     lent::leave(pos, a)
 }
@@ -77,7 +78,7 @@ fn step(cat: &[u8], tab: &[u8], pos: &mut [u8], list: &[u8], area: &mut [u8]) ->
         ≡ soundFace (now (cat .entry)) (now (tab .entry)) (now (pos .entry)) 2 (now (list .entry)) (now (area .entry)) ⌝ }
 {
     let size = wide(tab[5]);
-    let p = lent::position_of(pos);
+    let p = position_of(pos);
     let a = gets::get_next_cell(cat, tab, size, p, list, area, false);
     lent::leave(pos, a)
 }
@@ -99,7 +100,7 @@ pub extern "C" fn umbristal_call_sound(
     if is_step(tab, number, list, area) {
         return step(cat, tab, pos, list, area);
     }
-    let p = lent::position_of(pos);
+    let p = position_of(pos);
     let a = dli::call_sound(cat, tab, p, number, list, area);
     lent::leave(pos, a)
 }

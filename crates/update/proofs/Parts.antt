@@ -1,57 +1,23 @@
--- A part of a block that was lent and is back, said of the whole block. Assumes nothing.
+-- A cell and the count, written in parts of a table that were lent, said of the whole table. Assumes nothing.
 use mathlib.Core.Path.{_≡_, sym, ap, _∙_}
-use mathlib.Core.List.{[], _∷_, _++_, append-assoc, append-nil}
+use mathlib.Core.List.{[], _∷_, _++_, append-assoc}
 use Prim.Native.Nat.{ℕ, suc, _+_, _-_, _≤_, _<_}
 use native.Mathlib.Omega.{arith}
-use lib.ListN.{length, take, drop, set, replicate, length-append, length-drop, drop-of-length-le, take-append-drop}
-use lib.Seq.{take-at, drop-at, take-append-le, drop-append-le, take-take, drop-drop, length-take-le}
+use lib.ListN.{length, take, drop, set, replicate, length-append, length-drop, length-set}
+use lib.Seq.{take-at, drop-at, take-append-le, drop-append-le, take-take, drop-drop, length-take-le, set-split, take-suc-set, drop-set-lt, append-snoc}
 use borrow.Rule.Slice.PartMut.{midOf, putMid, mid-len}
 use Rattle.rules.specs.Block.{Bytes}
 use Rattle.encoding.proofs.Lists.{drop-take}
-use Rattle.update.specs.Moves.{movedUp, movedDown}
-
--- b is what lies before the part, the part m from byte a to byte e, and what lies behind it
-module _ (b p m q : Bytes) (a e : ℕ) (is : b ≡ p ++ (m ++ q)) (start : length p ≡ a) (end : a + length m ≡ e) where
-  behind : drop a b ≡ m ++ q
-  behind = ap (drop a) is ∙ drop-at p (m ++ q) a start
-
-  long : length m ≡ e - a
-  long = omega arith
-
-  -- what is lent
-  pub lent : midOf a (e - a) b ≡ m
-  lent = ap (take (e - a)) behind ∙ take-at m q (e - a) long
-
-  -- and what the whole is when y comes back in its place
-  pub back : (y : Bytes) → putMid a (e - a) b y ≡ p ++ (y ++ q)
-  back y =
-      ap (λ (t : Bytes). t ++ (y ++ drop (e - a) (drop a b))) (ap (take a) is ∙ take-at p (m ++ q) a start)
-      ∙ ap (λ (t : Bytes). p ++ (y ++ t)) (ap (drop (e - a)) behind ∙ drop-at m q (e - a) long)
-
--- every block has such parts
-pub cut : (b : Bytes) (a e : ℕ) → a ≤ e → b ≡ take a b ++ (take (e - a) (drop a b) ++ drop e b)
-cut b a e l =
-    let z : a + (e - a) ≡ e = omega arith in
-    sym (take-append-drop a b)
-    ∙ ap (λ (t : Bytes). take a b ++ t) (sym (take-append-drop (e - a) (drop a b)) ∙ ap (λ (t : Bytes). take (e - a) (drop a b) ++ t) (drop-drop (e - a) a b ∙ ap (λ (k : ℕ). drop k b) z))
-
--- a part all of whose bytes are written anew
-pub put-part : (tab from y : Bytes) (start end : ℕ) → length from ≡ end - start → start ≤ end → end ≤ length tab
-    → y ≡ from ++ drop (length from) (midOf start (end - start) tab) → putMid start (end - start) tab y ≡ take start tab ++ (from ++ drop end tab)
-put-part tab from y start end f l in-tab e =
-    let n : length (midOf start (end - start) tab) ≡ end - start = mid-len start end tab in-tab in
-    let v : drop (length from) (midOf start (end - start) tab) ≡ [] = drop-of-length-le (midOf start (end - start) tab) {i = length from} (omega arith) in
-    back tab (take start tab) (midOf start (end - start) tab) (drop end tab) start end (cut tab start end l) (length-take-le start tab (omega arith)) (omega arith) y
-    ∙ ap (λ (t : Bytes). take start tab ++ (t ++ drop end tab)) (e ∙ ap (λ (t : Bytes). from ++ t) v ∙ append-nil from)
+use Rattle.blocks.specs.Moves.{movedUp, movedDown}
+use Rattle.blocks.proofs.Lent.{lent, back, cut, put-part, lent-tail}
 
 -- all behind the front cleared
 tail-cleared : (b p q z : Bytes) (a : ℕ) → b ≡ p ++ q → length p ≡ a → z ≡ replicate (length (midOf a (length b - a) b)) 0
     → putMid a (length b - a) b z ≡ p ++ replicate (length q) 0
 tail-cleared b p q z a e f g =
-    let h : b ≡ p ++ (q ++ []) = e ∙ ap (λ (t : Bytes). p ++ t) (sym (append-nil q)) in
-    let l : a + length q ≡ length b = omega (arith, ap length e, length-append p q) in
-    back b p q [] a (length b) h f l z
-    ∙ ap (λ (t : Bytes). p ++ t) (append-nil z ∙ g ∙ ap (λ (t : Bytes). replicate (length t) 0) (lent b p q [] a (length b) h f l))
+    lent-tail (λ (l : Bytes). replicate (length l) 0) b z a g
+    ∙ ap (λ (t : Bytes). t ++ replicate (length (drop a b)) 0) (ap (take a) e ∙ take-at p q a f)
+    ∙ ap (λ (t : Bytes). p ++ replicate (length t) 0) (ap (drop a) e ∙ drop-at p q a f)
 
 -- a cell written: y stands in the place of its data, then z behind that, then the code
 pub cell-written : (cell from y z : Bytes) (t : ℕ) → length from < length cell
@@ -146,3 +112,11 @@ counted tab b q w k l e =
     let f : take 6 b ≡ take 6 tab = ap (take 6) e ∙ take-append-le 6 p q (omega arith) ∙ take-take 6 (8 + k) tab (omega arith) in
     let g : drop 8 b ≡ take k (drop 8 tab) ++ q = ap (drop 8) e ∙ drop-append-le 8 p q (omega arith) ∙ ap (λ (t : Bytes). t ++ q) (drop-take 8 k tab) in
     ap (λ (t : Bytes). t ++ (w ++ drop 8 b)) f ∙ ap (λ (t : Bytes). take 6 tab ++ (w ++ t)) g
+
+-- the two bytes of the count
+pub count-set : (tab : Bytes) (x y : ℕ) → 8 ≤ length tab → set (set tab 6 x) 7 y ≡ take 6 tab ++ (x ∷ y ∷ drop 8 tab)
+count-set tab x y h =
+    set-split (set tab 6 x) 7 y (rw length-set (omega arith))
+    ∙ ap (λ (t : Bytes). t ++ y ∷ drop 8 (set tab 6 x)) (take-suc-set tab 6 x (omega arith))
+    ∙ ap (λ (t : Bytes). take 6 tab ++ (x ∷ []) ++ y ∷ t) (drop-set-lt 8 tab 6 x (omega arith))
+    ∙ append-snoc (take 6 tab) x (y ∷ drop 8 tab)

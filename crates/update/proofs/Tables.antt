@@ -18,9 +18,10 @@ use Rattle.cells.proofs.Located.{type-of}
 use Rattle.encoding.specs.Determined.{IsBytes}
 use Rattle.encoding.proofs.Entries.{length-cell}
 use Rattle.encoding.proofs.Bytes.{cells-split, table-room, table-count, table-within, table-known, insert-bytes, delete-bytes, replace-data}
-use Rattle.update.specs.Moves.{movedUp, movedDown}
+use Rattle.blocks.specs.Moves.{movedUp, movedDown}
 use Rattle.update.specs.Edits.{withCell, withData, withoutCells, Insertable, Replaceable, Removable}
-use Rattle.update.proofs.Parts.{put-part, up-room, up-cell, down-cleared, counted}
+use Rattle.blocks.proofs.Lent.{put-part}
+use Rattle.update.proofs.Parts.{up-room, up-cell, down-cleared, counted}
 
 module _ {cat tab : Bytes} {size : ℕ} (s : Sound cat tab size) where
   -- the first k cells lie within the slice

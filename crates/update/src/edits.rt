@@ -1,11 +1,11 @@
 // The three changes of the cells: one more, other data in one, a run of them less. Of the bytes behind the count only those of the cells in use,
 // from the one concerned on, are lent to be moved.
-use crate::moves::clear;
-use crate::moves::put;
 use crate::moves::set_count;
-use crate::moves::shift_down;
-use crate::moves::shift_up;
 use crate::moves::write_cell;
+use blocks::moves::clear;
+use blocks::moves::put;
+use blocks::moves::shift_down;
+use blocks::moves::shift_up;
 use blocks::wide;
 use catalogue::entries::data_length;
 use cells::lookup::code_at;

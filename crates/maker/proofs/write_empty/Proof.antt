@@ -3,7 +3,8 @@ use mathlib.Core.List.{List}
 use Prim.Native.Nat.{ℕ, _-_}
 use native.Mathlib.Omega.{arith}
 use lib.ListN.{length, replicate, length-set}
-use Rattle.maker.proofs.Made.{headed, lent-tail, written, emptied-length}
+use Rattle.blocks.proofs.Lent.{lent-tail}
+use Rattle.maker.proofs.Made.{headed, written, emptied-length}
 use borrow.Author.Needs.{needs}
 use Rattle.maker.proofs.write_empty.Statement.{statement}
 use Rattle.maker.proofs.write_empty.Tie as tie

@@ -1,5 +1,5 @@
 use native.Mathlib.Omega.{arith}
-use Rattle.umbristal.proofs.Block.{block-kept, block-put}
+use Rattle.umbristal.proofs.Left.{block-kept, block-put}
 use borrow.Author.Needs.{needs}
 use Rattle.umbristal.proofs.lent.leave.Statement.{statement}
 use Rattle.umbristal.proofs.lent.leave.Tie as tie

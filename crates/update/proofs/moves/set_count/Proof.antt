@@ -1,4 +1,4 @@
-use Rattle.update.proofs.Shifts.{count-set}
+use Rattle.update.proofs.Parts.{count-set}
 use borrow.Author.Needs.{needs}
 use Rattle.update.proofs.moves.set_count.Statement.{statement}
 use Rattle.update.proofs.moves.set_count.Tie as tie

@@ -1,0 +1,68 @@
+use native.Mathlib.Omega.{arith}
+use mathlib.Core.Path.{_≡_, refl, ap, _∙_}
+use mathlib.Core.List.{_++_}
+use Prim.Native.Nat.{ℕ, _≤_, _-_}
+use lib.ListN.{length, length-set, set, take, drop}
+use lib.Seq.{take-all}
+use Rattle.rules.specs.Block.{Bytes, byte}
+use Rattle.blocks.proofs.Moved.{over-more}
+use Rattle.blocks.proofs.moves.put.Statement.{statement}
+use Rattle.blocks.proofs.moves.put.Tie as tie
+
+abbrev Inv-loop : tie.InvT-loop
+Inv-loop tail₀ from i₀ tail i = (i ≤ length from) × (length from ≤ length tail₀) × (length tail ≡ length tail₀) ×
+    (tail ≡ take i from ++ drop i tail₀)
+
+abbrev μ-loop : tie.MeasureT-loop
+μ-loop tail₀ from i₀ tail i = length from - i
+
+loop-holds : tie.Need-loop-holds Inv-loop μ-loop
+loop-holds c = (omega arith, omega arith, refl, refl)
+
+shared-slice-read-tail : tie.Need-shared-slice-read-tail Inv-loop μ-loop
+shared-slice-read-tail c = omega arith
+
+slice-write-tail : tie.Need-slice-write-tail Inv-loop μ-loop
+slice-write-tail c = omega arith
+
+add-i : tie.Need-add-i Inv-loop μ-loop
+add-i c = omega arith
+
+loop-less : tie.Need-loop-less Inv-loop μ-loop
+loop-less c = omega arith
+
+loop-again : tie.Need-loop-again Inv-loop μ-loop
+loop-again c = let ·args = c .before .before .before .args in (
+  omega arith,
+  omega arith,
+  simp length-set (c .before .before .loop .inv .2),
+  ap
+      (λ (t : Bytes). set t (c .before .before .loop .i) (byte (·args .from .now) (c .before .before .loop .i)))
+      (c .before .before .loop .inv .3) ∙ over-more (·args .from .now) (·args .tail .now) (c .before .before .loop .i)
+      (omega arith) (omega arith),
+)
+
+same-length : tie.Need-same-length Inv-loop μ-loop
+same-length c = omega arith
+
+returns : tie.Need-returns Inv-loop μ-loop
+returns c = let ·args = c .before .before .args in
+    let e : c .before .loop .i ≡ length (·args .from .now) = omega arith in c .before .loop .inv .3 ∙ ap
+    (λ (k : ℕ). take k (·args .from .now) ++ drop k (·args .tail .now)) e ∙ ap
+    (λ (b : Bytes). b ++ drop (length (·args .from .now)) (·args .tail .now))
+    (take-all (length (·args .from .now)) (·args .from .now) (omega arith))
+
+pub put-spec : {M : Type 1} → statement M
+put-spec =
+    tie.close
+    (tie.spec
+    Inv-loop
+    μ-loop
+    loop-holds
+    shared-slice-read-tail
+    slice-write-tail
+    add-i
+    loop-less
+    loop-again
+    same-length
+    returns)

@@ -1,0 +1,61 @@
+use mathlib.Core.Path.{_∙_}
+use Rattle.dli.proofs.Calls.{of-unique, of-next, of-within}
+use borrow.Author.Needs.{needs}
+use Rattle.dli.proofs.get.Statement.{statement}
+use Rattle.dli.proofs.get.Tie as tie
+
+get-unique-requires : tie.Need-get-unique-requires
+get-unique-requires c κs = let ·pre = c .before .before .before .before .before .before .pre in
+    (·pre .ready, ·pre .long)
+
+get-next-requires : tie.Need-get-next-requires
+get-next-requires c κs = let ·pre = c .before .before .before .before .before .before .pre in
+    (·pre .ready, ·pre .long)
+
+get-next-within-requires : tie.Need-get-next-within-requires
+get-next-within-requires c κs = let ·pre = c .before .before .before .before .before .before .pre in
+    (·pre .ready, ·pre .long, ·pre .parent (c .before .match .rest .0 .1) (c .before .match .rest .1))
+
+same-length : tie.Need-same-length
+same-length c = search needs
+
+returns : tie.Need-returns
+returns c = let ·get-unique = c .before .before .get-unique in
+    let ·args = c .before .before .before .before .before .before .before .before .before .args in
+    let ·match = c .before .before .before .before .match in
+    ·get-unique .ensures ∙ of-unique (·args .cat .now) (·args .tab .now) (·args .pos) (·args .form) (·args .list .now)
+    (·args .area .now) (·args .hold) (·match .keys1)
+
+same-length-2 : tie.Need-same-length-2
+same-length-2 c = search needs
+
+returns-2 : tie.Need-returns-2
+returns-2 c = let ·get-next = c .before .before .get-next in
+    let ·args = c .before .before .before .before .before .before .before .before .before .args in
+    let ·match = c .before .before .before .before .match in
+    ·get-next .ensures ∙ of-next (·args .cat .now) (·args .tab .now) (·args .pos) (·args .form) (·args .list .now)
+    (·args .area .now) (·args .hold) (·match .keys2)
+
+same-length-3 : tie.Need-same-length-3
+same-length-3 c = search needs
+
+returns-3 : tie.Need-returns-3
+returns-3 c = let ·get-next-within = c .before .before .get-next-within in
+    let ·args = c .before .before .before .before .before .before .before .before .before .args in
+    let ·match = c .before .before .before .before .match in
+    ·get-next-within .ensures ∙ of-within (·args .cat .now) (·args .tab .now) (·args .pos) (·args .form)
+    (·args .list .now) (·args .area .now) (·args .hold) (·match .rest .0 .1) (·match .rest .1)
+
+pub get-spec : {M : Type 1} → statement M
+get-spec =
+    tie.close
+    (tie.spec
+    get-unique-requires
+    get-next-requires
+    get-next-within-requires
+    same-length
+    returns
+    same-length-2
+    returns-2
+    same-length-3
+    returns-3)
