@@ -17,8 +17,8 @@ use Rattle.forest.specs.Rows.{rows, mapF}
 use Rattle.forest.specs.Good.{on, off, is, both-left, both-right, Wf, formed-wf}
 use Rattle.forest.specs.Runs.{under, under-in, under-out}
 use Rattle.forest.specs.Numbers.{range, isIn, ancestors, row-number, run-ancestor}
-use Rattle.rules.specs.Block.{Bytes, byte, every, zeros, marked}
-use Rattle.rules.specs.Catalogue.{types, parentOf, isType, lineage, level, typeBeneath, goodCatalogue}
+use Rattle.rules.specs.Block.{Bytes, byte, part, every, zeros, marked}
+use Rattle.rules.specs.Catalogue.{types, parentOf, lengthOf, isType, lineage, level, typeBeneath, goodCatalogue}
 use Rattle.rules.specs.Cells.{Segment, segment, typeNumber, isChild, siblings, segmentLevel, goodListing, levelAt, runAt, endAt}
 use Rattle.rules.specs.Table.{count, cellSize, cellStart, room, listing, padded, goodRoom, goodTable}
 use Rattle.rules.specs.Tree.{dataPart, segments}
@@ -28,9 +28,9 @@ use Rattle.rules.proofs.Tree.{segments-cells}
 use Rattle.catalogue.proofs.Chains.{clash, in-bounds}
 use Rattle.catalogue.proofs.Hierarchy as Hierarchy
 use Rattle.catalogue.proofs.Hierarchy.{type-range, level-child, beneath-parent, beneath-trans, beneath-later, none-later}
-use Rattle.cells.specs.Lent.{startOf, nearest, behind, endFrom, LastBeneath, climbed, parentAt}
+use Rattle.cells.specs.Lent.{InData, startOf, nearest, behind, endFrom, LastBeneath, climbed, parentAt}
 use Rattle.cells.specs.Sound.{Sound}
-use Rattle.cells.proofs.Data.{code-of}
+use Rattle.cells.proofs.Data.{code-of, whole-data, whole-part, whole-long}
 use Rattle.cells.proofs.Located.{under-few, behind-in, behind-low, behind-high, climb-none, climb-here, climb-more, climb-parent, parent-before}
 
 module _ (cat : Bytes) (cs : List Segment) where
@@ -172,6 +172,23 @@ module _ {cat tab : Bytes} {size : ℕ} (s : Sound cat tab size) where
   pub sound-listing : goodListing cat (listing cat tab) ≡ true
   unfolding goodTable
   sound-listing = both-right (goodRoom cat tab && marked 0x54 tab && eqb (byte tab 5) (cellSize cat) && leb (count tab) (room cat tab) && every (padded cat tab) (range 0 (count tab)) && zeros (drop (cellStart cat (count tab)) tab)) (goodListing cat (listing cat tab)) (s .table)
+
+  pub sound-known : (i : ℕ) → i < count tab → isType cat (segment (listing cat tab) i .code) ≡ true
+  sound-known i l = row-type cat cs (s .catalogue) sound-listing i (omega (arith, listing-length cat tab)) .0
+
+  -- all the data of a cell, whose type the code has read as t, and its length as long
+  module _ {i : ℕ} (l : i < count tab) {t : TypeCode} (e : t ≡ segment (listing cat tab) i .code) {long : ℕ} (q : long ≡ lengthOf cat t) where
+    read-known : isType cat t ≡ true
+    read-known = rw e (sound-known i l)
+
+    pub sound-data : InData cat tab size i 1 long
+    sound-data = whole-data (s .sized) (s .catalogue) l e read-known q
+
+    pub sound-part : part (segment (listing cat tab) i .bytes) (1 - 1) long ≡ segment (listing cat tab) i .bytes
+    sound-part = whole-part (s .sized) (s .catalogue) l e read-known q
+
+    pub sound-long : length (segment (listing cat tab) i .bytes) ≡ long
+    sound-long = whole-long (s .sized) (s .catalogue) l e read-known q
 
   -- going back from cell i, cell by cell, to the first of type p, which is the parent of its own
   module _ (i : ℕ) (l : i < count tab) (t p : TypeCode) (e : t ≡ segment (listing cat tab) i .code) (f : p ≡ parentOf cat t) where

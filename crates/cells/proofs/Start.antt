@@ -39,6 +39,11 @@ module _ {tab : Bytes} {size n : ℕ} (s : Inside tab size n) (i : ℕ) where
       let m : i * size ≤ n * size = mul-le-mul-right size l in
       record { few = omega (arith, s .few); some = s .some; narrow = s .narrow; within = omega (arith, s .within) }
 
+-- the header stands before the cells
+pub header-in : {tab : Bytes} {size n : ℕ} → Inside tab size n → 8 ≤ length tab
+unfolding startOf
+header-in s = omega (arith, s .within)
+
 -- a cell lies whole within the slice
 pub start-in : {tab : Bytes} {size n : ℕ} → Inside tab size n → (i : ℕ) → i < n → startOf tab size i + size ≤ length tab
 start-in {tab} {size} s i l = omega (arith, start-next tab size i, inside-less s (suc i) (omega arith) .within)

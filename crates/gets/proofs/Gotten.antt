@@ -2,10 +2,10 @@
 use mathlib.Core.Path.{_≡_, refl, ap, sym, _∙_}
 use mathlib.Core.Bool.{Bool, true, false, _&&_, not}
 use mathlib.Core.List.{List, [], _∷_, _++_}
-use Prim.Native.Nat.{ℕ, zero, suc, _+_, _-_, _*_, _<_, _≤_}
+use Prim.Native.Nat.{ℕ, zero, suc, _+_, _-_, _<_, _≤_}
 use native.Mathlib.Omega.{arith}
 use lib.Dec.{ltb, eqb}
-use lib.ListN.{length, take, drop}
+use lib.ListN.{length, drop}
 use borrow.Author.Tests.{lt-ltb, le-ltb, eq-eqb, ne-eqb, ltb-true, ltb-false, eqb-true, eqb-false}
 use Rattle.terms.specs.declared.TypeCode.{TypeCode}
 use Rattle.terms.specs.declared.CellNumber.{CellNumber}
@@ -26,8 +26,8 @@ use Rattle.forest.specs.Forest.{inside, outside, side}
 use Rattle.forest.specs.Good.{on, off, is}
 use Rattle.forest.specs.Runs.{under, under-in, under-out}
 use Rattle.forest.specs.Numbers.{range}
-use Rattle.rules.specs.Block.{Bytes}
-use Rattle.rules.specs.Catalogue.{types, parentOf, lengthOf, isType, level, typeBeneath}
+use Rattle.rules.specs.Block.{Bytes, part}
+use Rattle.rules.specs.Catalogue.{types, parentOf, lengthOf, level, typeBeneath}
 use Rattle.rules.specs.Cells.{Segment, segment, shownBytes, long as segmentLong, levelAt, runAt, endAt}
 use Rattle.rules.specs.Table.{count, listing}
 use Rattle.rules.specs.Arguments.{Level, ListRead, listRead, lastArgument, complete, getLevels}
@@ -36,12 +36,12 @@ use Rattle.rules.specs.Calls.{bare, afterMiss, answerOf, missStatus, levelStatu
 use Rattle.rules.proofs.Cells.{listing-length}
 use Rattle.catalogue.proofs.Hierarchy.{type-range, cell-holds, level-child, level-least, beneath-later}
 use Rattle.cells.specs.Sound.{Sound}
-use Rattle.cells.proofs.Located.{type-of, bytes-of, end-within}
-use Rattle.cells.proofs.Ancestry.{sound-listing, own-type, run-beneath}
+use Rattle.cells.proofs.Located.{end-within}
+use Rattle.cells.proofs.Data.{data-long}
+use Rattle.cells.proofs.Ancestry.{sound-listing, own-type, run-beneath, sound-known, sound-data, sound-part}
 use Rattle.arguments.specs.Sound.{SoundList}
 use Rattle.arguments.proofs.Sound.{list-empty, last-asks}
 use Rattle.arguments.proofs.Complete.{complete-length}
-use Rattle.encoding.proofs.Bytes.{table-known}
 use Rattle.search.specs.Good.{Good}
 use Rattle.search.proofs.Branches.{first-none, all-match, known-last}
 use Rattle.search.proofs.Levels.{get-levels}
@@ -51,23 +51,20 @@ use Rattle.answers.specs.Ready.{Ready, left, gotAt, missedStatus}
 -- a cell's data lies within the cell
 pub data-fits : {cat tab : Bytes} {size : ℕ} → Sound cat tab size → (i : ℕ) → i < count tab → suc (lengthOf cat (segment (listing cat tab) i .code)) ≤ size
 data-fits {cat} {tab} {size} s i l =
-    let k : isType cat (segment (listing cat tab) i .code) ≡ true = rw (type-of cat tab i l) (table-known cat tab (s .table) i l) in
-    let r = type-range cat (segment (listing cat tab) i .code) k in
+    let r = type-range cat (segment (listing cat tab) i .code) (sound-known s i l) in
     omega (arith, cell-holds cat (s .catalogue) (segment (listing cat tab) i .code) (r .0) (r .1), s .sized .is)
 
 -- what a get writes and answers, once cell i is found: `from` are the bytes that are put over the front of the area
-pub got-is : {cat tab : Bytes} {size : ℕ} → Sound cat tab size → (i : ℕ) → i < count tab → (s : Status) (parentage : Parentage) (hold : Bool) (area out : Bytes) (r : Answer)
-    (p : Position) (t : TypeCode) (start long : ℕ) → start ≡ 9 + i * size → long ≡ lengthOf cat t → t ≡ segment (listing cat tab) i .code
-    → p ≡ movedOnto i parentage hold → r ≡ told cat s p t 0
-    → out ≡ take (start + long - start) (drop start tab) ++ drop (length (take (start + long - start) (drop start tab))) area
-    → left r out ≡ gotAt cat (listing cat tab) s parentage hold i area
-unfolding told answerOf segmentLong shownBytes
-got-is {cat} {tab} {size} snd i l s parentage hold area out r p t start long e f g h k o =
-    let n : start + long - start ≡ lengthOf cat (segment (listing cat tab) i .code) = omega (arith, f ∙ ap (lengthOf cat) g) in
-    let m : start ≡ suc (8 + i * size) = omega arith in
-    let b : take (start + long - start) (drop start tab) ≡ segment (listing cat tab) i .bytes =
-    ap (λ (x : ℕ). take x (drop start tab)) n ∙ ap (λ (x : ℕ). take (lengthOf cat (segment (listing cat tab) i .code)) (drop x tab)) m ∙ sym (bytes-of (snd .sized) i l) in
-    rw (o, b, k, h, g)
+module _ {cat tab : Bytes} {size i : ℕ} (snd : Sound cat tab size) (l : i < count tab) {t : TypeCode} (g : t ≡ segment (listing cat tab) i .code)
+    {long : ℕ} (f : long ≡ lengthOf cat t) {from : Bytes} (b : from ≡ part (segment (listing cat tab) i .bytes) (1 - 1) long) (area : Bytes) where
+  pub got-fits : size ≤ suc (length area) → length from ≤ length area
+  got-fits m = omega (arith, ap length b, data-long (sound-data snd l g f), f ∙ ap (lengthOf cat) g, data-fits snd i l)
+
+  pub got-is : (s : Status) (parentage : Parentage) (hold : Bool) {out : Bytes} {r : Answer} {p : Position}
+      → p ≡ movedOnto i parentage hold → r ≡ told cat s p t 0 → out ≡ from ++ drop (length from) area
+      → left r out ≡ gotAt cat (listing cat tab) s parentage hold i area
+  unfolding told answerOf segmentLong shownBytes
+  got-is s parentage hold h k o = rw (o, b ∙ sound-part snd l g f, k, h, g)
 
 module _ {cat tab : Bytes} {size : ℕ} {pos : Position} {list : Bytes} (r : Ready cat tab size pos list) where
   abbrev cs : List Segment

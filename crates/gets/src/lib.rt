@@ -10,6 +10,7 @@ use catalogue::lineage::is_beneath;
 use catalogue::lineage::level;
 use cells::lookup::code_at;
 use cells::lookup::count;
+use cells::lookup::data_part;
 use cells::runs::run_end;
 use search::along::along;
 use search::forward::first_match;
@@ -47,13 +48,12 @@ fn got(
     area: &mut [u8],
 ) -> Answer
     requires { ⌜ Sound (now cat) (now tab) size × (c .0 < count (now tab)) × (size ≤ suc (length (now area))) ⌝ }
-    ensures { λ r. ⌜ left r (now (area .exit)) ≡ gotAt (now (cat .entry)) (listing (now (cat .entry)) (now (tab .entry))) s parentage hold (c .0) (now (area .entry)) ⌝ }
+    ensures { λ r. ⌜ left r (now (area .exit))
+        ≡ gotAt (now (cat .entry)) (listing (now (cat .entry)) (now (tab .entry))) s parentage hold (c .0) (now (area .entry)) ⌝ }
 {
     let t = code_at(cat, tab, size, c);
-    let i = c.0;
-    let start = 9 + i * size;
-    let end = start + wide(data_length(cat, t));
-    put(area, &tab[start..end]);
+    let long = wide(data_length(cat, t));
+    put(area, data_part(cat, tab, size, c, 1, long));
     told(cat, s, pos.moved_onto(c, parentage, hold), t, 0)
 }
 

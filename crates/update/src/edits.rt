@@ -10,6 +10,7 @@ use blocks::wide;
 use catalogue::entries::data_length;
 use cells::lookup::code_at;
 use cells::lookup::count;
+use cells::lookup::start_of;
 use terms::CellNumber;
 use terms::TypeCode;
 ghost use mathlib.Core.Path.{_≡_};
@@ -29,9 +30,9 @@ pub fn insert_cell_sound(
 {
     let n = count(tab) + 1;
     let long = wide(data_length(cat, t));
-    let start = 8 + r.0 * size;
+    let start = start_of(tab, size, r);
     let next = start + size;
-    let end = 8 + n * size;
+    let end = start_of(tab, size, CellNumber(n));
     shift_up(&mut tab[start..end], size);
     write_cell(&mut tab[start..next], t, &area[..long]);
     set_count(tab, n);
@@ -44,7 +45,7 @@ pub fn replace_cell_sound(cat: &[u8], tab: &mut [u8], size: usize, c: CellNumber
 {
     let t = code_at(cat, tab, size, c);
     let long = wide(data_length(cat, t));
-    let start = 8 + c.0 * size + 1;
+    let start = start_of(tab, size, c) + 1;
     let end = start + long;
     put(&mut tab[start..end], &area[..long]);
 }
@@ -56,9 +57,9 @@ pub fn remove_cells_sound(cat: &[u8], tab: &mut [u8], size: usize, c: CellNumber
 {
     let n = count(tab);
     let run = e.0 - c.0;
-    let gap = run * size;
-    let start = 8 + c.0 * size;
-    let end = 8 + n * size;
+    let start = start_of(tab, size, c);
+    let gap = start_of(tab, size, e) - start;
+    let end = start_of(tab, size, CellNumber(n));
     let freed = end - gap;
     shift_down(&mut tab[start..end], gap);
     clear(&mut tab[freed..end]);

@@ -2,7 +2,8 @@ use lib.ListN.{length-take, length-drop}
 use native.Mathlib.Omega.{arith}
 use mathlib.Core.Path.{_∙_}
 use Prim.Native.Nat.{ℕ}
-use Rattle.update.proofs.Tables.{insert-end, insert-fits, insert-is}
+use Rattle.cells.proofs.Start.{header-in}
+use Rattle.update.proofs.Tables.{new-inside, insert-end, insert-fits, insert-is}
 use borrow.Author.Needs.{needs}
 use Rattle.update.proofs.edits.insert_cell_sound.Statement.{statement}
 use Rattle.update.proofs.edits.insert_cell_sound.Tie as tie
@@ -19,70 +20,49 @@ data-length-requires c κs = search needs
 wide-requires : tie.Need-wide-requires
 wide-requires c κs = search needs
 
-mul-start : tie.Need-mul-start
-mul-start c = omega (
-  arith,
-  insert-end (c .before .before .before .before .before .before .before .before .pre)
-      (c .before .before .before .count .result) (c .before .before .before .count .ensures .0),
-)
-
-add-start : tie.Need-add-start
-add-start c = omega (
-  arith,
-  insert-end (c .before .before .before .before .before .before .before .before .pre)
-      (c .before .before .before .count .result) (c .before .before .before .count .ensures .0),
-)
+start-of-requires : tie.Need-start-of-requires
+start-of-requires c κs = new-inside (c .before .before .before .before .before .before .before .before .pre) _
+    (omega (arith, c .before .before .before .before .before .before .before .before .pre .place))
 
 add-next : tie.Need-add-next
-add-next c = omega (
-  arith,
-  insert-end (c .before .before .before .before .before .before .before .before .pre)
-      (c .before .before .before .count .result) (c .before .before .before .count .ensures .0),
-)
+add-next c = search needs
 
-mul-end : tie.Need-mul-end
-mul-end c = omega (
-  arith,
-  insert-end (c .before .before .before .before .before .before .before .before .pre)
-      (c .before .before .before .count .result) (c .before .before .before .count .ensures .0),
-)
-
-add-end : tie.Need-add-end
-add-end c = omega (
-  arith,
-  insert-end (c .before .before .before .before .before .before .before .before .pre)
-      (c .before .before .before .count .result) (c .before .before .before .count .ensures .0),
-)
+start-of-requires-2 : tie.Need-start-of-requires-2
+start-of-requires-2 c κs = new-inside (c .before .before .before .before .before .before .before .before .before
+    .before .pre) _ (omega (arith, c .before .before .before .before .before .count .ensures .0))
 
 sub-shift-up : tie.Need-sub-shift-up
 sub-shift-up c = omega (
   arith,
-  insert-end (c .before .before .before .before .before .before .before .before .pre)
-      (c .before .before .before .count .result) (c .before .before .before .count .ensures .0),
+  insert-end
+      (c .before .before .before .before .before .before .before .before .before .before .before .pre)
+      (c .before .before .before .before .before .before .count .result) (c .before .before .start-of .result)
+      (c .start-of2 .result) (c .before .before .before .before .before .before .count .ensures .0)
+      (c .before .before .start-of .ensures .0) (c .start-of2 .ensures .0),
 )
 
 part-shift-up-start : tie.Need-part-shift-up-start
 part-shift-up-start c = omega (
   arith,
   insert-end
-      (c .before .before .before .before .before .before .before .before .pre) (c .before .before .before .count .result)
-      (c .before .before .before .count .ensures .0),
+      (c .before .before .before .before .before .before .before .before .before .before .before .pre)
+      (c .before .before .before .before .before .before .count .result) (c .before .before .start-of .result)
+      (c .start-of2 .result) (c .before .before .before .before .before .before .count .ensures .0)
+      (c .before .before .start-of .ensures .0) (c .start-of2 .ensures .0),
 )
 
 part-shift-up-end : tie.Need-part-shift-up-end
-part-shift-up-end c = omega (
-  arith,
-  insert-end
-      (c .before .before .before .before .before .before .before .before .pre) (c .before .before .before .count .result)
-      (c .before .before .before .count .ensures .0),
-)
+part-shift-up-end c = search needs
 
 shift-up-requires : tie.Need-shift-up-requires
 shift-up-requires c κs = simp (length-take, length-drop)
     (omega (
       arith,
-      insert-end (c .before .before .before .before .before .before .before .before .before .pre)
-          (c .before .before .before .before .count .result) (c .before .before .before .before .count .ensures .0),
+      insert-end (c .before .before .before .before .before .before .before .before .before .before .before
+          .before .pre) (c .before .before .before .before .before .before .before .count .result)
+          (c .before .before .before .start-of .result) (c .before .start-of2 .result)
+          (c .before .before .before .before .before .before .before .count .ensures .0)
+          (c .before .before .before .start-of .ensures .0) (c .before .start-of2 .ensures .0),
     ))
 
 sub-write-cell : tie.Need-sub-write-cell
@@ -95,9 +75,13 @@ part-write-cell-end : tie.Need-part-write-cell-end
 part-write-cell-end c = omega (
   arith,
   insert-end
-      (c .before .before .before .before .before .before .before .before .before .before .before .before .pre)
-      (c .before .before .before .before .before .before .before .count .result)
-      (c .before .before .before .before .before .before .before .count .ensures .0),
+      (c .before .before .before .before .before .before .before .before .before .before .before .before .before .before
+      .before .pre) (c .before .before .before .before .before .before .before .before .before .before .count .result)
+      (c .before .before .before .before .before .before .start-of .result)
+      (c .before .before .before .before .start-of2 .result)
+      (c .before .before .before .before .before .before .before .before .before .before .count .ensures .0)
+      (c .before .before .before .before .before .before .start-of .ensures .0)
+      (c .before .before .before .before .start-of2 .ensures .0),
 )
 
 slice-aggregate-write-cell : tie.Need-slice-aggregate-write-cell
@@ -105,9 +89,10 @@ slice-aggregate-write-cell c = simp length-take
     (omega (
       arith,
       insert-fits (c .before .before .before .before .before .before .before .before .before .before
-          .before .before .before .before .pre) (c .before .before .before .before .before .before .before .wide .result)
-          (c .before .before .before .before .before .before .before .wide .ensures .0 ∙
-          c .before .before .before .before .before .before .before .before .data-length .ensures),
+          .before .before .before .before .before .before .before .pre)
+          (c .before .before .before .before .before .before .before .before .before .before .wide .result)
+          (c .before .before .before .before .before .before .before .before .before .before .wide .ensures .0 ∙
+          c .before .before .before .before .before .before .before .before .before .before .before .data-length .ensures),
     ))
 
 write-cell-requires : tie.Need-write-cell-requires
@@ -115,18 +100,39 @@ write-cell-requires c κs = simp (length-take, length-drop)
     (omega (
       arith,
       insert-end (c .before .before .before .before .before .before .before .before .before .before .before
-          .before .before .before .pre) (c .before .before .before .before .before .before .before .before .before .count
-          .result) (c .before .before .before .before .before .before .before .before .before .count .ensures .0),
+          .before .before .before .before .before .before .pre)
+          (c .before .before .before .before .before .before .before .before .before .before .before .before .count .result)
+          (c .before .before .before .before .before .before .before .before .start-of .result)
+          (c .before .before .before .before .before .before .start-of2 .result)
+          (c .before .before .before .before .before .before .before .before .before .before .before .before .count .ensures
+          .0) (c .before .before .before .before .before .before .before .before .start-of .ensures .0)
+          (c .before .before .before .before .before .before .start-of2 .ensures .0),
       insert-fits
           (c .before .before .before .before .before .before .before .before .before .before .before .before .before .before
-          .pre) (c .before .before .before .before .before .before .before .wide .result)
-          (c .before .before .before .before .before .before .before .wide .ensures .0 ∙
-          c .before .before .before .before .before .before .before .before .data-length .ensures),
+          .before .before .before .pre) (c .before .before .before .before .before .before .before .before .before .before
+          .wide .result) (c .before .before .before .before .before .before .before .before .before .before .wide .ensures .0
+          ∙ c .before .before .before .before .before .before .before .before .before .before .before .data-length .ensures),
       c .before .before .before .tab .given,
     ))
 
 set-count-requires : tie.Need-set-count-requires
-set-count-requires c κs = search needs
+set-count-requires c κs = (
+  omega (
+    arith,
+    header-in
+        (new-inside (c .before .before .before .before .before .before .before .before .before .before .before .before
+        .before .before .before .before .before .before .before .before .before .pre) 0 (omega arith)),
+    c .before .before .before .before .before .before .before .tab .given,
+    c .before .before .tab2 .given,
+  ),
+  omega (
+    arith,
+    c .before .before .before .before .before .before .before .before .before .before .before .before .before
+        .before .before .before .before .before .before .before .before .pre .sound .sized .few,
+    c .before .before .before .before .before .before .before .before .before .before .before .before .before .before
+        .before .before .count .ensures .0,
+  ),
+)
 
 same-length : tie.Need-same-length
 same-length c = search needs
@@ -134,20 +140,25 @@ same-length c = search needs
 returns : tie.Need-returns
 returns c =
     let ·pre = c .before .before .before .before .before .before .before .before .before .before .before .before .before
-    .before .before .before .before .before .before .before .before .pre in
-    let ·slice-known = c .before .before .before .before .before .before .before .before .before .before .before .before
-    .before .before .before .before .before .before .before .slice-known in
+    .before .before .before .before .before .before .before .before .before .before .before .pre in
     let ·count = c .before .before .before .before .before .before .before .before .before .before .before .before
-    .before .before .before .before .count in
+    .before .before .before .before .before .before .before .count in
+    let ·start-of = c .before .before .before .before .before .before .before .before .before .before .before .before
+    .before .before .before .start-of in
+    let ·start-of2 = c .before .before .before .before .before .before .before .before .before .before .before .before
+    .before .start-of2 in
+    let ·slice-known = c .before .before .before .before .before .before .before .before .before .before .before .before
+    .before .before .before .before .before .before .before .before .before .before .slice-known in
     let ·wide = c .before .before .before .before .before .before .before .before .before .before .before .before
-    .before .before .wide in
+    .before .before .before .before .before .wide in
     let ·shift-up = c .before .before .before .before .before .before .before .before .before .before .before .shift-up
     in let ·write-cell = c .before .before .before .before .before .before .write-cell in
     let ·set-count = c .before .before .set-count in
     let ·data-length = c .before .before .before .before .before .before .before .before .before .before .before .before
-    .before .before .before .data-length in
-    insert-is (·pre) (λ (i : ℕ). ·slice-known .given i .fits) (·count .result) (·wide .result) (·shift-up .last .0)
-    (·write-cell .last .0) (·set-count .last .0) (·count .ensures .0) (·wide .ensures .0 ∙ ·data-length .ensures)
+    .before .before .before .before .before .before .data-length in
+    insert-is (·pre) (·count .result) (·start-of .result) (·start-of2 .result) (·count .ensures .0)
+    (·start-of .ensures .0) (·start-of2 .ensures .0) (λ (i : ℕ). ·slice-known .given i .fits) (·wide .result)
+    (·shift-up .last .0) (·write-cell .last .0) (·set-count .last .0) (·wide .ensures .0 ∙ ·data-length .ensures)
     (·shift-up .ensures) (·write-cell .ensures) (·set-count .ensures)
 
 pub insert-cell-sound-spec : {M : Type 1} → statement M
@@ -158,11 +169,9 @@ insert-cell-sound-spec =
     add-n
     data-length-requires
     wide-requires
-    mul-start
-    add-start
+    start-of-requires
     add-next
-    mul-end
-    add-end
+    start-of-requires-2
     sub-shift-up
     part-shift-up-start
     part-shift-up-end

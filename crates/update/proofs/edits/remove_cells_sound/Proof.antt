@@ -1,7 +1,9 @@
 use lib.ListN.{length-take, length-drop}
 use native.Mathlib.Omega.{arith}
+use mathlib.Core.Path.{refl}
 use Prim.Native.Nat.{ℕ}
-use Rattle.update.proofs.Tables.{remove-end, remove-is}
+use Rattle.cells.proofs.Start.{header-in}
+use Rattle.update.proofs.Tables.{used-inside, remove-end, remove-is}
 use borrow.Author.Needs.{needs}
 use Rattle.update.proofs.edits.remove_cells_sound.Statement.{statement}
 use Rattle.update.proofs.edits.remove_cells_sound.Tie as tie
@@ -12,75 +14,84 @@ count-requires c κs = search needs
 sub-run : tie.Need-sub-run
 sub-run c = search needs
 
-mul-gap : tie.Need-mul-gap
-mul-gap c = omega (
+start-of-requires : tie.Need-start-of-requires
+start-of-requires c κs = used-inside (c .before .before .before .before .before .before .before .pre .sound) _
+    (omega (
+      arith,
+      c .before .before .before .before .before .before .before .pre .order,
+      c .before .before .before .before .before .before .before .pre .used,
+    ))
+
+start-of-requires-2 : tie.Need-start-of-requires-2
+start-of-requires-2 c κs =
+    let ·pre = c .before .before .before .before .before .before .before .before .before .pre in
+    used-inside (·pre .sound) _ (·pre .used)
+
+sub-gap : tie.Need-sub-gap
+sub-gap c = omega (
   arith,
-  remove-end (c .before .before .before .before .before .before .pre)
-      (c .before .before .count .result) (c .before .before .count .ensures .0),
+  remove-end (c .before .before .before .before .before .before .before .before .before
+      .before .pre) (c .before .before .before .before .before .before .count .result)
+      (c .before .before .start-of .result) (c .start-of2 .result) _
+      (c .before .before .before .before .before .before .count .ensures .0) (c .before .before .start-of .ensures .0)
+      (c .start-of2 .ensures .0) refl,
 )
 
-mul-start : tie.Need-mul-start
-mul-start c = omega (
-  arith,
-  remove-end (c .before .before .before .before .before .before .before .pre)
-      (c .before .before .before .count .result) (c .before .before .before .count .ensures .0),
-)
-
-add-start : tie.Need-add-start
-add-start c = omega (
-  arith,
-  remove-end (c .before .before .before .before .before .before .before .pre)
-      (c .before .before .before .count .result) (c .before .before .before .count .ensures .0),
-)
-
-mul-end : tie.Need-mul-end
-mul-end c = omega (
-  arith,
-  remove-end (c .before .before .before .before .before .before .before .pre)
-      (c .before .before .before .count .result) (c .before .before .before .count .ensures .0),
-)
-
-add-end : tie.Need-add-end
-add-end c = omega (
-  arith,
-  remove-end (c .before .before .before .before .before .before .before .pre)
-      (c .before .before .before .count .result) (c .before .before .before .count .ensures .0),
-)
+start-of-requires-3 : tie.Need-start-of-requires-3
+start-of-requires-3 c κs = used-inside (c .before .before .before .before .before .before .before .before .before
+    .before .before .pre .sound) _ (omega (
+      arith,
+      c .before .before .before .before .before .before .before .count .ensures .0,
+    ))
 
 sub-freed : tie.Need-sub-freed
 sub-freed c = omega (
   arith,
-  remove-end (c .before .before .before .before .before .before .before .pre)
-      (c .before .before .before .count .result) (c .before .before .before .count .ensures .0),
+  remove-end (c .before .before .before .before .before .before .before .before .before
+      .before .before .before .pre) (c .before .before .before .before .before .before .before .before .count .result)
+      (c .before .before .before .before .start-of .result) (c .before .before .start-of2 .result) (c .start-of3 .result)
+      (c .before .before .before .before .before .before .before .before .count .ensures .0)
+      (c .before .before .before .before .start-of .ensures .0) (c .before .before .start-of2 .ensures .0)
+      (c .start-of3 .ensures .0),
 )
 
 sub-shift-down : tie.Need-sub-shift-down
 sub-shift-down c = omega (
   arith,
-  remove-end (c .before .before .before .before .before .before .before .pre)
-      (c .before .before .before .count .result) (c .before .before .before .count .ensures .0),
+  remove-end
+      (c .before .before .before .before .before .before .before .before .before .before .before .before .pre)
+      (c .before .before .before .before .before .before .before .before .count .result)
+      (c .before .before .before .before .start-of .result) (c .before .before .start-of2 .result) (c .start-of3 .result)
+      (c .before .before .before .before .before .before .before .before .count .ensures .0)
+      (c .before .before .before .before .start-of .ensures .0) (c .before .before .start-of2 .ensures .0)
+      (c .start-of3 .ensures .0),
 )
 
 part-shift-down-start : tie.Need-part-shift-down-start
 part-shift-down-start c = omega (
   arith,
-  remove-end (c .before .before .before .before .before .before .before .pre)
-      (c .before .before .before .count .result) (c .before .before .before .count .ensures .0),
+  remove-end
+      (c .before .before .before .before .before .before .before .before .before .before .before .before .pre)
+      (c .before .before .before .before .before .before .before .before .count .result)
+      (c .before .before .before .before .start-of .result) (c .before .before .start-of2 .result) (c .start-of3 .result)
+      (c .before .before .before .before .before .before .before .before .count .ensures .0)
+      (c .before .before .before .before .start-of .ensures .0) (c .before .before .start-of2 .ensures .0)
+      (c .start-of3 .ensures .0),
 )
 
 part-shift-down-end : tie.Need-part-shift-down-end
-part-shift-down-end c = omega (
-  arith,
-  remove-end (c .before .before .before .before .before .before .before .pre)
-      (c .before .before .before .count .result) (c .before .before .before .count .ensures .0),
-)
+part-shift-down-end c = search needs
 
 shift-down-requires : tie.Need-shift-down-requires
 shift-down-requires c κs = simp (length-take, length-drop)
     (omega (
       arith,
-      remove-end (c .before .before .before .before .before .before .before .before .pre)
-          (c .before .before .before .before .count .result) (c .before .before .before .before .count .ensures .0),
+      remove-end (c .before .before .before .before .before .before .before .before .before .before .before
+          .before .before .pre) (c .before .before .before .before .before .before .before .before .before .count .result)
+          (c .before .before .before .before .before .start-of .result) (c .before .before .before .start-of2 .result)
+          (c .before .start-of3 .result) (c .before .before .before .before .before .before .before .before .before .count
+          .ensures .0) (c .before .before .before .before .before .start-of .ensures .0)
+          (c .before .before .before .start-of2 .ensures .0) (c .before .start-of3 .ensures .0),
     ))
 
 sub-clear : tie.Need-sub-clear
@@ -90,13 +101,7 @@ part-clear-start : tie.Need-part-clear-start
 part-clear-start c = search needs
 
 part-clear-end : tie.Need-part-clear-end
-part-clear-end c = omega (
-  arith,
-  remove-end
-      (c .before .before .before .before .before .before .before .before .before .before .before .pre)
-      (c .before .before .before .before .before .before .before .count .result)
-      (c .before .before .before .before .before .before .before .count .ensures .0),
-)
+part-clear-end c = search needs
 
 clear-requires : tie.Need-clear-requires
 clear-requires c κs = search needs
@@ -105,7 +110,21 @@ sub-set-count : tie.Need-sub-set-count
 sub-set-count c = search needs
 
 set-count-requires : tie.Need-set-count-requires
-set-count-requires c κs = search needs
+set-count-requires c κs = (
+  omega (
+    arith,
+    header-in
+        (used-inside (c .before .before .before .before .before .before .before .before .before .before .before .before
+        .before .before .before .before .before .before .before .before .before .pre .sound) 0 (omega arith)),
+    c .before .before .before .before .before .before .tab .given,
+    c .before .before .tab2 .given,
+  ),
+  omega (
+    arith,
+    c .before .before .before .before .before .before .before .before .before .before .before .before .before
+        .before .before .before .before .count .ensures .1,
+  ),
+)
 
 same-length : tie.Need-same-length
 same-length c = search needs
@@ -113,16 +132,24 @@ same-length c = search needs
 returns : tie.Need-returns
 returns c =
     let ·pre = c .before .before .before .before .before .before .before .before .before .before .before .before .before
-    .before .before .before .before .before .before .pre in
-    let ·slice-known = c .before .before .before .before .before .before .before .before .before .before .before .before
-    .before .before .before .before .before .slice-known in
+    .before .before .before .before .before .before .before .before .before .before .before .pre in
     let ·count = c .before .before .before .before .before .before .before .before .before .before .before .before
-    .before .before .before .count in
+    .before .before .before .before .before .before .before .before .count in
+    let ·start-of = c .before .before .before .before .before .before .before .before .before .before .before .before
+    .before .before .before .before .start-of in
+    let ·start-of2 = c .before .before .before .before .before .before .before .before .before .before .before .before
+    .before .before .start-of2 in
+    let ·start-of3 = c .before .before .before .before .before .before .before .before .before .before .before .before
+    .start-of3 in
+    let ·slice-known = c .before .before .before .before .before .before .before .before .before .before .before .before
+    .before .before .before .before .before .before .before .before .before .before .slice-known in
     let ·shift-down = c .before .before .before .before .before .before .before .before .before .before .shift-down in
     let ·clear = c .before .before .before .before .before .before .clear in
     let ·set-count = c .before .before .set-count in
-    remove-is (·pre) (λ (i : ℕ). ·slice-known .given i .fits) (·count .result) (·shift-down .last .0) (·clear .last .0)
-    (·set-count .last .0) (·count .ensures .0) (·shift-down .ensures) (·clear .ensures) (·set-count .ensures)
+    remove-is (·pre) (·count .result) (·start-of .result) (·start-of2 .result) (·start-of3 .result) (·count .ensures .0)
+    (·start-of .ensures .0) (·start-of2 .ensures .0) (·start-of3 .ensures .0) (λ (i : ℕ). ·slice-known .given i .fits)
+    (·shift-down .last .0) (·clear .last .0) (·set-count .last .0) (·shift-down .ensures) (·clear .ensures)
+    (·set-count .ensures)
 
 pub remove-cells-sound-spec : {M : Type 1} → statement M
 remove-cells-sound-spec =
@@ -130,11 +157,10 @@ remove-cells-sound-spec =
     (tie.spec
     count-requires
     sub-run
-    mul-gap
-    mul-start
-    add-start
-    mul-end
-    add-end
+    start-of-requires
+    start-of-requires-2
+    sub-gap
+    start-of-requires-3
     sub-freed
     sub-shift-down
     part-shift-down-start
