@@ -1,5 +1,7 @@
--- `reader::new` meets its contract: a walk of its MIR, by hand, since a local holds references inside a struct. A `Reader` is made of the arguments, in the result's local.
--- Slices and numbers are Copy, and so is the struct of them: what the arguments own together is what the struct owns, that is had twice, and one copy is taken apart again for the exit.
+-- `reader::new` meets its contract: a walk of its MIR, by hand, since a local holds references inside a struct. A `Reader` is made of the
+-- arguments, in the result's local.
+-- Slices and numbers are Copy, and so is the struct of them: what the arguments own together is what the struct owns, that is had twice, and
+-- one copy is taken apart again for the exit.
 -- Assumes nothing.
 use mathlib.Core.Path.{_≡_, refl}
 use Prim.Native.Nat.{ℕ, _<_, _^_}
@@ -56,9 +58,26 @@ abbrev L : (κs : Lfts 3) → LL.Laws (D κs)
 L κs = T′.the-laws (namedLft 3 0 tt κs) (namedLft 3 1 tt κs) (namedLft 3 2 tt κs)
 
 abbrev stayed : Stays (new.ended .signature .params) (new.ended .kept)
-stayed = (stay-none-slice (0 ∷ []) tt (plain (λ _. u8)) yes, (stay-none-slice (1 ∷ []) tt (plain (λ _. u8)) yes, (stay-none-slice (2 ∷ []) tt (plain (λ _. u8)) yes, (stay-none (λ _. usize) yes, (stay-none (λ _. u8) yes, (stay-none (λ _. u8) yes, (stay-none (λ _. usize) yes, (stay-none (λ _. usize) yes, tt))))))))
+stayed = (
+  stay-none-slice (0 ∷ []) tt (plain (λ _. u8)) yes,
+  (
+    stay-none-slice (1 ∷ []) tt (plain (λ _. u8)) yes,
+    (
+      stay-none-slice (2 ∷ []) tt (plain (λ _. u8)) yes,
+      (
+        stay-none (λ _. usize) yes,
+        (
+          stay-none (λ _. u8) yes,
+          (stay-none (λ _. u8) yes, (stay-none (λ _. usize) yes, (stay-none (λ _. usize) yes, tt))),
+        ),
+      ),
+    ),
+  ),
+)
 
-module _ {M : Type 1} (𝓤 : URA M) (H : Heap 𝓤) (A : Atoms 𝓤) (W : Given 𝓤 H A) (mem : Memory → SProp 𝓤) (run : Routine → Fun 𝓤) (κ κ′ κ″ : Lft) (q q′ q″ : Share) (x y z : RefT (List ℕ)) (size type long at to : ℕ) (size-fits : size < 2 ^ 64) (type-fits : type < 2 ^ 8) (long-fits : long < 2 ^ 8) (at-fits : at < 2 ^ 64) (to-fits : to < 2 ^ 64) where
+module _ {M : Type 1} (𝓤 : URA M) (H : Heap 𝓤) (A : Atoms 𝓤) (W : Given 𝓤 H A) (mem : Memory → SProp 𝓤) (run : Routine → Fun 𝓤) (κ κ′ κ″ : Lft)
+    (q q′ q″ : Share) (x y z : RefT (List ℕ)) (size type long at to : ℕ) (size-fits : size < 2 ^ 64) (type-fits : type < 2 ^ 8)
+    (long-fits : long < 2 ^ 8) (at-fits : at < 2 ^ 64) (to-fits : to < 2 ^ 64) where
   abbrev κs : Lfts 3
   κs = (κ, (κ′, (κ″, tt)))
 
@@ -96,29 +115,103 @@ module _ {M : Type 1} (𝓤 : URA M) (H : Heap 𝓤) (A : Atoms 𝓤) (W : Given
 
   exits : ent 𝓤 (onEntry 𝓤 H A new.signature κs qs vd passed) (Post mach)
   exits =
-      qed W ((‵ (flft κ q) ⊛ ‵ (flft κ′ q′) ⊛ ‵ (flft κ″ q″) ⊛ ‵ ftrue) ∷ ‵ (owns (ShrSlice (named 0) κ u8 ∷ ShrSlice (named 1) κ′ u8 ∷ ShrSlice (named 2) κ″ u8 ∷ usize ∷ u8 ∷ u8 ∷ usize ∷ usize ∷ []) vd passed) ∷ []) ∵
-      suffices ! _ (ends-at 𝓤 H A new.ended stayed (new.clauses 𝓤 H A mem run) W ((κs, qs, tt, vd, passed), tt) mach made (tt, (tt, (tt, (tt, (tt, (tt, (tt, (tt, tt)))))))) (tt, (tt, (tt, (tt, (tt, (tt, (tt, (tt, tt))))))))) $ says ! (refl, refl, refl, refl, refl, refl, refl, refl) $
-      frame ! $ use1 W (‵ Own) (own-shut 𝓤 H A W (D κs) (L κs) vd) $ use1 W (‵ Own ⊛ ‵ Own) (LL.copy (D κs) (T′.the-copy (namedLft 3 0 tt κs) (namedLft 3 1 tt κs) (namedLft 3 2 tt κs)) 𝓤 H A W .twice made (mach ∷ [])) $ split ! $
+      qed W ((‵ (flft κ q) ⊛ ‵ (flft κ′ q′) ⊛ ‵ (flft κ″ q″) ⊛ ‵ ftrue) ∷ ‵
+      (owns (ShrSlice (named 0) κ u8 ∷ ShrSlice (named 1) κ′ u8 ∷ ShrSlice (named 2) κ″ u8 ∷ usize ∷ u8 ∷ u8 ∷ usize ∷ usize ∷ []) vd passed) ∷
+      []) ∵
+      suffices ! _ (ends-at 𝓤 H A new.ended stayed (new.clauses 𝓤 H A mem run) W ((κs, qs, tt, vd, passed), tt) mach made
+      (tt, (tt, (tt, (tt, (tt, (tt, (tt, (tt, tt)))))))) (tt, (tt, (tt, (tt, (tt, (tt, (tt, (tt, tt))))))))) $
+      says ! (refl, refl, refl, refl, refl, refl, refl, refl) $
+      frame ! $ use1 W (‵ Own) (own-shut 𝓤 H A W (D κs) (L κs) vd) $
+      use1 W (‵ Own ⊛ ‵ Own) (LL.copy (D κs) (T′.the-copy (namedLft 3 0 tt κs) (namedLft 3 1 tt κs) (namedLft 3 2 tt κs)) 𝓤 H A W .twice made
+      (mach ∷ [])) $ split ! $
       use1 W (given (mach ∷ [] ≡ mach ∷ []) (‵ (all-own (D κs .parts) (L κs) vd))) (own-open 𝓤 H A W (D κs) (L κs) vd mach) $ learn ! (λ _. frame ! $ done !)
 
   module _ (C : Calls 𝓤 H) (Λ : Loops 𝓤 H) where
-    walk : Is (ShrSlice (named 0) κ u8) x (vx ∷ []) → Is (ShrSlice (named 1) κ′ u8) y (vy ∷ []) → Is (ShrSlice (named 2) κ″ u8) z (vz ∷ []) → ent 𝓤 (onEntry 𝓤 H A new.signature κs qs vd passed) (WpFn 𝓤 H C Λ code.function (vx ∷ vy ∷ vz ∷ vint w64 size ∷ vint w8 type ∷ vint w8 long ∷ vint w64 at ∷ vint w64 to ∷ []) Post)
+    walk : Is (ShrSlice (named 0) κ u8) x (vx ∷ []) → Is (ShrSlice (named 1) κ′ u8) y (vy ∷ []) → Is (ShrSlice (named 2) κ″ u8) z (vz ∷ [])
+        → ent 𝓤 (onEntry 𝓤 H A new.signature κs qs vd passed)
+        (WpFn 𝓤 H C Λ code.function (vx ∷ vy ∷ vz ∷ vint w64 size ∷ vint w8 type ∷ vint w8 long ∷ vint w64 at ∷ vint w64 to ∷ []) Post)
     walk px py pz =
-        qed W (raw (onEntry 𝓤 H A new.signature κs qs vd passed) ∷ []) ∵ enter ! C Λ code.function (vx ∷ vy ∷ vz ∷ vint w64 size ∷ vint w8 type ∷ vint w8 long ∷ vint w64 at ∷ vint w64 to ∷ []) _ $
-        alloc1 ! (λ l₀. alloc1 ! (λ l₁. alloc1 ! (λ l₂. alloc1 ! (λ l₃. alloc1 ! (λ l₄. alloc1 ! (λ l₅. alloc1 ! (λ l₆. alloc1 ! (λ l₇. alloc1 ! (λ l₈. alloc0 ! $ params1 ! $
-        pass1 ! (init ! 14 refl (shr-slice-lawful 𝓤 H A W (named 0) κ u8 .typed x (vx ∷ []) px .0)) $ pass1 ! (init ! 12 refl (shr-slice-lawful 𝓤 H A W (named 1) κ′ u8 .typed y (vy ∷ []) py .0)) $ pass1 ! (init ! 10 refl (shr-slice-lawful 𝓤 H A W (named 2) κ″ u8 .typed z (vz ∷ []) pz .0)) $ pass1 ! (init ! 8 refl (tt, record { fits = size-fits })) $ pass1 ! (init ! 6 refl (tt, record { fits = type-fits })) $ pass1 ! (init ! 4 refl (tt, record { fits = long-fits })) $ pass1 ! (init ! 2 refl (tt, record { fits = at-fits })) $ pass1 ! (init ! 0 refl (tt, record { fits = to-fits })) $ pass0 ! $
-        assigns ! (agg ! (and-then ! (load ! (from ! (stop !)) (look ! 14 refl)) (and-then ! (load ! (from ! (stop !)) (look ! 12 refl)) (and-then ! (load ! (from ! (stop !)) (look ! 10 refl)) (and-then ! (load ! (from ! (stop !)) (look ! 8 refl)) (and-then ! (load ! (from ! (stop !)) (look ! 6 refl)) (and-then ! (load ! (from ! (stop !)) (look ! 4 refl)) (and-then ! (load ! (from ! (stop !)) (look ! 2 refl)) (and-then ! (load ! (from ! (stop !)) (look ! 0 refl)) (no-more !)))))))))) (from ! (stop !)) (init ! 16 refl (tt, (shr-slice-lawful 𝓤 H A W (named 0) κ u8 .typed x (vx ∷ []) px .0 .1, (shr-slice-lawful 𝓤 H A W (named 1) κ′ u8 .typed y (vy ∷ []) py .0 .1, (shr-slice-lawful 𝓤 H A W (named 2) κ″ u8 .typed z (vz ∷ []) pz .0 .1, (record { fits = size-fits }, (record { fits = type-fits }, (record { fits = long-fits }, (record { fits = at-fits }, (record { fits = to-fits }, tt)))))))))) $
-        returns ! (look ! 16 refl) $ forget ! 0 refl $ forget ! 2 refl $ forget ! 4 refl $ forget ! 6 refl $ forget ! 8 refl $ forget ! 10 refl $ forget ! 12 refl $ forget ! 14 refl $ forget ! 16 refl $
-        move ! (16 ∷ 17 ∷ []) $ free1 ! $ move ! (14 ∷ 15 ∷ []) $ free1 ! $ move ! (12 ∷ 13 ∷ []) $ free1 ! $ move ! (10 ∷ 11 ∷ []) $ free1 ! $ move ! (8 ∷ 9 ∷ []) $ free1 ! $ move ! (6 ∷ 7 ∷ []) $ free1 ! $ move ! (4 ∷ 5 ∷ []) $ free1 ! $ move ! (2 ∷ 3 ∷ []) $ free1 ! $ free1 ! $ free0 ! $ by ! exits)))))))))
+        qed W (raw (onEntry 𝓤 H A new.signature κs qs vd passed) ∷ []) ∵ enter ! C Λ code.function
+        (vx ∷ vy ∷ vz ∷ vint w64 size ∷ vint w8 type ∷ vint w8 long ∷ vint w64 at ∷ vint w64 to ∷ []) _ $
+        alloc1 ! (λ l₀. alloc1 ! (λ l₁. alloc1 !
+        (λ l₂. alloc1 ! (λ l₃. alloc1 ! (λ l₄. alloc1 ! (λ l₅. alloc1 ! (λ l₆. alloc1 ! (λ l₇. alloc1 ! (λ l₈. alloc0 ! $ params1 ! $
+        pass1 ! (init ! 14 refl (shr-slice-lawful 𝓤 H A W (named 0) κ u8 .typed x (vx ∷ []) px .0)) $
+        pass1 ! (init ! 12 refl (shr-slice-lawful 𝓤 H A W (named 1) κ′ u8 .typed y (vy ∷ []) py .0)) $
+        pass1 ! (init ! 10 refl (shr-slice-lawful 𝓤 H A W (named 2) κ″ u8 .typed z (vz ∷ []) pz .0)) $
+        pass1 ! (init ! 8 refl (tt, record { fits = size-fits })) $ pass1 ! (init ! 6 refl (tt, record { fits = type-fits })) $
+        pass1 ! (init ! 4 refl (tt, record { fits = long-fits })) $ pass1 ! (init ! 2 refl (tt, record { fits = at-fits })) $
+        pass1 ! (init ! 0 refl (tt, record { fits = to-fits })) $ pass0 ! $
+        assigns ! (agg ! (and-then ! (load ! (from ! (stop !)) (look ! 14 refl))
+        (and-then ! (load ! (from ! (stop !)) (look ! 12 refl))
+        (and-then ! (load ! (from ! (stop !)) (look ! 10 refl))
+        (and-then ! (load ! (from ! (stop !)) (look ! 8 refl))
+        (and-then ! (load ! (from ! (stop !)) (look ! 6 refl))
+        (and-then ! (load ! (from ! (stop !)) (look ! 4 refl))
+        (and-then ! (load ! (from ! (stop !)) (look ! 2 refl)) (and-then ! (load ! (from ! (stop !)) (look ! 0 refl)) (no-more !))))))))))
+        (from ! (stop !)) (init ! 16 refl (
+          tt,
+          (
+            shr-slice-lawful 𝓤 H A W (named 0) κ u8 .typed x (vx ∷ []) px .0 .1,
+            (
+              shr-slice-lawful 𝓤 H A W (named 1) κ′ u8 .typed y (vy ∷ []) py .0 .1,
+              (
+                shr-slice-lawful 𝓤 H A W (named 2) κ″ u8 .typed z (vz ∷ []) pz .0 .1,
+                (
+                  record { fits = size-fits },
+                  (
+                    record { fits = type-fits },
+                    (record { fits = long-fits }, (record { fits = at-fits }, (record { fits = to-fits }, tt))),
+                  ),
+                ),
+              ),
+            ),
+          ),
+        )) $
+        returns ! (look ! 16 refl) $ forget ! 0 refl $ forget ! 2 refl $ forget ! 4 refl $ forget ! 6 refl $ forget ! 8 refl $ forget ! 10 refl $
+        forget ! 12 refl $ forget ! 14 refl $ forget ! 16 refl $
+        move ! (16 ∷ 17 ∷ []) $ free1 ! $ move ! (14 ∷ 15 ∷ []) $ free1 ! $ move ! (12 ∷ 13 ∷ []) $ free1 ! $ move ! (10 ∷ 11 ∷ []) $ free1 ! $
+        move ! (8 ∷ 9 ∷ []) $ free1 ! $ move ! (6 ∷ 7 ∷ []) $ free1 ! $ move ! (4 ∷ 5 ∷ []) $ free1 ! $ move ! (2 ∷ 3 ∷ []) $ free1 ! $ free1 ! $
+        free0 ! $ by ! exits)))))))))
 
 module _ {M : Type 1} (𝓤 : URA M) (H : Heap 𝓤) (A : Atoms 𝓤) (W : Given 𝓤 H A) (mem : Memory → SProp 𝓤) (run : Routine → Fun 𝓤) where
   new-walks : (C : Calls 𝓤 H) (Λ : Loops 𝓤 H) → Walks 𝓤 H A new.ended stayed (WpFn 𝓤 H C Λ code.function) (new.clauses 𝓤 H A mem run)
-  new-walks C Λ = walked 𝓤 H A new.ended stayed (new.clauses 𝓤 H A mem run) (WpFn 𝓤 H C Λ code.function) (λ κs. (slice-vals, (slice-vals, (slice-vals, (uint-vals w64, (uint-vals w8, (uint-vals w8, (uint-vals w64, (uint-vals w64, tt))))))))) (λ κs. (shr-slice-tells (named 0) (κs .0) u8, (shr-slice-tells (named 1) (κs .1 .0) u8, (shr-slice-tells (named 2) (κs .1 .1 .0) u8, (uint-tells w64, (uint-tells w8, (uint-tells w8, (uint-tells w64, (uint-tells w64, tt)))))))))
-      (λ κs qs bounds a g are. via 𝓤 _ (fst∗ 𝓤 _ (emp 𝓤)) (walk 𝓤 H A W mem run (κs .0) (κs .1 .0) (κs .1 .1 .0) (qs .0) (qs .1 .0) (qs .1 .1 .0) (a .0) (a .1 .0) (a .1 .1 .0) (a .1 .1 .1 .0) (a .1 .1 .1 .1 .0) (a .1 .1 .1 .1 .1 .0) (a .1 .1 .1 .1 .1 .1 .0) (a .1 .1 .1 .1 .1 .1 .1 .0) (are .1 .1 .1 .0 .1) (are .1 .1 .1 .1 .0 .1) (are .1 .1 .1 .1 .1 .0 .1) (are .1 .1 .1 .1 .1 .1 .0 .1) (are .1 .1 .1 .1 .1 .1 .1 .0 .1) C Λ (are .0) (are .1 .0) (are .1 .1 .0)))
+  new-walks C Λ = walked 𝓤 H A new.ended stayed (new.clauses 𝓤 H A mem run) (WpFn 𝓤 H C Λ code.function)
+      (λ κs. (slice-vals, (slice-vals, (slice-vals, (uint-vals w64, (uint-vals w8, (uint-vals w8, (uint-vals w64, (uint-vals w64, tt)))))))))
+      (λ κs. (
+        shr-slice-tells (named 0) (κs .0) u8,
+        (
+          shr-slice-tells (named 1) (κs .1 .0) u8,
+          (shr-slice-tells (named 2) (κs .1 .1 .0) u8, (uint-tells w64, (uint-tells w8, (uint-tells w8, (uint-tells w64, (uint-tells w64, tt)))))),
+        ),
+      ))
+      (λ κs qs bounds a g are. via 𝓤 _ (fst∗ 𝓤 _ (emp 𝓤))
+      (walk 𝓤 H A W mem run (κs .0) (κs .1 .0) (κs .1 .1 .0) (qs .0) (qs .1 .0) (qs .1 .1 .0) (a .0) (a .1 .0) (a .1 .1 .0) (a .1 .1 .1 .0)
+      (a .1 .1 .1 .1 .0) (a .1 .1 .1 .1 .1 .0) (a .1 .1 .1 .1 .1 .1 .0) (a .1 .1 .1 .1 .1 .1 .1 .0) (are .1 .1 .1 .0 .1) (are .1 .1 .1 .1 .0 .1)
+      (are .1 .1 .1 .1 .1 .0 .1) (are .1 .1 .1 .1 .1 .1 .0 .1) (are .1 .1 .1 .1 .1 .1 .1 .0 .1) C Λ (are .0) (are .1 .0) (are .1 .1 .0)))
 
 new-meets : {M : Type 1} (𝓤 : URA M) (H : Heap 𝓤) (A : Atoms 𝓤) → Given 𝓤 H A → (mem : Memory → SProp 𝓤) (run : Routine → Fun 𝓤) (𝓣 : Tables 𝓤 H)
     → Meets 𝓤 H A new.signature (WpFn 𝓤 H (𝓣 .C) (𝓣 .Λ) code.function) (new.spec 𝓤 H A mem run)
-new-meets 𝓤 H A W mem run 𝓣 = walk-meets 𝓤 H A new.ended stayed W (goes-none-slice 𝓤 H A W 3 (0 ∷ []) tt (plain (λ _. u8)) yes, (goes-none-slice 𝓤 H A W 3 (1 ∷ []) tt (plain (λ _. u8)) yes, (goes-none-slice 𝓤 H A W 3 (2 ∷ []) tt (plain (λ _. u8)) yes, (goes-none 𝓤 H A W 3 (λ _. usize) yes (λ κs x f. refl), (goes-none 𝓤 H A W 3 (λ _. u8) yes (λ κs x f. refl), (goes-none 𝓤 H A W 3 (λ _. u8) yes (λ κs x f. refl), (goes-none 𝓤 H A W 3 (λ _. usize) yes (λ κs x f. refl), (goes-none 𝓤 H A W 3 (λ _. usize) yes (λ κs x f. refl), tt)))))))) (new.clauses 𝓤 H A mem run) (WpFn 𝓤 H (𝓣 .C) (𝓣 .Λ) code.function) (WpFn-mono 𝓤 H (W .laws) 𝓣 code.function) (new-walks 𝓤 H A W mem run (𝓣 .C) (𝓣 .Λ))
+new-meets 𝓤 H A W mem run 𝓣 = walk-meets 𝓤 H A new.ended stayed W (
+  goes-none-slice 𝓤 H A W 3 (0 ∷ []) tt (plain (λ _. u8)) yes,
+  (
+    goes-none-slice 𝓤 H A W 3 (1 ∷ []) tt (plain (λ _. u8)) yes,
+    (
+      goes-none-slice 𝓤 H A W 3 (2 ∷ []) tt (plain (λ _. u8)) yes,
+      (
+        goes-none 𝓤 H A W 3 (λ _. usize) yes (λ κs x f. refl),
+        (
+          goes-none 𝓤 H A W 3 (λ _. u8) yes (λ κs x f. refl),
+          (
+            goes-none 𝓤 H A W 3 (λ _. u8) yes (λ κs x f. refl),
+            (goes-none 𝓤 H A W 3 (λ _. usize) yes (λ κs x f. refl), (goes-none 𝓤 H A W 3 (λ _. usize) yes (λ κs x f. refl), tt)),
+          ),
+        ),
+      ),
+    ),
+  ),
+)
+    (new.clauses 𝓤 H A mem run) (WpFn 𝓤 H (𝓣 .C) (𝓣 .Λ) code.function) (WpFn-mono 𝓤 H (W .laws) 𝓣 code.function)
+    (new-walks 𝓤 H A W mem run (𝓣 .C) (𝓣 .Λ))
 
 pub new-spec : {M : Type 1} → stated.statement M
 unfolding code.routine tablesOf
