@@ -14,7 +14,7 @@ ghost use Rattle.reports.specs.Shown.{shownFrom};
 ghost use Rattle.reports.specs.Given.{GivenBoth};
 
 // GN on the first list from fresh until GE; under each cell found GNP on the second until GE, which shows what it finds. The next GN goes on from there.
-pub fn nested_sound(
+pub(crate) fn nested_sound(
     cat: &[u8],
     tab: &[u8],
     size: usize,

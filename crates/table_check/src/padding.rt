@@ -29,7 +29,7 @@ fn is_padded(cat: &[u8], tab: &[u8], size: usize, i: usize) -> bool
     all_zero(&tab[a..b])
 }
 
-pub fn all_padded(cat: &[u8], tab: &[u8], size: usize) -> bool
+pub(crate) fn all_padded(cat: &[u8], tab: &[u8], size: usize) -> bool
     requires { ⌜ Sized (now cat) (now tab) size ⌝ }
     ensures { λ r. ⌜ r ≡ every (padded (now (cat .entry)) (now (tab .entry))) (range 0 (count (now (tab .entry)))) ⌝ }
 {
@@ -44,7 +44,7 @@ pub fn all_padded(cat: &[u8], tab: &[u8], size: usize) -> bool
     true
 }
 
-pub fn all_free(cat: &[u8], tab: &[u8], size: usize) -> bool
+pub(crate) fn all_free(cat: &[u8], tab: &[u8], size: usize) -> bool
     requires { ⌜ Sized (now cat) (now tab) size ⌝ }
     ensures { λ r. ⌜ r ≡ zeros (drop (cellStart (now (cat .entry)) (count (now (tab .entry)))) (now (tab .entry))) ⌝ }
 {

@@ -95,7 +95,7 @@ fn segment(cat: &[u8], tab: &[u8], size: usize, i: usize, left: usize) -> usize
 }
 
 // "The first n cells are the parent-first listing of a forest": "The top is one group of type 1."
-pub fn is_listing(cat: &[u8], tab: &[u8], size: usize) -> bool
+pub(crate) fn is_listing(cat: &[u8], tab: &[u8], size: usize) -> bool
     requires { ⌜ (goodCatalogue (now cat) ≡ true) × Sized (now cat) (now tab) size ⌝ }
     ensures { λ r. ⌜ r ≡ goodListing (now (cat .entry)) (listing (now (cat .entry)) (now (tab .entry))) ⌝ }
 {

@@ -4,7 +4,7 @@ ghost use mathlib.Core.Path.{_≡_};
 ghost use Rattle.rules.specs.Table.{room, goodRoom};
 
 // M: how many cells the slice has room for.
-pub fn room(cat: &[u8], tab: &[u8]) -> usize
+pub(crate) fn room(cat: &[u8], tab: &[u8]) -> usize
     ensures { λ r. ⌜ r ≡ room (now (cat .entry)) (now (tab .entry)) ⌝ }
 {
     let size = cell_size(cat);

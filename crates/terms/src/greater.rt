@@ -3,7 +3,7 @@ use crate::Order;
 ghost use mathlib.Core.Path.{_≡_};
 ghost use Rattle.terms.specs.Operators.{isGreater};
 
-pub fn is_greater(o: Order) -> bool
+pub(crate) fn is_greater(o: Order) -> bool
     ensures { λ r. ⌜ r ≡ isGreater o ⌝ }
 {
     match o {
