@@ -1,6 +1,8 @@
 pub mod Every
+pub mod Joined
 pub mod Order
 pub mod Catalogue
+pub mod Entries
 pub mod Cells
 pub mod Search
 pub mod Tree

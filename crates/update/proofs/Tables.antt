@@ -16,7 +16,7 @@ use Rattle.rules.specs.Table.{count, cellSize, cellStart, room, typeAt, listing
 use Rattle.cells.specs.Sound.{Sound}
 use Rattle.cells.proofs.Located.{type-of}
 use Rattle.encoding.specs.Determined.{IsBytes}
-use Rattle.encoding.proofs.Entries.{length-cell}
+use Rattle.rules.proofs.Entries.{length-cell}
 use Rattle.encoding.proofs.Bytes.{cells-split, table-room, table-count, table-within, table-known, insert-bytes, delete-bytes, replace-data}
 use Rattle.blocks.specs.Moves.{movedUp, movedDown}
 use Rattle.update.specs.Edits.{withCell, withData, withoutCells, Insertable, Replaceable, Removable}
