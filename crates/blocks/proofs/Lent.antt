@@ -31,7 +31,9 @@ pub cut : (b : Bytes) (a e : ℕ) → a ≤ e → b ≡ take a b ++ (take (e - a
 cut b a e l =
     let z : a + (e - a) ≡ e = omega arith in
     sym (take-append-drop a b)
-    ∙ ap (λ (t : Bytes). take a b ++ t) (sym (take-append-drop (e - a) (drop a b)) ∙ ap (λ (t : Bytes). take (e - a) (drop a b) ++ t) (drop-drop (e - a) a b ∙ ap (λ (k : ℕ). drop k b) z))
+    ∙ ap (λ (t : Bytes). take a b ++ t)
+    (sym (take-append-drop (e - a) (drop a b))
+    ∙ ap (λ (t : Bytes). take (e - a) (drop a b) ++ t) (drop-drop (e - a) a b ∙ ap (λ (k : ℕ). drop k b) z))
 
 -- a part all of whose bytes are written anew
 pub put-part : (tab from y : Bytes) (start end : ℕ) → length from ≡ end - start → start ≤ end → end ≤ length tab
@@ -39,7 +41,8 @@ pub put-part : (tab from y : Bytes) (start end : ℕ) → length from ≡ end - 
 put-part tab from y start end f l in-tab e =
     let n : length (midOf start (end - start) tab) ≡ end - start = mid-len start end tab in-tab in
     let v : drop (length from) (midOf start (end - start) tab) ≡ [] = drop-of-length-le (midOf start (end - start) tab) {i = length from} (omega arith) in
-    back tab (take start tab) (midOf start (end - start) tab) (drop end tab) start end (cut tab start end l) (length-take-le start tab (omega arith)) (omega arith) y
+    back tab (take start tab) (midOf start (end - start) tab) (drop end tab) start end (cut tab start end l)
+    (length-take-le start tab (omega arith)) (omega arith) y
     ∙ ap (λ (t : Bytes). take start tab ++ (t ++ drop end tab)) (e ∙ ap (λ (t : Bytes). from ++ t) v ∙ append-nil from)
 
 -- a tail that was lent, said of the whole: F is what the callee did to it

@@ -1,6 +1,6 @@
 -- Bytes one after the other: what a loop has still to look at. Assumes nothing.
 use mathlib.Core.Path.{_≡_, refl, ap, sym, _∙_}
-use mathlib.Core.Bool.{Bool, true, false, _&&_}
+use mathlib.Core.Bool.{true, false, _&&_, and-true, and-false}
 use mathlib.Core.List.{[], _∷_}
 use Prim.Native.Nat.{ℕ, suc, _+_, _<_, _≤_}
 use native.Mathlib.Numerals.{add-one}
@@ -23,14 +23,6 @@ left-at b i h = rw add-one (drop-cons b i 0 h)
 
 none-left : (b : Bytes) (i : ℕ) → length b ≤ i → drop i b ≡ []
 none-left b i h = drop-of-length-le b {i = i} h
-
-and-false : (a : Bool) → (a && false) ≡ false
-and-false true = refl
-and-false false = refl
-
-and-true : (a : Bool) → (a && true) ≡ a
-and-true true = refl
-and-true false = refl
 
 module _ (b : Bytes) (i : ℕ) where
   pub zeros-next : i < length b → byte b i ≡ 0 → zeros (drop (i + 1) b) ≡ zeros (drop i b)

@@ -1,22 +1,17 @@
 -- Types by number, each with a parent before it: which types stand above a type, one step at a time. Assumes nothing.
 use mathlib.Core.Path.{_≡_, refl, ap, sym, _∙_}
-use mathlib.Core.Bool.{Bool, true, false, _||_}
+use mathlib.Core.Bool.{Bool, true, false, _||_, true≢false, or-true}
 use Prim.Native.Nat.{ℕ, zero, suc, _+_, _-_, _<_, _≤_}
 use native.Mathlib.Omega.{arith}
 use lib.Dec.{eqb}
 use borrow.Author.Tests.{eq-eqb, ne-eqb, eqb-true, eqb-false}
-use Rattle.terms.specs.Choice.{pick}
 use Rattle.forest.specs.Good.{on, off, is}
 use Rattle.forest.specs.Numbers.{isIn}
 use Rattle.forest.specs.Types.{lower, lower-at, lineageFrom, lineage, lineage-step, level, level-suc}
 
 -- no test both passes and fails
 pub clash : {b : Bool} → b ≡ true → b ≡ false → ⊥
-clash e f = let z : _≡_ {A = ℕ} 1 0 = ap (λ (c : Bool). pick c 1 0) (sym e ∙ f) in omega arith
-
-or-true : (b : Bool) → (b || true) ≡ true
-or-true true = refl
-or-true false = refl
+clash e f = true≢false (sym e ∙ f)
 
 -- no type stands above no type
 pub none-in : (par : ℕ → ℕ) (u x : ℕ) → u ≤ 0 → isIn x (lineage par u) ≡ false
@@ -68,20 +63,6 @@ module _ (par : ℕ → ℕ) (top : ℕ) (low : lower par top ≡ true) where
   -- what stands above a type above u stands above u
   pub in-trans : (u x y : ℕ) → u ≤ top → isIn x (lineage par u) ≡ true → isIn y (lineage par x) ≡ true → isIn y (lineage par u) ≡ true
   in-trans u x y t e f = trans u u x y (omega arith) t e f
-
-  module _ (alone : (u : ℕ) → 1 < u → u ≤ top → 0 < par u) where
-    ends : (n u : ℕ) → u ≤ n → 0 < u → u ≤ top → isIn 1 (lineage par u) ≡ true
-    ends zero u l a t = absurd (omega arith)
-    ends (suc n) zero l a t = absurd (omega arith)
-    ends (suc n) (suc zero) l a t = in-self 1 (omega arith) t
-    ends (suc n) (suc (suc u)) l a t =
-        let d : par (suc (suc u)) < suc (suc u) = lower-at par top (suc (suc u)) low (omega arith) t in
-        let b : 0 < par (suc (suc u)) = alone (suc (suc u)) (omega arith) t in
-        in-up (suc (suc u)) 1 (omega arith) t (ends n (par (suc (suc u))) (omega arith) b (omega arith))
-
-    -- every chain ends at type 1
-    pub in-root : (u : ℕ) → 0 < u → u ≤ top → isIn 1 (lineage par u) ≡ true
-    in-root u a t = ends u u (omega arith) a t
 
   -- hierarchic order: the parent of type k > 1 is k - 1 or stands above it
   module _ (next : (k : ℕ) → 0 < k → suc k ≤ top → isIn (par (suc k)) (lineage par k) ≡ true) where

@@ -1,5 +1,5 @@
 -- Climbing from a type to its parent, one step at a time. Assumes nothing.
-use mathlib.Core.Path.{_≡_, refl, ap, sym, _∙_}
+use mathlib.Core.Path.{_≡_, refl, ap}
 use mathlib.Core.Bool.{true}
 use mathlib.Core.List.{List, [], _∷_}
 use Prim.Native.Nat.{ℕ, zero, suc, _+_, _-_, _<_, _≤_}
@@ -35,12 +35,6 @@ module _ (cat : Bytes) where
   climbed-step zero u h k = absurd (omega arith)
   climbed-step (suc n) zero h k = absurd (k refl)
   climbed-step (suc n) (suc u) h k = let z : suc n - 1 ≡ n = omega arith in rw z
-
-  pub climbed-length : (n u : ℕ) → length (climbed cat n u) ≤ n
-  unfolding Types.lineageFrom
-  climbed-length zero u = omega arith
-  climbed-length (suc n) zero = omega arith
-  climbed-length (suc n) (suc u) = omega (arith, climbed-length n (par cat (suc u)))
 
   -- one step of the climb, with n types passed
   pub level-step : (n left u p : ℕ) → 0 < left → (u ≡ 0 → ⊥) → code p ≡ parentOf cat (code u) → n + 1 + length (climbed cat (left - 1) p) ≡ n + length (climbed cat left u)

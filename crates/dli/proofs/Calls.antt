@@ -1,6 +1,6 @@
 -- A call that is stopped, and a call that goes on: what each leaves is the promised outcome. Assumes nothing.
 use mathlib.Core.Path.{_≡_, ap, sym, _∙_}
-use mathlib.Core.Bool.{Bool, true, false}
+use mathlib.Core.Bool.{Bool, true, false, false≢true}
 use mathlib.Core.List.{List}
 use Prim.Native.Nat.{ℕ, suc, _-_, _<_, _≤_}
 use native.Mathlib.Omega.{arith}
@@ -9,7 +9,6 @@ use lib.ListN.{length}
 use borrow.Author.Tests.{eq-eqb, ne-eqb, eqb-true, eqb-false}
 use Rattle.terms.specs.declared.Position.{Position}
 use Rattle.terms.specs.declared.Status.{Status}
-use Rattle.terms.specs.Choice.{pick}
 use Rattle.terms.specs.Statuses.{number}
 use Rattle.forest.specs.Good.{on, off, is, isNil}
 use Rattle.rules.specs.Block.{Bytes, byte}
@@ -17,7 +16,8 @@ use Rattle.rules.specs.Cells.{Segment}
 use Rattle.rules.specs.Table.{cellSize, room, listing}
 use Rattle.rules.specs.Arguments.{Level, ListRead, listRead, lastArgument, getLevels, parentLevels}
 use Rattle.rules.specs.Calls.{After, called, getUnique, getNext, getNextWithin, insert, replace, delete}
-use Rattle.rules.specs.Outcome.{isIsrt, isDlet, isGnp, isHeld, landed, unsound, misused, stopped, unless, afterSound, afterCall, outcomeOf, outcome, soundOutcome}
+use Rattle.rules.specs.Outcome.{isIsrt, isDlet, isGnp, isHeld, landed, unsound, misused, stopped, unless, afterSound}
+use Rattle.rules.specs.Outcome.{afterCall, outcomeOf, outcome, soundOutcome}
 use Rattle.model.proofs.Asked.{Usable, usable-of, sound-of}
 use Rattle.cells.specs.Sound.{Sound}
 use Rattle.cells.proofs.Located.{good-housed, good-sized}
@@ -131,10 +131,9 @@ module _ (cat tab : Bytes) (pos : Position) (c : ℕ) (list area : Bytes) where
     pub has-list : isIsrt c ≡ true → 0 < length list
     has-list d = elim (is (eqb (length list) 0)) [
       | on q ↦ absurd (
-          let y : isNil (listRead cat list .arguments) ≡ true = ap (λ (l : ListRead). isNil (l .arguments)) (list-empty cat list (eqb-true (length list) 0 q)) in
-          let x : false ≡ true = sym (usable .some d) ∙ y in
-          let v : _≡_ {A = ℕ} 0 1 = ap (λ (b : Bool). pick b 1 0) x in
-          omega arith)
+          let e : length list ≡ 0 = eqb-true (length list) 0 q in
+          let y : isNil (listRead cat list .arguments) ≡ true = ap (λ (l : ListRead). isNil (l .arguments)) (list-empty cat list e) in
+          false≢true (sym (usable .some d) ∙ y))
       | off q ↦ (let m : (length list ≡ 0) → ⊥ = eqb-false (length list) 0 q in omega arith)
     ]
 
@@ -175,8 +174,8 @@ module _ (cat tab : Bytes) (pos : Position) (c : ℕ) (list area : Bytes) where
 
     -- the three changes
     pub did-insert : c ≡ 7
-        → landed cat tab (insert cat cs pos area (room cat tab) (lastArgument (listRead cat list .arguments) .code) (parentLevels cat list (listRead cat list .arguments)))
-        ≡ calledOutcome cat tab pos c list area
+        → (let ar = listRead cat list .arguments in
+        landed cat tab (insert cat cs pos area (room cat tab) (lastArgument ar .code) (parentLevels cat list ar)) ≡ calledOutcome cat tab pos c list area)
     unfolding calledOutcome calledAfter called
     did-insert e = rw e
 

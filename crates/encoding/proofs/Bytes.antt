@@ -20,8 +20,9 @@ use Rattle.rules.specs.Table.{count, cellSize, cellStart, room, typeAt, segment
 use Rattle.rules.proofs.Every.{every-at}
 use Rattle.rules.proofs.Cells.{listing-at, listing-length}
 use Rattle.encoding.specs.Determined.{IsBytes, All, Fits}
-use Rattle.encoding.proofs.Entries.{all3, all4, all7, length-cell, cell-some}
-use Rattle.encoding.proofs.Lists.{zeros-all, front, bytes-take, bytes-drop, drop-take, take-row, drop-row, all-append, all-at, all-of}
+use Rattle.rules.proofs.Joined.{three, four, seven}
+use Rattle.rules.proofs.Entries.{length-cell, cell-some}
+use Rattle.encoding.proofs.Lists.{zeros-all, front, bytes-take, bytes-drop, drop-take, drop-row, all-append, all-at, all-of}
 
 module _ (cat : Bytes) where
   -- the bytes of a row of cells
@@ -112,16 +113,19 @@ module _ (cat : Bytes) where
         × (every (padded cat tab) (range 0 (count tab)) ≡ true) × (zeros (drop (cellStart cat (count tab)) tab) ≡ true) × (goodListing cat (listing cat tab) ≡ true)
     unfolding goodTable
     tests =
-        all7 (goodRoom cat tab) (marked 0x54 tab) (eqb (byte tab 5) (cellSize cat)) (leb (count tab) (room cat tab))
+        seven (goodRoom cat tab) (marked 0x54 tab) (eqb (byte tab 5) (cellSize cat)) (leb (count tab) (room cat tab))
         (every (padded cat tab) (range 0 (count tab))) (zeros (drop (cellStart cat (count tab)) tab)) (goodListing cat (listing cat tab)) good
 
+    room-parts : (leb 8 (length tab) ≡ true) × (eqb (length tab) (cellStart cat (room cat tab)) ≡ true) × (leb (room cat tab) 4096 ≡ true)
+    unfolding goodRoom
+    room-parts = three (leb 8 (length tab)) (eqb (length tab) (cellStart cat (room cat tab))) (leb (room cat tab) 4096) (tests .0)
+
     pub table-length : length tab ≡ 8 + room cat tab * cellSize cat
-    unfolding goodRoom cellStart
-    table-length = eqb-true (length tab) (cellStart cat (room cat tab)) (all3 (leb 8 (length tab)) (eqb (length tab) (cellStart cat (room cat tab))) (leb (room cat tab) 4096) (tests .0) .1)
+    unfolding cellStart
+    table-length = eqb-true (length tab) (cellStart cat (room cat tab)) (room-parts .1)
 
     pub table-room : room cat tab ≤ 4096
-    unfolding goodRoom
-    table-room = leb-true (room cat tab) 4096 (all3 (leb 8 (length tab)) (eqb (length tab) (cellStart cat (room cat tab))) (leb (room cat tab) 4096) (tests .0) .2)
+    table-room = leb-true (room cat tab) 4096 (room-parts .2)
 
     pub table-count : count tab ≤ room cat tab
     table-count = leb-true (count tab) (room cat tab) (tests .3)
@@ -216,7 +220,7 @@ module _ (cat : Bytes) where
     pub table-head : 0x48 ∷ 0x44 ∷ 0x54 ∷ 0 ∷ 1 ∷ cellSize cat ∷ [] ≡ take 6 tab
     unfolding marked
     table-head =
-        let h = all4 (eqb (byte tab 0) 0x48) (eqb (byte tab 1) 0x44) (eqb (byte tab 2) 0x54) (eqb (word tab 3) 1) (tests .1) in
+        let h = four (eqb (byte tab 0) 0x48) (eqb (byte tab 1) 0x44) (eqb (byte tab 2) 0x54) (eqb (word tab 3) 1) (tests .1) in
         let e0 : byte tab 0 ≡ 0x48 = eqb-true (byte tab 0) 0x48 (h .0) in
         let e1 : byte tab 1 ≡ 0x44 = eqb-true (byte tab 1) 0x44 (h .1) in
         let e2 : byte tab 2 ≡ 0x54 = eqb-true (byte tab 2) 0x54 (h .2) in
@@ -303,46 +307,6 @@ module _ (cat : Bytes) where
         ap (λ (j : ℕ). replicate j 0) (more-free k l) ∙ sym (replicate-append-replicate (k * cellSize cat) ((room cat tab - count tab) * cellSize cat) 0)
         ∙ ap (λ (b : Bytes). replicate (k * cellSize cat) 0 ++ b) (free-from (count tab) (omega arith) table-count)
 
-    -- zeros before the free cells are zeros behind them
-    down : (e k : ℕ) → e ≤ count tab
-        → part tab (8 + e * cellSize cat) ((count tab - e) * cellSize cat) ++ (replicate (k * cellSize cat) 0 ++ drop (8 + count tab * cellSize cat) tab)
-        ≡ drop (8 + e * cellSize cat) tab ++ replicate (k * cellSize cat) 0
-    down e k l =
-        let Z : Bytes = replicate (k * cellSize cat) 0 in
-        let F : Bytes = replicate ((room cat tab - count tab) * cellSize cat) 0 in
-        let P : Bytes = part tab (8 + e * cellSize cat) ((count tab - e) * cellSize cat) in
-        let z : k * cellSize cat + (room cat tab - count tab) * cellSize cat ≡ (room cat tab - count tab) * cellSize cat + k * cellSize cat = omega arith in
-        let swap : Z ++ F ≡ F ++ Z =
-        replicate-append-replicate (k * cellSize cat) ((room cat tab - count tab) * cellSize cat) 0 ∙ ap (λ (j : ℕ). replicate j 0) z
-        ∙ sym (replicate-append-replicate ((room cat tab - count tab) * cellSize cat) (k * cellSize cat) 0) in
-        rw (← free-from (count tab) (omega arith) table-count)
-        (ap (λ (b : Bytes). P ++ b) swap ∙ sym (append-assoc P F Z) ∙ ap (λ (b : Bytes). b ++ Z) (part-tail e l))
-
-    -- the last of the free cells gives way
-    free-less : count tab < room cat tab
-        → take ((room cat tab - suc (count tab)) * cellSize cat) (drop (8 + count tab * cellSize cat) tab) ≡ drop (8 + suc (count tab) * cellSize cat) tab
-    free-less l =
-        let z : (room cat tab - count tab) * cellSize cat ≡ (room cat tab - suc (count tab)) * cellSize cat + cellSize cat =
-        omega (arith, cells-split (count tab) (room cat tab) table-count, cells-split (suc (count tab)) (room cat tab) l) in
-        rw (← free-from (count tab) (omega arith) table-count, z, take-row {A = ℕ} ((room cat tab - suc (count tab)) * cellSize cat) (cellSize cat) 0)
-        (free-from (suc (count tab)) (omega arith) l)
-
-    up : (r : ℕ) → r ≤ count tab → count tab < room cat tab
-        → part tab (8 + r * cellSize cat) ((count tab - r) * cellSize cat) ++ drop (8 + suc (count tab) * cellSize cat) tab
-        ≡ part tab (8 + r * cellSize cat) ((room cat tab - suc r) * cellSize cat)
-    up r l m =
-        let w : room cat tab - suc r - (count tab - r) ≡ room cat tab - suc (count tab) = omega arith in
-        let z : (room cat tab - suc r) * cellSize cat ≡ (count tab - r) * cellSize cat + (room cat tab - suc (count tab)) * cellSize cat =
-        cells-split (count tab - r) (room cat tab - suc r) (omega arith) ∙ ap (λ (k : ℕ). (count tab - r) * cellSize cat + k * cellSize cat) w in
-        let x : 8 + r * cellSize cat + (count tab - r) * cellSize cat ≡ 8 + count tab * cellSize cat = omega (arith, cells-split r (count tab) l) in
-        sym (rw (
-          z,
-          take-add ((count tab - r) * cellSize cat) ((room cat tab - suc (count tab)) * cellSize cat) (drop (8 + r * cellSize cat) tab),
-          drop-drop ((count tab - r) * cellSize cat) (8 + r * cellSize cat) tab,
-          x,
-          free-less m,
-        ))
-
     module _ (bytes : IsBytes tab) where
       -- the first i cells; the cells from i on
       pub row-first : (i : ℕ) → i ≤ count tab → rowBytes (take i (listing cat tab)) ≡ part tab 8 (i * cellSize cat)
@@ -375,15 +339,6 @@ module _ (cat : Bytes) where
           (rw (row-append (take r cs) (x ∷ drop r cs), row-first r l, row-last r l, free-from (suc (count tab)) (omega arith) m)
           (simp append-assoc))
 
-      -- the same where the whole tail moves up
-      pub insert-tail : (r : ℕ) (x : Segment) → r ≤ count tab → count tab < room cat tab
-          → tableBytes cat (room cat tab) (take r (listing cat tab) ++ x ∷ drop r (listing cat tab))
-          ≡ take 6 tab ++ (wordBytes (suc (count tab)) ++ (part tab 8 (r * cellSize cat) ++ (cellBytes cat x
-          ++ part tab (8 + r * cellSize cat) ((room cat tab - suc r) * cellSize cat))))
-      insert-tail r x l m =
-          insert-bytes r x l m
-          ∙ ap (λ (b : Bytes). take 6 tab ++ (wordBytes (suc (count tab)) ++ (part tab 8 (r * cellSize cat) ++ (cellBytes cat x ++ b)))) (up r l m)
-
       -- the cells from i to e taken out; those behind move down, and as many become zero
       pub delete-bytes : (i e : ℕ) → i ≤ e → e ≤ count tab
           → tableBytes cat (room cat tab) (take i (listing cat tab) ++ drop e (listing cat tab))
@@ -394,14 +349,6 @@ module _ (cat : Bytes) where
           table-changed (take i cs ++ drop e cs) (count tab - (e - i)) _
           (omega (arith, length-append (take i cs) (drop e cs), length-take-le i cs (omega (arith, listing-length cat tab)), length-drop e cs, listing-length cat tab))
           (rw (row-append (take i cs) (drop e cs), row-first i (omega arith), row-last e m, free-more (e - i) (omega arith)) (simp append-assoc))
-
-      -- the same where the whole tail moves down
-      pub delete-tail : (i e : ℕ) → i ≤ e → e ≤ count tab
-          → tableBytes cat (room cat tab) (take i (listing cat tab) ++ drop e (listing cat tab))
-          ≡ take 6 tab ++ (wordBytes (count tab - (e - i)) ++ (part tab 8 (i * cellSize cat) ++ (drop (8 + e * cellSize cat) tab ++ replicate ((e - i) * cellSize cat) 0)))
-      delete-tail i e l m =
-          delete-bytes i e l m
-          ∙ ap (λ (b : Bytes). take 6 tab ++ (wordBytes (count tab - (e - i)) ++ (part tab 8 (i * cellSize cat) ++ b))) (down e (e - i) m)
 
       -- cell i replaced
       pub replace-bytes : (i : ℕ) (x : Segment) → i < count tab

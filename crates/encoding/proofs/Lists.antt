@@ -5,13 +5,13 @@ use mathlib.Core.List.{List, [], _∷_, _++_, map}
 use Prim.Native.Nat.{ℕ, zero, suc, _+_, _-_, _<_, _≤_}
 use native.Mathlib.Omega.{arith}
 use lib.Dec.{eqb}
-use lib.ListN.{length, getD, take, drop, set, replicate}
+use lib.ListN.{length, getD, take, drop, replicate}
 use lib.Seq.{drop-cons, take-nil, getD-drop}
 use borrow.Author.Tests.{eqb-true}
 use Rattle.terms.specs.Choice.{pick}
 use Rattle.forest.specs.Good.{on, off, is}
 use Rattle.forest.specs.Numbers.{range}
-use Rattle.rules.specs.Block.{Bytes, byte, part, every, zeros}
+use Rattle.rules.specs.Block.{Bytes, byte, every, zeros}
 use Rattle.rules.proofs.Every.{every-in, every-out}
 use Rattle.encoding.specs.Determined.{IsBytes, All}
 
@@ -27,11 +27,6 @@ zeros-all (x ∷ b) e = elim (is (eqb x 0)) [
   | off h ↦ absurd (let z : false ≡ true = sym (every-out (λ y. eqb y 0) x b h) ∙ e in let y : _≡_ {A = ℕ} 0 1 = ap (λ (c : Bool). pick c 1 0) z in omega arith)
 ]
 
-pub zeros-row : (n : ℕ) → zeros (replicate n 0) ≡ true
-unfolding zeros every
-zeros-row zero = refl
-zeros-row (suc n) = every-in (λ y. eqb y 0) 0 (replicate n 0) refl ∙ zeros-row n
-
 -- a test that each number of a range passes
 pub every-of : (p : ℕ → Bool) (k n : ℕ) → ((i : ℕ) → k ≤ i → i < k + n → p i ≡ true) → every p (range k n) ≡ true
 unfolding every
@@ -44,21 +39,6 @@ front b k zero l = let z : k ≡ k + 0 = omega arith in ap (λ (i : ℕ). drop i
 front b k (suc n) l =
     let z : suc k + n ≡ k + suc n = omega arith in
     drop-cons b k 0 (omega arith) ∙ ap (_∷_ (byte b k)) (front b (suc k) n (omega arith) ∙ ap (λ (i : ℕ). map (byte b) (range (suc k) n) ++ drop i b) z)
-
--- a block with two bytes set at 6, as the count of a table, and another tail behind its first 8 + k bytes; the same where code sets the bytes
--- first and lends the tail then, and where it does so last. The laws of Bytes on insert, delete and replace have this form.
-abbrev pub recounted : Bytes → ℕ → ℕ → ℕ → Bytes → Bytes
-recounted b hi lo k t = take 6 b ++ (hi ∷ lo ∷ (part b 8 k ++ t))
-
-eight : (k : ℕ) → 8 + k ≡ suc (suc (suc (suc (suc (suc (suc (suc k)))))))
-eight k = omega arith
-
-module _ (b : Bytes) (hi lo k : ℕ) (t : Bytes) (l : 8 ≤ length b) where
-  pub recounted-first : recounted b hi lo k t ≡ take (8 + k) (set (set b 6 hi) 7 lo) ++ t
-  recounted-first = rw (eight k, front b 0 8 l)
-
-  pub recounted-last : recounted b hi lo k t ≡ set (set (take (8 + k) b ++ t) 6 hi) 7 lo
-  recounted-last = rw (eight k, front b 0 8 l)
 
 -- parts of a slice, and slices put together, are slices
 pub bytes-none : IsBytes []
@@ -94,10 +74,6 @@ module _ {A : Type 0} where
   drop-take zero k xs = let z : 0 + k ≡ k = omega arith in rw z
   drop-take (suc i) k [] = let z : suc i + k ≡ suc (i + k) = omega arith in rw z (sym (take-nil k))
   drop-take (suc i) k (x ∷ xs) = let z : suc i + k ≡ suc (i + k) = omega arith in rw z (drop-take i k xs)
-
-  pub take-row : (i k : ℕ) (x : A) → take i (replicate (i + k) x) ≡ replicate i x
-  take-row zero k x = refl
-  take-row (suc i) k x = let z : suc i + k ≡ suc (i + k) = omega arith in rw z (ap (_∷_ x) (take-row i k x))
 
   pub drop-row : (i k : ℕ) (x : A) → drop i (replicate (i + k) x) ≡ replicate k x
   drop-row zero k x = let z : 0 + k ≡ k = omega arith in rw z

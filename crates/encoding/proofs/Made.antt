@@ -18,8 +18,9 @@ use Rattle.rules.specs.Cells.{Segment, segment, blank, segmentOf, goodListing}
 use Rattle.rules.specs.Table.{count, cellSize, cellStart, room, typeAt, segmentAt, listing, goodRoom, padded, goodTable, cellBytes, tableBytes}
 use Rattle.rules.proofs.Cells.{listing-at, listing-length}
 use Rattle.encoding.specs.Determined.{IsBytes, All, Fits}
-use Rattle.encoding.proofs.Entries.{cell-some, cell-low, type-low}
-use Rattle.encoding.proofs.Lists.{zeros-row, every-of, bytes-none, bytes-all, bytes-cons, bytes-append, bytes-zeros, all-at}
+use Rattle.rules.proofs.Every.{zeros-row}
+use Rattle.rules.proofs.Entries.{cell-some, cell-most, type-low}
+use Rattle.encoding.proofs.Lists.{every-of, bytes-none, bytes-all, bytes-cons, bytes-append, bytes-zeros, all-at}
 use Rattle.encoding.proofs.Bytes.{rowBytes, cells-split, row-length, row-drop}
 
 all-true : (a b c d e f g : Bool) → a ≡ true → b ≡ true → c ≡ true → d ≡ true → e ≡ true → f ≡ true → g ≡ true → (a && b && c && d && e && f && g) ≡ true
@@ -159,7 +160,7 @@ module _ (cat : Bytes) (m : ℕ) (cs : List Segment) where
     head-bytes l =
         let hi : length cs / 256 < 256 = div-lt-iff-lt-mul {k = 256} {x = length cs} {y = 256} (omega arith) .1 l in
         let lo : length cs % 256 < 256 = mod-lt (length cs) (omega arith) in
-        bytes-all (0x48 ∷ 0x44 ∷ 0x54 ∷ 0 ∷ 1 ∷ cellSize cat ∷ wordBytes (length cs)) (omega (arith, cell-low cat g))
+        bytes-all (0x48 ∷ 0x44 ∷ 0x54 ∷ 0 ∷ 1 ∷ cellSize cat ∷ wordBytes (length cs)) (omega (arith, cell-most cat g))
 
     pub made-bytes : All (Fits cat) cs → length cs < 65536 → IsBytes made
     unfolding tableBytes

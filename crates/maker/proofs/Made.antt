@@ -2,7 +2,7 @@
 use mathlib.Core.Path.{_≡_, refl, ap, sym, _∙_}
 use mathlib.Core.Bool.{true, false}
 use mathlib.Core.List.{[], _∷_, _++_, flatMap}
-use Prim.Native.Nat.{ℕ, zero, suc, _+_, _-_, _*_, _/_, _≤_}
+use Prim.Native.Nat.{ℕ, _+_, _-_, _*_, _/_, _≤_}
 use native.Mathlib.Omega.{arith}
 use lib.ListN.{length, take, drop, set, replicate, length-replicate}
 use borrow.Author.Tests.{le-leb, eq-eqb}
@@ -16,6 +16,7 @@ use Rattle.rules.specs.Catalogue.{goodCatalogue}
 use Rattle.rules.specs.Cells.{goodListing}
 use Rattle.rules.specs.Table.{count, cellSize, cellStart, room, listing, goodRoom, goodTable, tableBytes}
 use Rattle.rules.specs.Outcome.{makeStatus, madeTable}
+use Rattle.rules.proofs.Every.{zeros-row}
 use Rattle.table_check.specs.Frame.{goodFrame, emptied}
 use Rattle.table_check.proofs.Space.{room-is}
 use Rattle.table_check.proofs.Frame.{table-frame}
@@ -43,11 +44,6 @@ emptied-length size tab h = omega (arith, length-replicate {A = ℕ} (length tab
 
 unlike : {s : Status} → s ≡ Blank → (number s ≡ 0 → ⊥) → ⊥
 unlike e n = n (ap number e)
-
-zeros-all : (n : ℕ) → zeros (replicate n 0) ≡ true
-unfolding zeros every
-zeros-all zero = refl
-zeros-all (suc n) = zeros-all n
 
 module _ (cat tab : Bytes) where
   -- header and zeros are the block of no cells
@@ -111,7 +107,7 @@ module _ (cat tab : Bytes) (e : makeStatus cat tab ≡ Blank) where
 
   free : zeros (drop (cellStart cat 0) (madeTable cat tab)) ≡ true
   unfolding cellStart emptied
-  free = let z : 8 + 0 * cellSize cat ≡ 8 = omega arith in rw (made-is cat tab e, z) (zeros-all (length tab - 8))
+  free = let z : 8 + 0 * cellSize cat ≡ 8 = omega arith in rw (made-is cat tab e, z) (zeros-row (length tab - 8))
 
   none : goodListing cat (listing cat (madeTable cat tab)) ≡ true
   unfolding goodListing listing forestOf formed

@@ -47,7 +47,7 @@ module _ (cat : Bytes) where
       omega (arith, lineage-le par (suc k) low (suc k) (suc k) (par (suc (suc k))) (omega arith) f)
 
   module _ (g : goodCatalogue cat ≡ true) where
-    good-type : (u : ℕ) → 1 ≤ u → u ≤ types cat → goodType cat u ≡ true
+    pub good-type : (u : ℕ) → 1 ≤ u → u ≤ types cat → goodType cat u ≡ true
     unfolding goodCatalogue
     good-type u a b =
         every-at (goodType cat) 1 (types cat) u
@@ -57,7 +57,7 @@ module _ (cat : Bytes) where
     first-of true b c d e f h = refl
     first-of false b c d e f h = h
 
-    good-parent : (u : ℕ) → 1 ≤ u → u ≤ types cat → goodParent cat u ≡ true
+    pub good-parent : (u : ℕ) → 1 ≤ u → u ≤ types cat → goodParent cat u ≡ true
     unfolding goodType
     good-parent u a b = first-of (goodParent cat u) (leb 1 (lengthOf cat (code u))) (leb (lengthOf cat (code u)) 120) (goodKey cat (code u)) (zeros (part cat (8 * u + 5) 3)) (leb (level cat (code u)) 15) (good-type u a b)
 

@@ -1,7 +1,9 @@
 pub mod Every
+pub mod Joined
 pub mod Order
 pub mod Values
 pub mod Catalogue
+pub mod Entries
 pub mod Cells
 pub mod Search
 pub mod Tree

@@ -1,6 +1,6 @@
 -- What a call leaves fits the block and the number that it comes back in. Assumes nothing.
 use mathlib.Core.Path.{_≡_, refl, ap, sym, _∙_, subst}
-use mathlib.Core.Bool.{Bool, true, false, _&&_, not}
+use mathlib.Core.Bool.{Bool, true, false, true≢false, _&&_, not}
 use mathlib.Core.List.{List}
 use Prim.Native.Nat.{ℕ, _≤_}
 use native.Mathlib.Omega.{arith}
@@ -38,9 +38,6 @@ use Rattle.answers.specs.Ready.{SoundFor, made}
 use Rattle.dli.proofs.Calls.{call-stopped, call-on}
 use Rattle.umbristal.specs.Face.{left, leftOf, face, soundFace, packed, Fitting}
 
-never : true ≡ false → ⊥
-never e = let z : _≡_ {A = ℕ} 1 0 = ap (λ (b : Bool). pick b 1 0) e in omega arith
-
 -- the cell numbers of a good position are no greater than the count
 module _ (cat : Bytes) (cs : List Segment) where
   place-near : (q : Place) → goodPlace cat cs q ≡ true → placeNumber q ≤ length cs
@@ -53,7 +50,7 @@ module _ (cat : Bytes) (cs : List Segment) where
 
   -- a block that is none is good in no table
   nowhere-bad : goodPosition cat cs nowhere ≡ true → ⊥
-  nowhere-bad e = never (sym (good-hold cat cs nowhere e))
+  nowhere-bad e = true≢false (sym (good-hold cat cs nowhere e))
 
   block-good : (b : Bytes) → goodPosition cat cs (positionOf b) ≡ true → goodBlock b ≡ true
   block-good b e = elim (is (goodBlock b)) [
@@ -65,7 +62,7 @@ block-long : (b : Bytes) → goodBlock b ≡ true → length b ≡ 8
 unfolding goodBlock
 block-long b e = elim (is (eqb (length b) 8)) [
   | on h ↦ eqb-true (length b) 8 h
-  | off h ↦ absurd (never (sym e ∙ rw h))
+  | off h ↦ absurd (true≢false (sym e ∙ rw h))
 ]
 
 one-at-most : (b : Bool) → pick b 1 0 ≤ 1

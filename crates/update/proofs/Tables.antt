@@ -19,7 +19,7 @@ use Rattle.cells.proofs.Start.{start-is, inside-sized, inside-less}
 use Rattle.cells.proofs.Located.{type-of, sound-inside}
 use Rattle.cells.proofs.Data.{data-in, whole-data}
 use Rattle.encoding.specs.Determined.{IsBytes}
-use Rattle.encoding.proofs.Entries.{length-cell}
+use Rattle.rules.proofs.Entries.{length-cell}
 use Rattle.encoding.proofs.Bytes.{cells-split, table-known, insert-bytes, delete-bytes, replace-data}
 use Rattle.blocks.specs.Moves.{movedUp, movedDown}
 use Rattle.update.specs.Edits.{withCell, withData, withoutCells, Insertable, Replaceable, Removable}
