@@ -39,11 +39,6 @@ module _ {tab : Bytes} {size n : ℕ} (s : Inside tab size n) (i : ℕ) where
       let m : i * size ≤ n * size = mul-le-mul-right size l in
       record { few = omega (arith, s .few); some = s .some; narrow = s .narrow; within = omega (arith, s .within) }
 
--- the header stands before the cells
-pub header-in : {tab : Bytes} {size n : ℕ} → Inside tab size n → 8 ≤ length tab
-unfolding startOf
-header-in s = omega (arith, s .within)
-
 -- a cell lies whole within the slice
 pub start-in : {tab : Bytes} {size n : ℕ} → Inside tab size n → (i : ℕ) → i < n → startOf tab size i + size ≤ length tab
 start-in {tab} {size} s i l = omega (arith, start-next tab size i, inside-less s (suc i) (omega arith) .within)
@@ -66,7 +61,7 @@ module _ (cat tab : Bytes) {size : ℕ} (e : size ≡ cellSize cat) (g : goodCat
 
   -- the cells in use are among them
   pub room-sized : count tab ≤ room cat tab → Sized cat tab size
-  unfolding cellSize
+  unfolding startOf cellSize
   room-sized l =
       let s = inside-less inside-room (count tab) l in
-      record { is = e; some = omega (arith, largest-some cat g); narrow = s .narrow; few = s .few; within = s .within }
+      record { header = omega (arith, s .within); is = e; some = omega (arith, largest-some cat g); narrow = s .narrow; few = s .few; within = s .within }

@@ -21,8 +21,9 @@ use Rattle.rules.specs.Cells.{Segment, segment, levelAt}
 unfoldable pub startOf : Bytes → ℕ → ℕ → ℕ
 startOf tab size i = 8 + i * size
 
--- the first n cells of the table, each of this size, lie within the slice
+-- the header and the first n cells of the table, each of this size, lie within the slice
 pub record Sized (cat tab : Bytes) (size : ℕ) : Type 0 where
+  pub header : 8 ≤ length tab
   pub is : size ≡ cellSize cat
   pub some : 2 ≤ size
   pub narrow : size ≤ 121

@@ -24,10 +24,11 @@ use Rattle.rules.specs.Outcome.{landed}
 use Rattle.rules.proofs.Cells.{listing-length}
 use Rattle.catalogue.proofs.Chains.{clash}
 use Rattle.cells.proofs.Located.{end-after, end-within}
+use Rattle.cells.proofs.Ancestry.{sound-known}
 use Rattle.update.specs.Edits.{withData, withoutCells, Replaceable, Removable}
 use Rattle.answers.specs.Ready.{Held, made}
 use Rattle.answers.specs.Told.{told}
-use Rattle.changes.proofs.Keys.{cell-known, area-long}
+use Rattle.changes.proofs.Keys.{area-long}
 
 pub place-good : (cat : Bytes) (cs : List Segment) (pos : Position) → goodPosition cat cs pos ≡ true → goodPlace cat cs (pos .place) ≡ true
 unfolding goodPosition
@@ -70,7 +71,7 @@ module _ {cat tab : Bytes} {size : ℕ} {pos : Position} (s : Held cat tab size 
       replace-differs h = ap (landed cat tab) (sym (let w : place-now ≡ refused DA pos area = rw h in w) ∙ replace-is)
 
       pub replace-ready : Replaceable cat tab size (c .0) area
-      replace-ready = record { sound = s .sound; used = held-cell; long = area-long (s .sound) (segment cs (c .0) .code) area (cell-known (s .sound) (c .0) held-cell) a }
+      replace-ready = record { sound = s .sound; used = held-cell; long = area-long (s .sound) (segment cs (c .0) .code) area (sound-known (s .sound) (c .0) held-cell) a }
 
       pub replace-done : same ≡ true → made (told cat Blank (holdDropped pos) t 0) (withData cat tab (c .0) area) area ≡ landed cat tab (replace cat cs pos area)
       unfolding replaced changed answerOf long told withData arriving segmentOf

@@ -6,6 +6,7 @@ use blocks::wide;
 use catalogue::entries::key_length;
 use catalogue::entries::key_start;
 use cells::lookup::code_at;
+use cells::lookup::data_part;
 use cells::runs::run_end;
 use terms::Answer;
 use terms::CellNumber;
@@ -28,20 +29,20 @@ ghost use Rattle.answers.specs.Ready.{Held, made};
 
 // Whether the area has the key of cell c, a segment of type t, byte for byte.
 fn has_key(cat: &[u8], tab: &[u8], size: usize, c: CellNumber, t: TypeCode, area: &[u8]) -> bool
-    requires { ⌜ Sound (now cat) (now tab) size × (c .0 < count (now tab)) × (t ≡ segment (listing (now cat) (now tab)) (c .0) .code) × (size ≤ suc (length (now area))) ⌝ }
-    ensures { λ r. ⌜ r ≡ sameBytes (key (now (cat .entry)) (segment (listing (now (cat .entry)) (now (tab .entry))) (c .0))) (key (now (cat .entry)) (arriving (now (cat .entry)) t (now (area .entry)))) ⌝ }
+    requires { ⌜ Sound (now cat) (now tab) size × (c .0 < count (now tab))
+        × (t ≡ segment (listing (now cat) (now tab)) (c .0) .code) × (size ≤ suc (length (now area))) ⌝ }
+    ensures { λ r. ⌜ r ≡ sameBytes (key (now (cat .entry)) (segment (listing (now (cat .entry)) (now (tab .entry))) (c .0)))
+        (key (now (cat .entry)) (arriving (now (cat .entry)) t (now (area .entry)))) ⌝ }
 {
     let long = wide(key_length(cat, t));
     if long == 0 {
         return true;
     }
     let start = wide(key_start(cat, t));
-    let i = c.0;
-    let a = 8 + i * size + start;
-    let b = start - 1;
-    let x = a + long;
-    let y = b + long;
-    are_same(&tab[a..x], &area[b..y])
+    let a = start - 1;
+    let e = a + long;
+    let own = &area[a..e];
+    are_same(data_part(cat, tab, size, c, start, long), own)
 }
 
 // "stores the area's first L bytes in the held cell"

@@ -77,7 +77,13 @@ pub(crate) fn read_on(
 }
 
 // GN on the list from fresh until GE: how many cells it finds.
-pub(crate) fn joined_sound(cat: &[u8], tab: &[u8], size: usize, list: &[u8], out: &mut [u8]) -> usize
+pub(crate) fn joined_sound(
+    cat: &[u8],
+    tab: &[u8],
+    size: usize,
+    list: &[u8],
+    out: &mut [u8],
+) -> usize
     requires { ⌜ Given (now cat) (now tab) (now list) size ⌝ }
     ensures { λ r. ⌜ (r ≡ length (picked (now (cat .entry)) (now (tab .entry)) (now (list .entry)))) × (now (out .exit) ≡ shownFrom 0 (picked (now (cat .entry)) (now (tab .entry)) (now (list .entry))) (now (out .entry))) ⌝ }
 {

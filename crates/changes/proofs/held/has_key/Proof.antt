@@ -1,6 +1,6 @@
 use native.Mathlib.Omega.{arith}
 use mathlib.Core.Path.{_∙_}
-use Rattle.changes.proofs.Keys.{key-none, key-bounds, key-same}
+use Rattle.changes.proofs.Keys.{key-none, key-bounds, key-held, key-same}
 use borrow.Author.Needs.{needs}
 use Rattle.changes.proofs.held.has_key.Statement.{statement}
 use Rattle.changes.proofs.held.has_key.Tie as tie
@@ -24,8 +24,8 @@ key-start-requires c κs = search needs
 wide-requires-2 : tie.Need-wide-requires-2
 wide-requires-2 c κs = search needs
 
-mul-a : tie.Need-mul-a
-mul-a c = let ·args = c .before .before .before .before .before .before .before .before .args in
+sub-a : tie.Need-sub-a
+sub-a c = let ·args = c .before .before .before .before .before .before .before .before .args in
     omega (
       arith,
       key-bounds (c .before .before .before .before .before .before .before .before .pre .0)
@@ -36,36 +36,17 @@ mul-a c = let ·args = c .before .before .before .before .before .before .before
           (c .wide2 .ensures .0 ∙ c .before .key-start .ensures) (c .before .before .if1 .left),
     )
 
-add-a : tie.Need-add-a
-add-a c = let ·args = c .before .before .before .before .before .before .before .before .args in
-    omega (
-      arith,
-      c .wide2 .ensures .1,
-      key-bounds
-          (c .before .before .before .before .before .before .before .before .pre .0)
-          (c .before .before .before .before .before .before .before .before .pre .1)
-          (c .before .before .before .before .before .before .before .before .pre .2) (·args .area .now)
-          (c .before .before .before .before .before .before .before .before .pre .3) _
-          (c .before .before .before .wide .ensures .0 ∙ c .before .before .before .before .key-length .ensures) _
-          (c .wide2 .ensures .0 ∙ c .before .key-start .ensures) (c .before .before .if1 .left),
-    )
+add-e : tie.Need-add-e
+add-e c = search needs
 
-add-a-2 : tie.Need-add-a-2
-add-a-2 c = let ·args = c .before .before .before .before .before .before .before .before .args in
-    omega (
-      arith,
-      c .wide2 .ensures .1,
-      key-bounds
-          (c .before .before .before .before .before .before .before .before .pre .0)
-          (c .before .before .before .before .before .before .before .before .pre .1)
-          (c .before .before .before .before .before .before .before .before .pre .2) (·args .area .now)
-          (c .before .before .before .before .before .before .before .before .pre .3) _
-          (c .before .before .before .wide .ensures .0 ∙ c .before .before .before .before .key-length .ensures) _
-          (c .wide2 .ensures .0 ∙ c .before .key-start .ensures) (c .before .before .if1 .left),
-    )
+sub-own : tie.Need-sub-own
+sub-own c = search needs
 
-sub-b : tie.Need-sub-b
-sub-b c = let ·args = c .before .before .before .before .before .before .before .before .args in
+part-own-start : tie.Need-part-own-start
+part-own-start c = search needs
+
+part-own-end : tie.Need-part-own-end
+part-own-end c = let ·args = c .before .before .before .before .before .before .before .before .args in
     omega (
       arith,
       key-bounds (c .before .before .before .before .before .before .before .before .pre .0)
@@ -76,61 +57,15 @@ sub-b c = let ·args = c .before .before .before .before .before .before .before
           (c .wide2 .ensures .0 ∙ c .before .key-start .ensures) (c .before .before .if1 .left),
     )
 
-add-x : tie.Need-add-x
-add-x c = let ·args = c .before .before .before .before .before .before .before .before .args in
-    omega (
-      arith,
-      c .before .before .before .wide .ensures .1,
-      c .wide2 .ensures .1,
-      key-bounds
-          (c .before .before .before .before .before .before .before .before .pre .0)
-          (c .before .before .before .before .before .before .before .before .pre .1)
-          (c .before .before .before .before .before .before .before .before .pre .2) (·args .area .now)
-          (c .before .before .before .before .before .before .before .before .pre .3) _
-          (c .before .before .before .wide .ensures .0 ∙ c .before .before .before .before .key-length .ensures) _
-          (c .wide2 .ensures .0 ∙ c .before .key-start .ensures) (c .before .before .if1 .left),
-    )
-
-add-y : tie.Need-add-y
-add-y c = search needs
-
-sub-are-same : tie.Need-sub-are-same
-sub-are-same c = search needs
-
-part-are-same-start : tie.Need-part-are-same-start
-part-are-same-start c = search needs
-
-part-are-same-end : tie.Need-part-are-same-end
-part-are-same-end c = let ·args = c .before .before .before .before .before .before .before .before .args in
-    omega (
-      arith,
-      key-bounds (c .before .before .before .before .before .before .before .before .pre .0)
-          (c .before .before .before .before .before .before .before .before .pre .1)
-          (c .before .before .before .before .before .before .before .before .pre .2) (·args .area .now)
-          (c .before .before .before .before .before .before .before .before .pre .3) _
-          (c .before .before .before .wide .ensures .0 ∙ c .before .before .before .before .key-length .ensures) _
-          (c .wide2 .ensures .0 ∙ c .before .key-start .ensures) (c .before .before .if1 .left),
-    )
-
-sub-are-same-2 : tie.Need-sub-are-same-2
-sub-are-same-2 c = search needs
-
-part-are-same-start-2 : tie.Need-part-are-same-start-2
-part-are-same-start-2 c = search needs
-
-part-are-same-end-2 : tie.Need-part-are-same-end-2
-part-are-same-end-2 c =
+data-part-requires : tie.Need-data-part-requires
+data-part-requires c κs =
+    let ·pre = c .before .before .before .before .before .before .before .before .before .pre in
     let ·args = c .before .before .before .before .before .before .before .before .before .args in
-    omega (
-      arith,
-      key-bounds (c .before .before .before .before .before .before .before .before .before .pre .0)
-          (c .before .before .before .before .before .before .before .before .before .pre .1)
-          (c .before .before .before .before .before .before .before .before .before .pre .2) (·args .area .now)
-          (c .before .before .before .before .before .before .before .before .before .pre .3) _
-          (c .before .before .before .before .wide .ensures .0 ∙
-          c .before .before .before .before .before .key-length .ensures) _
-          (c .before .wide2 .ensures .0 ∙ c .before .before .key-start .ensures) (c .before .before .before .if1 .left),
-    )
+    let ·wide = c .before .before .before .before .wide in
+    let ·key-length = c .before .before .before .before .before .key-length in
+    let ·key-start = c .before .before .key-start in let ·if1 = c .before .before .before .if1 in
+    key-held (·pre .0) (·pre .1) (·pre .2) (·args .area .now) (·pre .3) _ (·wide .ensures .0 ∙ ·key-length .ensures) _
+    (c .before .wide2 .ensures .0 ∙ ·key-start .ensures) (·if1 .left)
 
 are-same-requires : tie.Need-are-same-requires
 are-same-requires c κs = search needs
@@ -145,6 +80,7 @@ returns-2 c =
     let ·if1 = c .before .before .before .before .before .if1 in
     c .are-same .ensures ∙ key-same (·pre .0) (·pre .1) (·pre .2) (·args .area .now) (·pre .3) _
     (·wide .ensures .0 ∙ ·key-length .ensures) _ (·wide2 .ensures .0 ∙ ·key-start .ensures) (·if1 .left)
+    (c .before .data-part .ensures)
 
 pub has-key-spec : {M : Type 1} → statement M
 has-key-spec =
@@ -155,17 +91,11 @@ has-key-spec =
     returns
     key-start-requires
     wide-requires-2
-    mul-a
-    add-a
-    add-a-2
-    sub-b
-    add-x
-    add-y
-    sub-are-same
-    part-are-same-start
-    part-are-same-end
-    sub-are-same-2
-    part-are-same-start-2
-    part-are-same-end-2
+    sub-a
+    add-e
+    sub-own
+    part-own-start
+    part-own-end
+    data-part-requires
     are-same-requires
     returns-2)

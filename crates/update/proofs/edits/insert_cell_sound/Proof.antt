@@ -2,7 +2,6 @@ use lib.ListN.{length-take, length-drop}
 use native.Mathlib.Omega.{arith}
 use mathlib.Core.Path.{_∙_}
 use Prim.Native.Nat.{ℕ}
-use Rattle.cells.proofs.Start.{header-in}
 use Rattle.update.proofs.Tables.{new-inside, insert-end, insert-fits, insert-is}
 use borrow.Author.Needs.{needs}
 use Rattle.update.proofs.edits.insert_cell_sound.Statement.{statement}
@@ -116,23 +115,7 @@ write-cell-requires c κs = simp (length-take, length-drop)
     ))
 
 set-count-requires : tie.Need-set-count-requires
-set-count-requires c κs = (
-  omega (
-    arith,
-    header-in
-        (new-inside (c .before .before .before .before .before .before .before .before .before .before .before .before
-        .before .before .before .before .before .before .before .before .before .pre) 0 (omega arith)),
-    c .before .before .before .before .before .before .before .tab .given,
-    c .before .before .tab2 .given,
-  ),
-  omega (
-    arith,
-    c .before .before .before .before .before .before .before .before .before .before .before .before .before
-        .before .before .before .before .before .before .before .before .pre .sound .sized .few,
-    c .before .before .before .before .before .before .before .before .before .before .before .before .before .before
-        .before .before .count .ensures .0,
-  ),
-)
+set-count-requires c κs = search needs
 
 same-length : tie.Need-same-length
 same-length c = search needs

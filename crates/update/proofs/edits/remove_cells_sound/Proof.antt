@@ -2,7 +2,6 @@ use lib.ListN.{length-take, length-drop}
 use native.Mathlib.Omega.{arith}
 use mathlib.Core.Path.{refl}
 use Prim.Native.Nat.{ℕ}
-use Rattle.cells.proofs.Start.{header-in}
 use Rattle.update.proofs.Tables.{used-inside, remove-end, remove-is}
 use borrow.Author.Needs.{needs}
 use Rattle.update.proofs.edits.remove_cells_sound.Statement.{statement}
@@ -110,21 +109,7 @@ sub-set-count : tie.Need-sub-set-count
 sub-set-count c = search needs
 
 set-count-requires : tie.Need-set-count-requires
-set-count-requires c κs = (
-  omega (
-    arith,
-    header-in
-        (used-inside (c .before .before .before .before .before .before .before .before .before .before .before .before
-        .before .before .before .before .before .before .before .before .before .pre .sound) 0 (omega arith)),
-    c .before .before .before .before .before .before .tab .given,
-    c .before .before .tab2 .given,
-  ),
-  omega (
-    arith,
-    c .before .before .before .before .before .before .before .before .before .before .before .before .before
-        .before .before .before .before .count .ensures .1,
-  ),
-)
+set-count-requires c κs = search needs
 
 same-length : tie.Need-same-length
 same-length c = search needs
