@@ -2,11 +2,11 @@
 use mathlib.Core.Path.{_≡_, refl, ap, sym, _∙_}
 use mathlib.Core.Bool.{true, false, _&&_, not}
 use mathlib.Core.List.{List, [], _++_}
-use Prim.Native.Nat.{ℕ, suc, _+_, _-_, _*_, _<_, _≤_}
+use Prim.Native.Nat.{ℕ, suc, _+_, _-_, _<_, _≤_}
 use native.Mathlib.Omega.{arith}
 use lib.Dec.{ltb, eqb}
-use lib.ListN.{length, take, drop, replicate, length-drop}
-use lib.Seq.{take-at, take-append-le, length-take-le}
+use lib.ListN.{length, take, drop, replicate}
+use lib.Seq.{take-at, take-append-le}
 use borrow.Author.Tests.{lt-ltb, le-ltb, le-leb, lt-leb}
 use Rattle.terms.specs.declared.TypeCode.{TypeCode}
 use Rattle.terms.specs.declared.CellNumber.{CellNumber}
@@ -22,7 +22,7 @@ use Rattle.terms.specs.Names.{cell, sameType}
 use Rattle.terms.specs.Statuses.{number}
 use Rattle.terms.specs.Moves.{afterPlace, fresh, holdDropped, movedOnto}
 use Rattle.forest.specs.Good.{on, off, is}
-use Rattle.rules.specs.Block.{Bytes, byte}
+use Rattle.rules.specs.Block.{Bytes, byte, part}
 use Rattle.rules.specs.Catalogue.{goodCatalogue, lengthOf}
 use Rattle.rules.specs.Cells.{Segment, segment, shownBytes, levelAt, long as segmentLong}
 use Rattle.rules.specs.Table.{count, cellSize, listing, goodTable}
@@ -39,8 +39,10 @@ use Rattle.model.proofs.Kept.{tables-stay-good}
 use Rattle.model.proofs.Session.{sound-same}
 use Rattle.catalogue.proofs.Hierarchy.{cell-most}
 use Rattle.arguments.proofs.Sound.{list-empty}
+use Rattle.cells.specs.Lent.{InData}
 use Rattle.cells.specs.Sound.{Sound}
-use Rattle.cells.proofs.Located.{bytes-of, cell-in}
+use Rattle.cells.proofs.Data.{data-long}
+use Rattle.cells.proofs.Ancestry.{sound-data, sound-part, sound-long}
 use Rattle.answers.specs.Told.{told}
 use Rattle.answers.specs.Ready.{SoundFor, made, left}
 use Rattle.gets.proofs.Found.{after-in}
@@ -194,27 +196,27 @@ module _ {cat tab : Bytes} {size : ℕ} (snd : Sound cat tab size) (i : ℕ) (l 
   pub told-fits : (a .length < size) × (size ≤ 121)
   told-fits = (omega (arith, told-long, data-fits snd i l), snd .sized .narrow)
 
-  module _ (start long : ℕ) (m : start ≡ 9 + i * size) (n : long ≡ a .length) where
-    bytes-here : take (start + long - start) (drop start tab) ≡ here .bytes
-    bytes-here =
-        let k : start + long - start ≡ lengthOf cat (here .code) = omega (arith, told-long) in
-        let j : start ≡ suc (8 + i * size) = omega arith in
-        ap (λ (x : ℕ). take x (drop start tab)) k ∙ ap (λ (x : ℕ). take (lengthOf cat (here .code)) (drop x tab)) j ∙ sym (bytes-of (snd .sized) i l)
+  module _ {long : ℕ} (n : long ≡ a .length) where
+    long-is : long ≡ lengthOf cat t
+    unfolding told
+    long-is = n ∙ ap (λ (r : Answer). r .length) h
 
-    pub told-line : cellLine a (take (start + long - start) (drop start tab)) ≡ cellLine (answerOf cat s p here 0) (here .bytes)
-    unfolding told answerOf segmentLong
-    told-line = ap (cellLine a) bytes-here ∙ ap (λ (r : Answer). cellLine r (here .bytes)) (h ∙ ap (λ (u : TypeCode). told cat s p u 0) e)
+    pub told-data : InData cat tab size i 1 long
+    told-data = sound-data snd l e long-is
+
+    module _ {from : Bytes} (b : from ≡ part (here .bytes) (1 - 1) long) where
+      pub told-enough : a .length ≤ length from
+      told-enough = omega (arith, ap length b, data-long told-data)
+
+      pub told-line : cellLine a from ≡ cellLine (answerOf cat s p here 0) (here .bytes)
+      unfolding told answerOf segmentLong
+      told-line = ap (cellLine a) (b ∙ sound-part snd l e long-is) ∙ ap (λ (r : Answer). cellLine r (here .bytes)) (h ∙ ap (λ (u : TypeCode). told cat s p u 0) e)
 
 -- the same bytes at the front of an area print the same
 line-over : (cat : Bytes) (s : Status) (p : Position) (x : Segment) (rest : Bytes) → length (x .bytes) ≡ lengthOf cat (x .code)
     → cellLine (answerOf cat s p x 0) (x .bytes) ≡ cellLine (answerOf cat s p x 0) (over (x .bytes) rest)
 unfolding cellLine answerOf segmentLong
 line-over cat s p x rest e = rw (take-append-le (lengthOf cat (x .code)) (x .bytes) (drop (length (x .bytes)) rest) (omega arith))
-
-bytes-long : {cat tab : Bytes} {size : ℕ} → Sound cat tab size → (i : ℕ) → i < count tab → length (segment (listing cat tab) i .bytes) ≡ lengthOf cat (segment (listing cat tab) i .code)
-bytes-long {cat} {tab} {size} snd i l =
-    let n : ℕ = lengthOf cat (segment (listing cat tab) i .code) in
-    ap length (bytes-of (snd .sized) i l) ∙ length-take-le n (drop (suc (8 + i * size)) tab) (omega (arith, length-drop (suc (8 + i * size)) tab, cell-in (snd .sized) i l, data-fits snd i l))
 
 -- the line that stands in the buffer, from what the reader read
 module _ (cat tab : Bytes) (pos : Position) (f : SoundFor cat tab pos) (b : IsBytes tab) (at to : ℕ) (h : at ≡ afterPlace (pos .place)) (k : to ≡ count tab) (step : Read)
@@ -231,7 +233,8 @@ module _ (cat tab : Bytes) (pos : Position) (f : SoundFor cat tab pos) (b : IsBy
       let v : Segment = segment (listing cat tab) (c .0) in
       let m : Position = movedOnto (c .0) (Of c) false in
       let n : Status = fromPlace (pos .place) s in
-      let l : length (v .bytes) ≡ lengthOf cat (v .code) = bytes-long (blocks-sound cat tab pos f size z) (c .0) (cell-in-table cat tab pos f at to h k step e c s d size z) in
+      let l : length (v .bytes) ≡ lengthOf cat (v .code) =
+      sound-long (blocks-sound cat tab pos f size z) (cell-in-table cat tab pos f at to h k step e c s d size z) refl refl in
       let y : cellLine (answerOf cat t p v 0) (v .bytes) ≡ cellLine (answerOf cat n m v 0) (over (v .bytes) zeroArea) = rw (x, q) (line-over cat n m v zeroArea l) in
       rw q
       (listed-cell cat tab pos f (answerOf cat n m v 0) (over (v .bytes) zeroArea) (found-is cat tab pos f at to h k step e c s d) b (number n) refl before end after fits

@@ -9,6 +9,7 @@ use answers::told;
 use blocks::wide;
 use cells::lookup::code_at;
 use cells::lookup::count;
+use cells::lookup::data_part;
 use reader::Read;
 use reader::read_next;
 use terms::Answer;
@@ -113,14 +114,13 @@ fn got_line(
     out: &mut [u8],
 ) -> usize
     requires { ⌜ Sound (now cat) (now tab) size × (c .0 < count (now tab)) × (262 ≤ length (now out)) ⌝ }
-    ensures { λ r. ⌜ Wrote 0 (cellLine (answerOf (now (cat .entry)) s p (segment (listing (now (cat .entry)) (now (tab .entry))) (c .0)) 0) (segment (listing (now (cat .entry)) (now (tab .entry))) (c .0) .bytes)) (now (out .entry)) r (now (out .exit)) × (r ≤ 262) ⌝ }
+    ensures { λ r. ⌜ Wrote 0 (cellLine (answerOf (now (cat .entry)) s p (segment (listing (now (cat .entry)) (now (tab .entry))) (c .0)) 0)
+        (segment (listing (now (cat .entry)) (now (tab .entry))) (c .0) .bytes)) (now (out .entry)) r (now (out .exit)) × (r ≤ 262) ⌝ }
 {
     let t = code_at(cat, tab, size, c);
     let a = told(cat, s, p, t, 0);
-    let i = c.0;
-    let start = 9 + i * size;
-    let end = start + wide(a.length);
-    cell_line(out, a, &tab[start..end])
+    let long = wide(a.length);
+    cell_line(out, a, data_part(cat, tab, size, c, 1, long))
 }
 
 // "issues GN with an empty list": the line of one such call, by the reader. It is at most 262 bytes.

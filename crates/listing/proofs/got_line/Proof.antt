@@ -1,10 +1,6 @@
-use mathlib.Core.Path.{refl}
-use Prim.Native.Nat.{_+_, _*_}
 use native.Mathlib.Omega.{arith}
-use lib.ListN.{length-take, length-drop}
-use Rattle.cells.proofs.Located.{start-small, cell-in}
 use Rattle.listing.proofs.Written.{wrote-as}
-use Rattle.listing.proofs.Lines.{told-fits, told-line}
+use Rattle.listing.proofs.Lines.{told-fits, told-data, told-enough, told-line}
 use borrow.Author.Needs.{needs}
 use Rattle.listing.proofs.got_line.Statement.{statement}
 use Rattle.listing.proofs.got_line.Tie as tie
@@ -15,68 +11,23 @@ code-at-requires c κs = search needs
 told-requires : tie.Need-told-requires
 told-requires c κs = search needs
 
-mul-start : tie.Need-mul-start
-mul-start c = let ·args = c .before .before .before .before .before .args in
-    omega (
-      arith,
-      start-small (c .before .before .before .before .before .pre .0 .sized) (·args .c .0)
-          (omega (arith, c .before .before .before .before .before .pre .1)),
-    )
-
-add-start : tie.Need-add-start
-add-start c = let ·args = c .before .before .before .before .before .args in
-    omega (
-      arith,
-      start-small (c .before .before .before .before .before .pre .0 .sized) (·args .c .0)
-          (omega (arith, c .before .before .before .before .before .pre .1)),
-    )
-
 wide-requires : tie.Need-wide-requires
 wide-requires c κs = search needs
 
-add-end : tie.Need-add-end
-add-end c = let ·args = c .before .before .before .before .before .before .args in
-    omega (
-      arith,
-      start-small (c .before .before .before .before .before .before .pre .0 .sized) (·args .c .0)
-          (omega (arith, c .before .before .before .before .before .before .pre .1)),
-      c .wide .ensures .1,
-    )
-
-sub-cell-line : tie.Need-sub-cell-line
-sub-cell-line c = search needs
-
-part-cell-line-start : tie.Need-part-cell-line-start
-part-cell-line-start c = search needs
-
-part-cell-line-end : tie.Need-part-cell-line-end
-part-cell-line-end c = let ·args = c .before .before .before .before .before .before .before .args in
-    omega (
-      arith,
-      cell-in (c .before .before .before .before .before .before .before .pre .0 .sized) (·args .c .0)
-          (c .before .before .before .before .before .before .before .pre .1),
-      told-fits
-          (c .before .before .before .before .before .before .before .pre .0) (·args .c .0)
-          (c .before .before .before .before .before .before .before .pre .1) _ _ (c .before .before .before .code-at .result)
-          (c .before .before .told .result) (c .before .before .before .code-at .ensures)
-          (c .before .before .told .ensures) .0,
-      c .before .wide .ensures .0,
-    )
+data-part-requires : tie.Need-data-part-requires
+data-part-requires c κs = let ·pre = c .before .before .before .before .before .before .before .pre in
+    let ·args = c .before .before .before .before .before .before .before .args in
+    let ·code-at = c .before .before .before .code-at in let ·told = c .before .before .told in
+    told-data (·pre .0) (·args .c .0) (·pre .1) _ _ (·code-at .result) (·told .result) (·code-at .ensures)
+    (·told .ensures) (c .before .wide .ensures .0)
 
 cell-line-requires : tie.Need-cell-line-requires
 cell-line-requires c κs = let ·args = c .before .before .before .before .before .before .before .before .args in (
-  simp (length-take, length-drop) (omega (
-    arith,
-    cell-in
-        (c .before .before .before .before .before .before .before .before .pre .0 .sized) (·args .c .0)
-        (c .before .before .before .before .before .before .before .before .pre .1),
-    told-fits
-        (c .before .before .before .before .before .before .before .before .pre .0) (·args .c .0)
-        (c .before .before .before .before .before .before .before .before .pre .1) _ _
-        (c .before .before .before .before .code-at .result) (c .before .before .before .told .result)
-        (c .before .before .before .before .code-at .ensures) (c .before .before .before .told .ensures) .0,
-    c .before .before .wide .ensures .0,
-  )),
+  told-enough (c .before .before .before .before .before .before .before .before .pre .0) (·args .c .0)
+      (c .before .before .before .before .before .before .before .before .pre .1) _ _
+      (c .before .before .before .before .code-at .result) (c .before .before .before .told .result)
+      (c .before .before .before .before .code-at .ensures) (c .before .before .before .told .ensures)
+      (c .before .before .wide .ensures .0) (c .data-part .ensures),
   omega (
     arith,
     c .before .before .before .before .before .before .before .before .pre .2,
@@ -100,9 +51,8 @@ returns c =
           _ (c .before .before .before .before .before .before .before .code-at .result)
           (c .before .before .before .before .before .before .told .result)
           (c .before .before .before .before .before .before .before .code-at .ensures)
-          (c .before .before .before .before .before .before .told .ensures) (9 + ·args .c .0 * ·args .size)
-          (c .before .before .before .before .before .wide .result) refl
-          (c .before .before .before .before .before .wide .ensures .0)),
+          (c .before .before .before .before .before .before .told .ensures)
+          (c .before .before .before .before .before .wide .ensures .0) (c .before .before .before .data-part .ensures)),
       omega (
         arith,
         c .before .before .cell-line .ensures .1,
@@ -122,13 +72,8 @@ got-line-spec =
     (tie.spec
     code-at-requires
     told-requires
-    mul-start
-    add-start
     wide-requires
-    add-end
-    sub-cell-line
-    part-cell-line-start
-    part-cell-line-end
+    data-part-requires
     cell-line-requires
     same-length
     returns)
