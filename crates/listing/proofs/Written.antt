@@ -1,7 +1,7 @@
 -- Texts written one behind the other, and the leaves' texts step by step. Assumes nothing.
 use mathlib.Core.Path.{_≡_, refl, ap, sym, _∙_}
 use mathlib.Core.List.{[], _∷_, _++_}
-use Prim.Native.Nat.{ℕ, zero, suc, _+_, _-_, _*_, _/_, _%_, _<_, _≤_}
+use Prim.Native.Nat.{ℕ, zero, suc, _+_, _-_, _/_, _%_, _<_, _≤_}
 use native.Mathlib.Nat.{add-zero}
 use native.Mathlib.Numerals.{add-one}
 use native.Mathlib.Omega.{arith}
@@ -109,8 +109,3 @@ hex-none from = refl
 
 pub hex-all : (from : Bytes) (i : ℕ) → length from ≤ i → hex (take i from) ≡ hex from
 hex-all from i h = ap hex (take-all i from h)
-
-pub hex-length : (l : Bytes) → length (hex l) ≡ 2 * length l
-unfolding hex
-hex-length [] = refl
-hex-length (x ∷ l) = omega (arith, hex-length l)

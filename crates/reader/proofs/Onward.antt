@@ -1,29 +1,24 @@
--- How a loop of steps goes on: each step lies ahead and before the end, and after it the list agrees down to its last level. Assumes nothing.
+-- How a loop of steps goes on: each step lies ahead and before the end. Assumes nothing.
 use mathlib.Core.Path.{_≡_, ap, sym, _∙_}
-use mathlib.Core.Bool.{true, _&&_}
+use mathlib.Core.Bool.{true}
 use mathlib.Core.List.{List}
 use Prim.Native.Nat.{ℕ, zero, suc, _+_, _-_, _<_, _≤_}
 use native.Mathlib.Omega.{arith}
-use lib.Dec.{eqb}
 use lib.ListN.{length}
-use borrow.Author.Tests.{eqb-true}
 use Rattle.terms.specs.declared.CellNumber.{CellNumber}
 use Rattle.terms.specs.declared.Status.{Status}
 use Rattle.terms.specs.declared.Found.the-variants.{At, Nothing}
 use Rattle.terms.specs.Names.{code, cell}
-use Rattle.forest.specs.Good.{on, off, is, both-right}
+use Rattle.forest.specs.Good.{on, off, is}
 use Rattle.rules.specs.Block.{Bytes}
-use Rattle.rules.specs.Catalogue.{level}
-use Rattle.rules.specs.Cells.{Segment, levelAt}
+use Rattle.rules.specs.Cells.{Segment}
 use Rattle.rules.specs.Table.{count, listing}
-use Rattle.rules.specs.Arguments.{Level, ListRead, listRead, lastArgument}
+use Rattle.rules.specs.Arguments.{Level, ListRead, lastArgument}
 use Rattle.rules.specs.Matching.{matches, seek, firstMatch}
 use Rattle.rules.proofs.Search.{seek-none, seek-here, seek-next}
 use Rattle.cells.specs.Sound.{Sound}
-use Rattle.arguments.proofs.Complete.{complete-length}
 use Rattle.arguments.proofs.Sound.{list-empty}
-use Rattle.search.specs.Stretch.{levels, stretch, stretchBefore}
-use Rattle.search.proofs.Branches.{match-stretch, before-next}
+use Rattle.search.specs.Stretch.{levels}
 use Rattle.reader.specs.declared.Read.the-variants.{Got}
 use Rattle.reader.specs.UnderWay.{Reading}
 use Rattle.reader.specs.Stepped.{stepped, cellOf, asked}
@@ -86,15 +81,3 @@ module _ {cat tab list : Bytes} {size type long at to : ℕ} (r : Reading cat ta
 
   pub step-in : c .0 < count tab
   step-in = omega (arith, step-between .1, r .within)
-
-  -- LAW: what is carried on from it is the level of the list's last type
-  pub carried-on : 0 < type → level cat (code type) ≡ stretchBefore cat cs ls (c .0 + 1)
-  carried-on h =
-      let lev : ℕ = levelAt cat cs (c .0) in
-      let m : (eqb lev (length ls) && eqb (stretch cat cs ls (c .0)) (length ls)) ≡ true = sym (match-stretch (r .good) (c .0) step-in h) ∙ hit .2 in
-      let z : stretch cat cs ls (c .0) ≡ length ls = eqb-true (stretch cat cs ls (c .0)) (length ls) (both-right (eqb lev (length ls)) (eqb (stretch cat cs ls (c .0)) (length ls)) m) in
-      before-next (r .good) (c .0) (level cat (code type)) (sym (z ∙ complete-length cat list (listRead cat list .arguments) (code type)))
-
-  -- LAW: so the reader that stands on it may go on
-  pub reading-on : (l : ℕ) → l ≡ level cat (code type) → Reading cat tab list size type l (c .0 + 1) to
-  reading-on l f = record { good = r .good; last = r .last; carried = λ h. f ∙ carried-on h; within = r .within; passed = omega (arith, step-in) }

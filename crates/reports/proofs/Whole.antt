@@ -1,6 +1,6 @@
 -- A report as a whole: refused, without room, or shown. Assumes nothing.
 use mathlib.Core.Path.{_≡_, refl, ap, sym, _∙_}
-use mathlib.Core.Bool.{Bool, true, false, _||_, not}
+use mathlib.Core.Bool.{Bool, true, false, _||_}
 use mathlib.Core.List.{List, [], _∷_, _++_}
 use Prim.Native.Nat.{ℕ, zero, suc, _+_, _*_, _<_, _≤_}
 use native.Mathlib.Omega.{arith}
@@ -9,7 +9,6 @@ use lib.ListN.{length, length-append}
 use borrow.Author.Tests.{eq-eqb, ne-eqb, lt-ltb, le-ltb, eqb-true}
 use Rattle.terms.specs.declared.Status.{Status}
 use Rattle.terms.specs.declared.Status.the-variants.{Blank, AC, AB}
-use Rattle.terms.specs.Choice.{pick}
 use Rattle.terms.specs.Statuses.{number}
 use Rattle.forest.specs.Good.{on, off, is}
 use Rattle.forest.specs.Numbers.{range}
@@ -26,10 +25,9 @@ use Rattle.report_loops.specs.Plain.{filter, meets, picked}
 use Rattle.report_loops.proofs.Cut.{parts}
 use Rattle.reports.specs.declared.Report.{Report}
 use Rattle.reports.specs.Shown.{shownFrom}
-use Rattle.reports.specs.Report.{Reported, reported, without, listsFault, refusal, showing, report}
-use Rattle.reports.specs.Given.{Given, GivenBoth}
+use Rattle.reports.specs.Report.{reported, without, listsFault, refusal, showing, report}
+use Rattle.reports.specs.Given.{GivenBoth}
 use Rattle.reports.proofs.Lists.{checked-good}
-use Rattle.reports.proofs.Steps.{sound-list}
 use Rattle.reports.proofs.Written.{show-whole, show-empty}
 
 -- no more cells are picked than there are
@@ -121,9 +119,6 @@ module _ (cat tab one two : Bytes) (s : Status) (n : ℕ) (e : s ≡ refusal cat
 
     pub five-in : 5 < length tab
     five-in = omega (arith, good-housed cat tab (whole-good .1) .whole)
-
-    pub whole-few : count tab ≤ 4096
-    whole-few = good-sized cat tab (whole-good .0) (whole-good .1) .few
 
     lists : Sounds cat one two
     lists = lists-blank cat one two (refusal-blank cat tab one two none .1)
