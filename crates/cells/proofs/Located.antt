@@ -196,8 +196,8 @@ module _ (cat tab : Bytes) (h : goodTable cat tab ≡ true) where
   front : (goodRoom cat tab ≡ true) × (eqb (byte tab 5) (cellSize cat) ≡ true) × (leb (count tab) (room cat tab) ≡ true)
   unfolding goodTable
   front =
-      front-of (goodRoom cat tab) (marked 0x54 tab) (eqb (byte tab 5) (cellSize cat)) (leb (count tab) (room cat tab)) (every (padded cat tab) (range 0 (count tab)))
-      (zeros (drop (cellStart cat (count tab)) tab)) (goodListing cat (listing cat tab)) h
+      front-of (goodRoom cat tab) (marked 0x54 tab) (eqb (byte tab 5) (cellSize cat)) (leb (count tab) (room cat tab))
+      (every (padded cat tab) (range 0 (count tab))) (zeros (drop (cellStart cat (count tab)) tab)) (goodListing cat (listing cat tab)) h
 
   pub good-housed : Housed cat tab
   unfolding goodRoom cellStart

@@ -71,7 +71,9 @@ module _ {cat tab : Bytes} {size : ℕ} {pos : Position} (s : Held cat tab size 
       replace-differs h = ap (landed cat tab) (sym (let w : place-now ≡ refused DA pos area = rw h in w) ∙ replace-is)
 
       pub replace-ready : Replaceable cat tab size (c .0) area
-      replace-ready = record { sound = s .sound; used = held-cell; long = area-long (s .sound) (segment cs (c .0) .code) area (sound-known (s .sound) (c .0) held-cell) a }
+      replace-ready =
+          let known = sound-known (s .sound) (c .0) held-cell in
+          record { sound = s .sound; used = held-cell; long = area-long (s .sound) (segment cs (c .0) .code) area known a }
 
       pub replace-done : same ≡ true → made (told cat Blank (holdDropped pos) t 0) (withData cat tab (c .0) area) area ≡ landed cat tab (replace cat cs pos area)
       unfolding replaced changed answerOf long told withData arriving segmentOf

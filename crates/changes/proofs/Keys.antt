@@ -50,5 +50,6 @@ module _ {cat tab : Bytes} {size i : ℕ} {t : TypeCode} (s : Sound cat tab size
 
       -- the bytes that the code compares are the keys
       pub key-same : {x : Bytes} → x ≡ part (segment (listing cat tab) i .bytes) (start - 1) long
-          → sameBytes x (part area (start - 1) (start - 1 + long - (start - 1))) ≡ sameBytes (key cat (segment (listing cat tab) i)) (key cat (arriving cat t area))
+          → sameBytes x (part area (start - 1) (start - 1 + long - (start - 1)))
+          ≡ sameBytes (key cat (segment (listing cat tab) i)) (key cat (arriving cat t area))
       key-same h = ap₂ sameBytes (h ∙ old-key as-new l (sym e) g f) (new-key as-new g f (key-bounds .0))

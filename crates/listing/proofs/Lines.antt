@@ -210,7 +210,9 @@ module _ {cat tab : Bytes} {size : ℕ} (snd : Sound cat tab size) (i : ℕ) (l 
 
       pub told-line : cellLine a from ≡ cellLine (answerOf cat s p here 0) (here .bytes)
       unfolding told answerOf segmentLong
-      told-line = ap (cellLine a) (b ∙ sound-part snd l e long-is) ∙ ap (λ (r : Answer). cellLine r (here .bytes)) (h ∙ ap (λ (u : TypeCode). told cat s p u 0) e)
+      told-line =
+          ap (cellLine a) (b ∙ sound-part snd l e long-is)
+          ∙ ap (λ (r : Answer). cellLine r (here .bytes)) (h ∙ ap (λ (u : TypeCode). told cat s p u 0) e)
 
 -- the same bytes at the front of an area print the same
 line-over : (cat : Bytes) (s : Status) (p : Position) (x : Segment) (rest : Bytes) → length (x .bytes) ≡ lengthOf cat (x .code)

@@ -85,13 +85,16 @@ module _ {cat tab area : Bytes} {size r : ℕ} {t : TypeCode} (s : Insertable ca
         let d : Bytes = putMid start (start + size - start) b cell in
         let l = insert-end in
         let k : end - start - size ≡ (count tab - r) * size =
-        omega (arith, begins (s .sound) r, begins (s .sound) (n + 1), add-mul n 1 size, split (s .sound) r (count tab) (s .place), ap (λ (j : ℕ). j * size) e) in
+        let g : (n + 1) * size ≡ count tab * size + size = add-mul n 1 size ∙ ap (λ (j : ℕ). j * size + 1 * size) e ∙ omega arith in
+        omega (arith, begins (s .sound) r, begins (s .sound) (n + 1), split (s .sound) r (count tab) (s .place)) in
         let c : cell ≡ cellBytes cat (arriving cat t area) =
-        h ∙ ap (λ (j : ℕ). t .0 ∷ take long area ++ replicate (j - suc (length (take long area))) 0) (up-room tab y start end size (l .0) (l .1) g ∙ s .sound .sized .is)
+        h ∙ ap (λ (j : ℕ). t .0 ∷ take long area ++ replicate (j - suc (length (take long area))) 0)
+        (up-room tab y start end size (l .0) (l .1) g ∙ s .sound .sized .is)
         ∙ ap (λ (j : ℕ). t .0 ∷ take j area ++ replicate (cellSize cat - suc (length (take j area))) 0) f in
+        let front : Bytes → Bytes = λ (x : Bytes). take 6 tab ++ (wordBytes (n + 1) ++ (part tab 8 (r * size) ++ x)) in
         i ∙ counted-to tab d _ (wordBytes (n + 1)) start (r * size) (a ∙ begins (s .sound) r) (omega arith) (up-cell tab y start end size (l .0) (l .1) g cell)
-        ∙ ap (λ (x : Bytes). take 6 tab ++ (wordBytes (n + 1) ++ (part tab 8 (r * size) ++ (x ++ (take (end - start - size) (drop start tab) ++ drop end tab))))) c
-        ∙ ap (λ (j : ℕ). take 6 tab ++ (wordBytes (n + 1) ++ (part tab 8 (r * size) ++ (cellBytes cat (arriving cat t area) ++ (take j (drop start tab) ++ drop end tab))))) k
+        ∙ ap (λ (x : Bytes). front (x ++ (take (end - start - size) (drop start tab) ++ drop end tab))) c
+        ∙ ap (λ (j : ℕ). front (cellBytes cat (arriving cat t area) ++ (take j (drop start tab) ++ drop end tab))) k
         ∙ sym (inserted-bytes bytes)
 
 -- "REPL": t and long are the cell's type and its length as the code has them, at is where the cell begins, y what comes back of the data
@@ -126,7 +129,8 @@ module _ {cat tab area : Bytes} {size i : ℕ} (s : Replaceable cat tab size i a
 module _ {cat tab : Bytes} {size i e : ℕ} (s : Removable cat tab size i e) (n start next end : ℕ) (f : n ≡ count tab)
     (a : start ≡ startOf tab size i) (b : next ≡ startOf tab size e) (c : end ≡ startOf tab size n) where
   -- the run lies within the cells in use; how many bytes it has, and how many stand behind it
-  pub remove-end : (start ≤ next) × (start + (next - start) ≤ end) × (end ≤ length tab) × (next - start ≡ (e - i) * size) × (end - start - (next - start) ≡ (n - e) * size)
+  pub remove-end : (start ≤ next) × (start + (next - start) ≤ end) × (end ≤ length tab)
+      × (next - start ≡ (e - i) * size) × (end - start - (next - start) ≡ (n - e) * size)
   remove-end =
       let x : e * size ≡ i * size + (e - i) * size = split (s .sound) i e (s .order) in
       let y : n * size ≡ e * size + (n - e) * size = split (s .sound) e n (omega (arith, s .used)) in
@@ -156,8 +160,10 @@ module _ {cat tab : Bytes} {size i e : ℕ} (s : Removable cat tab size i e) (n 
       let g : Bytes = putMid (end - gap) (end - (end - gap)) d z in
       let l = remove-end in
       let m : start + gap ≡ next = omega (arith, l .0) in
-      w ∙ counted-to tab g _ (wordBytes (n - (e - i))) start (i * size) (a ∙ begins (s .sound) i) (omega arith) (down-cleared tab y start end gap (l .1) (l .2) u z v)
-      ∙ ap (λ (j : ℕ). take 6 tab ++ (wordBytes (n - (e - i)) ++ (part tab 8 (i * size) ++ (take (end - start - gap) (drop j tab) ++ (replicate gap 0 ++ drop end tab))))) m
-      ∙ ap (λ (j : ℕ). take 6 tab ++ (wordBytes (n - (e - i)) ++ (part tab 8 (i * size) ++ (take j (drop next tab) ++ (replicate gap 0 ++ drop end tab))))) (l .4)
-      ∙ ap (λ (j : ℕ). take 6 tab ++ (wordBytes (n - (e - i)) ++ (part tab 8 (i * size) ++ (part tab next ((n - e) * size) ++ (replicate j 0 ++ drop end tab))))) (l .3)
+      let front : Bytes → Bytes = λ (x : Bytes). take 6 tab ++ (wordBytes (n - (e - i)) ++ (part tab 8 (i * size) ++ x)) in
+      w ∙ counted-to tab g _ (wordBytes (n - (e - i))) start (i * size) (a ∙ begins (s .sound) i) (omega arith)
+      (down-cleared tab y start end gap (l .1) (l .2) u z v)
+      ∙ ap (λ (j : ℕ). front (take (end - start - gap) (drop j tab) ++ (replicate gap 0 ++ drop end tab))) m
+      ∙ ap (λ (j : ℕ). front (take j (drop next tab) ++ (replicate gap 0 ++ drop end tab))) (l .4)
+      ∙ ap (λ (j : ℕ). front (part tab next ((n - e) * size) ++ (replicate j 0 ++ drop end tab))) (l .3)
       ∙ sym (removed-bytes bytes)
