@@ -73,12 +73,28 @@ module _ (cat list : Bytes) (before : TypeCode) (at : ℕ) where
               unfolding argumentAt
               value-short l =
                   let m = lt-ltb (length list) (at + 3 + fieldLength cat (field (byte list (at + 2)))) (omega (arith, next-is)) in
-                  simp (n, lt-leb (length list) (at + 1) h, ne-eqb (byte list (at + 1)) 0 z, le-ltb 6 (byte list (at + 1)) o, lt-leb (length list) (at + 2) k, f, m)
+                  simp (
+                    n,
+                    lt-leb (length list) (at + 1) h,
+                    ne-eqb (byte list (at + 1)) 0 z,
+                    le-ltb 6 (byte list (at + 1)) o,
+                    lt-leb (length list) (at + 2) k,
+                    f,
+                    m,
+                  )
 
               pub value-whole : a .next ≤ length list → Got a ≡ argumentAt cat list before at
               unfolding argumentAt qualificationAt nextAt
               value-whole l =
                   let m = le-ltb (length list) (at + 3 + fieldLength cat (field (byte list (at + 2)))) (omega (arith, next-is)) in
                   let y : Got (untested cat list at) ≡ argumentAt cat list before at =
-                  simp (n, lt-leb (length list) (at + 1) h, ne-eqb (byte list (at + 1)) 0 z, le-ltb 6 (byte list (at + 1)) o, lt-leb (length list) (at + 2) k, f, m) in
+                  simp (
+                    n,
+                    lt-leb (length list) (at + 1) h,
+                    ne-eqb (byte list (at + 1)) 0 z,
+                    le-ltb 6 (byte list (at + 1)) o,
+                    lt-leb (length list) (at + 2) k,
+                    f,
+                    m,
+                  ) in
                   ap Got e ∙ y

@@ -21,7 +21,8 @@ use Rattle.rules.specs.Block.{Bytes, byte}
 use Rattle.rules.specs.Catalogue.{fields, fieldType, fieldLength}
 use Rattle.rules.specs.Arguments.{ListRead, operatorOf, goodNext, isFieldOf, argumentAt, argumentsFrom, listRead}
 use Rattle.arguments.specs.Sound.{statusOf, GoodTest, GoodQualification, rest, qualificationAt, nextAt, untested, Room}
-use Rattle.arguments.proofs.Branches.{type-bad, operator-missing, operator-none, operator-bad, field-missing, field-bad, value-short, value-whole, room-none, room-test, next-test}
+use Rattle.arguments.proofs.Branches.{type-bad, operator-missing, operator-none, operator-bad, field-missing, field-bad, value-short, value-whole}
+use Rattle.arguments.proofs.Branches.{room-none, room-test, next-test}
 
 -- an argument that was read, and the list that was read behind it
 abbrev pub added : Argument → ListRead → ListRead
