@@ -1,19 +1,32 @@
 -- One argument, by the tests it passes: what each leaves of `argumentAt`. Assumes nothing.
-use mathlib.Core.Path.{_≡_, sym}
+use mathlib.Core.Path.{_≡_, ap, sym, _∙_}
 use mathlib.Core.Bool.{true, false}
 use Prim.Native.Nat.{ℕ, _+_, _<_, _≤_}
+use native.Mathlib.Omega.{arith}
 use lib.ListN.{length}
 use borrow.Author.Tests.{lt-ltb, le-ltb, le-leb, lt-leb, eq-eqb, ne-eqb}
 use Rattle.terms.specs.declared.TypeCode.{TypeCode}
-use Rattle.terms.specs.declared.Operator.{Operator}
-use Rattle.terms.specs.declared.Qualification.the-variants.{None, Test}
+use Rattle.terms.specs.declared.Argument.{Argument}
 use Rattle.terms.specs.declared.Status.the-variants.{AC, AJ, AK}
 use Rattle.terms.specs.declared.ArgumentRead.the-variants.{Got, Fault}
 use Rattle.terms.specs.Names.{code, field}
 use Rattle.blocks.proofs.PastTheEnd.{byte-past}
 use Rattle.rules.specs.Block.{Bytes, byte}
 use Rattle.rules.specs.Catalogue.{fieldLength, isType}
-use Rattle.rules.specs.Arguments.{operatorOf, goodNext, isFieldOf, argumentAt}
+use Rattle.rules.specs.Arguments.{goodNext, isFieldOf, argumentAt}
+use Rattle.arguments.specs.Sound.{qualificationAt, nextAt, untested, Room}
+
+-- an argument that its operator ends, and one with a test
+module _ (list : Bytes) (at : ℕ) (h : at + 1 < length list) where
+  pub room-none : byte list (at + 1) ≡ 0 → Room list at
+  room-none z = record { operator = h; number = λ d. absurd (d z) }
+
+  pub room-test : at + 2 < length list → Room list at
+  room-test k = record { operator = h; number = λ d. k }
+
+pub next-test : (cat list : Bytes) (at : ℕ) → (byte list (at + 1) ≡ 0 → ⊥) → nextAt cat list at ≡ at + 3 + fieldLength cat (field (byte list (at + 2)))
+unfolding nextAt
+next-test cat list at z = simp (ne-eqb (byte list (at + 1)) 0 z)
 
 module _ (cat list : Bytes) (before : TypeCode) (at : ℕ) where
   pub type-bad : goodNext cat list before (code (byte list at)) ≡ false → Fault AC ≡ argumentAt cat list before at
@@ -31,9 +44,11 @@ module _ (cat list : Bytes) (before : TypeCode) (at : ℕ) where
     operator-missing h = simp (n, le-leb (length list) (at + 1) h)
 
     module _ (h : at + 1 < length list) where
-      pub operator-none : byte list (at + 1) ≡ 0 → Got (record { code = code (byte list at); qualification = None; next = at + 2 }) ≡ argumentAt cat list before at
-      unfolding argumentAt
-      operator-none z = simp (n, lt-leb (length list) (at + 1) h, eq-eqb (byte list (at + 1)) 0 z)
+      pub operator-none : {a : Argument} → byte list (at + 1) ≡ 0 → a ≡ untested cat list at → Got a ≡ argumentAt cat list before at
+      unfolding argumentAt qualificationAt nextAt
+      operator-none z e =
+          let y : Got (untested cat list at) ≡ argumentAt cat list before at = simp (n, lt-leb (length list) (at + 1) h, eq-eqb (byte list (at + 1)) 0 z) in
+          ap Got e ∙ y
 
       module _ (z : byte list (at + 1) ≡ 0 → ⊥) where
         pub operator-bad : 6 < byte list (at + 1) → Fault AJ ≡ argumentAt cat list before at
@@ -50,13 +65,36 @@ module _ (cat list : Bytes) (before : TypeCode) (at : ℕ) where
             unfolding argumentAt
             field-bad f = simp (n, lt-leb (length list) (at + 1) h, ne-eqb (byte list (at + 1)) 0 z, le-ltb 6 (byte list (at + 1)) o, lt-leb (length list) (at + 2) k, f)
 
-            -- w: the length of the field
-            module _ (f : isFieldOf cat list (code (byte list at)) (field (byte list (at + 2))) ≡ true) (w : ℕ) (e : w ≡ fieldLength cat (field (byte list (at + 2)))) where
-              pub value-short : length list < at + 3 + w → Fault AJ ≡ argumentAt cat list before at
-              unfolding argumentAt
-              value-short l = simp (n, lt-leb (length list) (at + 1) h, ne-eqb (byte list (at + 1)) 0 z, le-ltb 6 (byte list (at + 1)) o, lt-leb (length list) (at + 2) k, f, sym e, lt-ltb (length list) (at + 3 + w) l)
+            module _ (f : isFieldOf cat list (code (byte list at)) (field (byte list (at + 2))) ≡ true) {a : Argument} (e : a ≡ untested cat list at) where
+              next-is : a .next ≡ at + 3 + fieldLength cat (field (byte list (at + 2)))
+              next-is = ap (λ (b : Argument). b .next) e ∙ next-test cat list at z
 
-              pub value-whole : (p : Operator) → p ≡ operatorOf (byte list (at + 1)) → at + 3 + w ≤ length list
-                  → Got (record { code = code (byte list at); qualification = Test p (field (byte list (at + 2))) (at + 3); next = at + 3 + w }) ≡ argumentAt cat list before at
+              pub value-short : length list < a .next → Fault AJ ≡ argumentAt cat list before at
               unfolding argumentAt
-              value-whole p q l = simp (n, lt-leb (length list) (at + 1) h, ne-eqb (byte list (at + 1)) 0 z, le-ltb 6 (byte list (at + 1)) o, lt-leb (length list) (at + 2) k, f, sym e, le-ltb (length list) (at + 3 + w) l, q)
+              value-short l =
+                  let m = lt-ltb (length list) (at + 3 + fieldLength cat (field (byte list (at + 2)))) (omega (arith, next-is)) in
+                  simp (
+                    n,
+                    lt-leb (length list) (at + 1) h,
+                    ne-eqb (byte list (at + 1)) 0 z,
+                    le-ltb 6 (byte list (at + 1)) o,
+                    lt-leb (length list) (at + 2) k,
+                    f,
+                    m,
+                  )
+
+              pub value-whole : a .next ≤ length list → Got a ≡ argumentAt cat list before at
+              unfolding argumentAt qualificationAt nextAt
+              value-whole l =
+                  let m = le-ltb (length list) (at + 3 + fieldLength cat (field (byte list (at + 2)))) (omega (arith, next-is)) in
+                  let y : Got (untested cat list at) ≡ argumentAt cat list before at =
+                  simp (
+                    n,
+                    lt-leb (length list) (at + 1) h,
+                    ne-eqb (byte list (at + 1)) 0 z,
+                    le-ltb 6 (byte list (at + 1)) o,
+                    lt-leb (length list) (at + 2) k,
+                    f,
+                    m,
+                  ) in
+                  ap Got e ∙ y

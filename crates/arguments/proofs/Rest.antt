@@ -22,6 +22,7 @@ use Rattle.rules.specs.Catalogue.{fields, fieldType, fieldLength}
 use Rattle.rules.specs.Arguments.{ListRead, operatorOf, goodNext, isFieldOf, argumentAt, argumentsFrom, listRead}
 use Rattle.arguments.specs.Sound.{statusOf, GoodTest, GoodQualification, rest, qualificationAt, nextAt, untested, Room}
 use Rattle.arguments.proofs.Branches.{type-bad, operator-missing, operator-none, operator-bad, field-missing, field-bad, value-short, value-whole}
+use Rattle.arguments.proofs.Branches.{room-none, room-test, next-test}
 
 -- an argument that was read, and the list that was read behind it
 abbrev pub added : Argument → ListRead → ListRead
@@ -70,9 +71,9 @@ module _ (cat list : Bytes) (before : TypeCode) (at : ℕ) (n : goodNext cat lis
   none-sound z =
       let e = eq-eqb (byte list (at + 1)) 0 z in
       record {
-        answer = rw e (sym (operator-none cat list before at n h z));
+        answer = sym (operator-none cat list before at n h z refl);
         type = n;
-        room = record { operator = h; number = λ d. absurd (d z) };
+        room = room-none list at h z;
         onward = rw e (omega arith);
         test = rw e tt;
       }
@@ -83,9 +84,9 @@ module _ (cat list : Bytes) (before : TypeCode) (at : ℕ) (n : goodNext cat lis
   test-sound z o k f l =
       let e = ne-eqb (byte list (at + 1)) 0 z in
       record {
-        answer = rw e (sym (value-whole cat list before at n h z o k f (fieldLength cat (field (byte list (at + 2)))) refl (operatorOf (byte list (at + 1))) refl l));
+        answer = sym (value-whole cat list before at n h z o k f refl (omega (arith, next-test cat list at z)));
         type = n;
-        room = record { operator = h; number = λ d. k };
+        room = room-test list at h k;
         onward = rw e (omega arith);
         test = rw e (good-test cat list (code (byte list at)) at f l);
       }
@@ -100,7 +101,7 @@ module _ (cat list : Bytes) (before : TypeCode) (at : ℕ) (n : goodNext cat lis
         | inside k ↦ elim (is (isFieldOf cat list (code (byte list at)) (field (byte list (at + 2))))) [
           | off f ↦ faulty AK ak-fault (sym (field-bad cat list before at n h nz o k f))
           | on f ↦ (let w : ℕ = fieldLength cat (field (byte list (at + 2))) in elim (side (length list) (at + 3 + w)) [
-            | inside l ↦ faulty AJ aj-fault (sym (value-short cat list before at n h nz o k f w refl l))
+            | inside l ↦ faulty AJ aj-fault (sym (value-short cat list before at n h nz o k f refl (omega (arith, next-test cat list at nz))))
             | outside l ↦ sound (test-sound nz o k f l)
           ])
         ]

@@ -15,10 +15,10 @@ use terms::TypeCode;
 ghost use mathlib.Core.Path.{_≡_};
 ghost use mathlib.Core.List.{[]};
 ghost use Rattle.rules.specs.Arguments.{operatorOf, goodNext, isFieldOf, argumentAt, listRead};
-ghost use Rattle.arguments.specs.Sound.{rest, statusOf};
+ghost use Rattle.arguments.specs.Sound.{Room, untested, rest, statusOf};
 
 // "1 =, 2 ≠, 3 <, 4 ≤, 5 >, 6 ≥". A list with another has answered AJ before this is asked.
-pub fn operator_of(b: u8) -> Operator
+fn operator_of(b: u8) -> Operator
     ensures { λ r. ⌜ r ≡ operatorOf b ⌝ }
 {
     match b {
@@ -28,6 +28,28 @@ pub fn operator_of(b: u8) -> Operator
         4 => Operator::Le,
         5 => Operator::Gt,
         _ => Operator::Ge,
+    }
+}
+
+// The argument that begins at byte `at`, as it stands and with nothing of it tested: the one decoder, of a list that is read and of a sound one.
+pub(crate) fn argument_at(cat: &[u8], list: &[u8], at: usize) -> Argument
+    requires { ⌜ Room (now list) at ⌝ }
+    ensures { λ r. ⌜ r ≡ untested (now (cat .entry)) (now (list .entry)) at ⌝ }
+{
+    let t = TypeCode(list[at]);
+    let o = list[at + 1];
+    if o == 0 {
+        return Argument {
+            code: t,
+            qualification: Qualification::None,
+            next: at + 2,
+        };
+    }
+    let f = FieldNumber(list[at + 2]);
+    Argument {
+        code: t,
+        qualification: Qualification::Test(operator_of(o), f, at + 3),
+        next: at + 3 + wide(field_length(cat, f)),
     }
 }
 
@@ -73,11 +95,7 @@ pub fn read_argument(cat: &[u8], list: &[u8], before: TypeCode, at: usize) -> Ar
     }
     let o = list[at + 1];
     if o == 0 {
-        return ArgumentRead::Got(Argument {
-            code: t,
-            qualification: Qualification::None,
-            next: at + 2,
-        });
+        return ArgumentRead::Got(argument_at(cat, list, at));
     }
     if 6 < o {
         return ArgumentRead::Fault(Status::AJ);
@@ -85,19 +103,14 @@ pub fn read_argument(cat: &[u8], list: &[u8], before: TypeCode, at: usize) -> Ar
     if list.len() <= at + 2 {
         return ArgumentRead::Fault(Status::AJ);
     }
-    let f = FieldNumber(list[at + 2]);
-    if !is_field_of(cat, t, f) {
+    if !is_field_of(cat, t, FieldNumber(list[at + 2])) {
         return ArgumentRead::Fault(Status::AK);
     }
-    let next = at + 3 + wide(field_length(cat, f));
-    if list.len() < next {
+    let a = argument_at(cat, list, at);
+    if list.len() < a.next {
         return ArgumentRead::Fault(Status::AJ);
     }
-    ArgumentRead::Got(Argument {
-        code: t,
-        qualification: Qualification::Test(operator_of(o), f, at + 3),
-        next: next,
-    })
+    ArgumentRead::Got(a)
 }
 
 // What a fault answers.

@@ -1,15 +1,14 @@
 -- The parent that a search along the position finds: a cell in use, and of the type that the list was completed down to. Assumes nothing.
 use mathlib.Core.Path.{_≡_, refl, ap, sym, _∙_}
-use mathlib.Core.Bool.{true, _&&_, _||_}
+use mathlib.Core.Bool.{Bool, true, false, _&&_, _||_}
 use mathlib.Core.List.{List}
 use Prim.Native.Nat.{ℕ, zero, suc, _+_, _-_, _<_, _≤_}
 use native.Mathlib.Omega.{arith}
 use lib.Dec.{eqb}
 use lib.ListN.{length}
-use borrow.Author.Tests.{eqb-true}
+use borrow.Author.Tests.{eqb-true, eq-eqb}
 use Rattle.terms.specs.declared.TypeCode.{TypeCode}
 use Rattle.terms.specs.declared.CellNumber.{CellNumber}
-use Rattle.terms.specs.declared.Argument.{Argument}
 use Rattle.terms.specs.declared.Place.{Place}
 use Rattle.terms.specs.declared.Position.{Position}
 use Rattle.terms.specs.declared.Found.{Found}
@@ -36,9 +35,11 @@ use Rattle.search.specs.Stretch.{levels, stretch, stretchBefore}
 use Rattle.search.proofs.Carry.{full-agrees}
 use Rattle.search.proofs.Levels.{agrees-own}
 use Rattle.search.proofs.Branches.{steps, level-some, carried-cell, match-stretch, kept-place, end-in, known-parent}
-use Rattle.twins.specs.Among.{New, Beneath, child}
+use Rattle.twins.specs.Among.{New, Beneath, top, child}
 use Rattle.twins.proofs.Passing.{type-same}
 use Rattle.answers.specs.Ready.{Ready}
+use Rattle.changes.specs.declared.insert.Parented.the-variants.{Among}
+use Rattle.changes.specs.Among.{parentedAt, parented}
 use Rattle.changes.proofs.Keys.{area-long}
 use Rattle.changes.proofs.Changed.{place-good}
 
@@ -114,12 +115,9 @@ module _ {cat tab list : Bytes} {size : ℕ} {t : TypeCode} (g : Good cat tab li
   unfolding along
   along-found q c h e = kept-found (kept cat cs ls q) c (λ d f. kept-place g q d h (sym f)) e
 
--- what ISRT has of its list: the last argument, which the code has read, and the parent of its type
+-- what ISRT has of its list: the last argument's type, which the code has read, and the parent of that
 module _ {cat tab list : Bytes} {size : ℕ} {pos : Position} (r : Ready cat tab size pos list) (filled : 0 < length list)
-    {last : Argument} (same : last ≡ lastArgument (listRead cat list .arguments)) where
-  abbrev t : TypeCode
-  t = last .code
-
+    {t : TypeCode} (same : t ≡ lastArgument (listRead cat list .arguments) .code) where
   sound-list : SoundList cat list
   sound-list = record { catalogue = r .sound .catalogue; read = r .asked }
 
@@ -156,6 +154,30 @@ module _ {cat tab list : Bytes} {size : ℕ} {pos : Position} (r : Ready cat tab
       pub parent-in : c .0 < count tab
       parent-in = found .0
 
-      -- so all the cells beneath it are those where the new one may go
-      pub parent-beneath : {end : ℕ} → end ≡ endAt cat (listing cat tab) (c .0) → Beneath cat tab t (c .0 + 1) end
-      parent-beneath f = child (c .0) (found .0) (found .1 ∙ e) refl f
+  -- the levels of the promise are those down to the parent's type
+  abbrev asked : Found
+  asked = along cat (listing cat tab) (parentLevels cat list (listRead cat list .arguments)) (pos .place)
+
+  found-beneath : (beneath : t .0 ≡ 1 → ⊥) (q : Found) → q ≡ asked → {from to : ℕ} {d : Bool}
+      → Among from to d ≡ parentedAt cat (listing cat tab) pos q → Beneath cat tab t from to
+  found-beneath beneath Nothing h f = absurd (let z : _≡_ {A = ℕ} 0 1 = cc in omega arith)
+  found-beneath beneath (At c) h {from} {to} f =
+      let g : At c ≡ along cat (listing cat tab) (levels cat list (parentOf cat t)) (pos .place) = rw same h in
+      let a = found refl beneath g in
+      let y : from ≡ suc (c .0) = cc in
+      child (c .0) (a .0) (a .1) (omega (arith, y)) cc
+
+  -- LAW: the cells that the parent leads to are all those where the new one may go
+  pub parented-beneath : {from to : ℕ} {d : Bool}
+      → Among from to d ≡ parented cat (listing cat tab) pos t (parentLevels cat list (listRead cat list .arguments)) → Beneath cat tab t from to
+  unfolding parented
+  parented-beneath {from} {to} {d} f = elim (is (eqb (t .0) 1)) [
+    | on k ↦
+        let z : Among from to d ≡ Among 0 (length (listing cat tab)) false = rw k at f in
+        let x : from ≡ 0 = cc in
+        let y : to ≡ length (listing cat tab) = cc in
+        top (eqb-true (t .0) 1 k) x (y ∙ listing-length cat tab)
+    | off k ↦
+        let z : Among from to d ≡ parentedAt cat (listing cat tab) pos asked = rw k at f in
+        found-beneath (λ e. let y : true ≡ false = sym (eq-eqb (t .0) 1 e) ∙ k in absurd (let o : _≡_ {A = ℕ} 0 1 = cc in omega arith)) asked refl z
+  ]

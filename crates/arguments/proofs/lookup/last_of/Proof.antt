@@ -1,6 +1,8 @@
 use Prim.Native.Nat.{_-_}
 use native.Mathlib.Omega.{arith}
+use mathlib.Core.Path.{ap}
 use lib.ListN.{length}
+use Rattle.terms.specs.declared.Argument.{Argument}
 use Rattle.arguments.proofs.Walk.{Passed, passed-start, passed-end, passed-room, passed-onward, passed-next}
 use Rattle.arguments.proofs.lookup.last_of.Statement.{statement}
 use Rattle.arguments.proofs.lookup.last_of.Tie as tie
@@ -15,34 +17,24 @@ loop-holds : tie.Need-loop-holds Inv-loop μ-loop
 loop-holds c = let ·args = c .before .before .args in let ·pre = c .before .before .pre in
     passed-start (·args .cat .now) (·args .list .now) (·pre)
 
-shared-slice-read-t10 : tie.Need-shared-slice-read-t10 Inv-loop μ-loop
-shared-slice-read-t10 c = omega arith
-
-qualification-at-requires : tie.Need-qualification-at-requires Inv-loop μ-loop
-qualification-at-requires c κs = let ·args = c .before .before .before .before .before .before .args in
-    passed-room (·args .cat .now) (·args .list .now) (c .before .before .before .loop .last) (omega arith)
-    (c .before .before .before .loop .inv)
-
-next-at-requires : tie.Need-next-at-requires Inv-loop μ-loop
-next-at-requires c κs = let ·args = c .before .before .before .before .before .before .before .args in
-    passed-room (·args .cat .now) (·args .list .now) (c .before .before .before .before .loop .last) (omega arith)
-    (c .before .before .before .before .loop .inv)
+argument-at-requires : tie.Need-argument-at-requires Inv-loop μ-loop
+argument-at-requires c κs = let ·args = c .before .before .before .before .before .args in
+    passed-room (·args .cat .now) (·args .list .now) (c .before .before .loop .last) (omega arith)
+    (c .before .before .loop .inv)
 
 loop-less : tie.Need-loop-less Inv-loop μ-loop
-loop-less c = let ·args = c .before .before .before .before .before .before .before .before .args in
+loop-less c = let ·args = c .before .before .before .before .before .before .args in
     omega (
       arith,
-      passed-onward (·args .cat .now) (·args .list .now)
-          (c .before .before .before .before .before .loop .last) (omega arith)
-          (c .before .before .before .before .before .loop .inv),
-      c .next-at .ensures,
+      passed-onward (·args .cat .now) (·args .list .now) (c .before .before .before .loop .last)
+          (omega arith) (c .before .before .before .loop .inv),
+      ap (λ (a : Argument). a .next) (c .argument-at .ensures),
     )
 
 loop-again : tie.Need-loop-again Inv-loop μ-loop
-loop-again c = let ·args = c .before .before .before .before .before .before .before .before .args in
-    passed-next (·args .cat .now) (·args .list .now) (c .before .before .before .before .before .loop .last)
-    (omega arith) (c .before .before .before .before .before .loop .inv)
-    (cc (c .before .qualification-at .ensures, c .next-at .ensures))
+loop-again c = let ·args = c .before .before .before .before .before .before .args in
+    passed-next (·args .cat .now) (·args .list .now) (c .before .before .before .loop .last) (omega arith)
+    (c .before .before .before .loop .inv) (c .argument-at .ensures)
 
 returns : tie.Need-returns Inv-loop μ-loop
 returns c = let ·args = c .before .before .before .before .before .args in
@@ -56,9 +48,7 @@ last-of-spec =
     Inv-loop
     μ-loop
     loop-holds
-    shared-slice-read-t10
-    qualification-at-requires
-    next-at-requires
+    argument-at-requires
     loop-less
     loop-again
     returns)

@@ -1,6 +1,8 @@
 use Prim.Native.Nat.{_-_}
 use native.Mathlib.Omega.{arith}
+use mathlib.Core.Path.{ap}
 use lib.ListN.{length}
+use Rattle.terms.specs.declared.Argument.{Argument}
 use Rattle.arguments.proofs.Walk.{Sought, sought-start, sought-end, sought-room, sought-onward, sought-here, sought-next}
 use Rattle.arguments.proofs.lookup.wanted.Statement.{statement}
 use Rattle.arguments.proofs.lookup.wanted.Tie as tie
@@ -18,8 +20,8 @@ loop-holds c = let ·args = c .before .before .args in let ·pre = c .before .be
 shared-slice-read-if1 : tie.Need-shared-slice-read-if1 Inv-loop μ-loop
 shared-slice-read-if1 c = omega arith
 
-qualification-at-requires : tie.Need-qualification-at-requires Inv-loop μ-loop
-qualification-at-requires c κs = let ·args = c .before .before .before .before .before .before .before .args in
+argument-at-requires : tie.Need-argument-at-requires Inv-loop μ-loop
+argument-at-requires c κs = let ·args = c .before .before .before .before .before .before .before .args in
     let ·loop = c .before .before .before .before .loop in let ·loop-test = c .before .before .before .loop-test in
     sought-room (·args .cat .now) (·args .list .now) (·args .t) (·loop .at) (·loop-test .taken) (·loop .inv)
 
@@ -28,10 +30,10 @@ returns c = let ·args = c .before .before .before .before .before .before .befo
     let ·loop = c .before .before .before .before .before .loop in
     let ·loop-test = c .before .before .before .before .loop-test in
     sought-here (·args .cat .now) (·args .list .now) (·args .t) (·loop .at) (·loop-test .taken) (·loop .inv)
-    (c .before .if1 .taken) (c .qualification-at .ensures)
+    (c .before .if1 .taken) (ap (λ (a : Argument). a .qualification) (c .argument-at .ensures))
 
-next-at-requires : tie.Need-next-at-requires Inv-loop μ-loop
-next-at-requires c κs = let ·args = c .before .before .before .before .before .before .before .args in
+argument-at-requires-2 : tie.Need-argument-at-requires-2 Inv-loop μ-loop
+argument-at-requires-2 c κs = let ·args = c .before .before .before .before .before .before .before .args in
     let ·loop = c .before .before .before .before .loop in let ·loop-test = c .before .before .before .loop-test in
     sought-room (·args .cat .now) (·args .list .now) (·args .t) (·loop .at) (·loop-test .taken) (·loop .inv)
 
@@ -42,7 +44,7 @@ loop-less c = let ·args = c .before .before .before .before .before .before .be
       sought-onward (·args .cat .now) (·args .list .now) (·args .t)
           (c .before .before .before .before .before .loop .at) (c .before .before .before .before .loop-test .taken)
           (c .before .before .before .before .before .loop .inv),
-      c .next-at .ensures,
+      ap (λ (a : Argument). a .next) (c .argument-at2 .ensures),
     )
 
 loop-again : tie.Need-loop-again Inv-loop μ-loop
@@ -50,7 +52,7 @@ loop-again c = let ·args = c .before .before .before .before .before .before .b
     let ·loop = c .before .before .before .before .before .loop in
     let ·loop-test = c .before .before .before .before .loop-test in
     sought-next (·args .cat .now) (·args .list .now) (·args .t) (·loop .at) (·loop-test .taken) (·loop .inv)
-    (c .before .if1 .left) (c .next-at .ensures)
+    (c .before .if1 .left) (ap (λ (a : Argument). a .next) (c .argument-at2 .ensures))
 
 returns-2 : tie.Need-returns-2 Inv-loop μ-loop
 returns-2 c = let ·args = c .before .before .before .before .args in
@@ -65,9 +67,9 @@ wanted-spec =
     μ-loop
     loop-holds
     shared-slice-read-if1
-    qualification-at-requires
+    argument-at-requires
     returns
-    next-at-requires
+    argument-at-requires-2
     loop-less
     loop-again
     returns-2)

@@ -1,0 +1,102 @@
+use Rattle.changes.proofs.Spots.{parented-top, parented-none, parented-child}
+use Rattle.changes.proofs.Parent.{place-ready, parent-ready, parent-levels, parent-in}
+use Rattle.rules.proofs.Cells.{listing-length}
+use Rattle.rules.specs.Table.{listing}
+use native.Mathlib.Omega.{arith}
+use mathlib.Core.Path.{sym, _∙_}
+use borrow.Author.Needs.{needs}
+use Rattle.changes.proofs.insert.found_parent.Statement.{statement}
+use Rattle.changes.proofs.insert.found_parent.Tie as tie
+
+count-requires : tie.Need-count-requires
+count-requires c κs = search needs
+
+returns : tie.Need-returns
+returns c = let ·args = c .before .before .before .before .before .before .args in
+    parented-top (·args .cat .now) (listing (·args .cat .now) (·args .tab .now)) (·args .pos) (·args .t) _
+    (c .before .if1 .taken) _ (c .count .ensures .0 ∙ sym (listing-length (·args .cat .now) (·args .tab .now)))
+
+parent-requires : tie.Need-parent-requires
+parent-requires c κs = search needs
+
+along-requires : tie.Need-along-requires
+along-requires c κs = let ·pre = c .before .before .before .before .before .before .pre in
+    (parent-ready (·pre .0) (·pre .1) (·pre .2) (c .parent .ensures), place-ready (·pre .0) (·pre .1) (·pre .2))
+
+enum-known-p : tie.Need-enum-known-p
+enum-known-p c = search needs
+
+enum-told : tie.Need-enum-told
+enum-told c = search needs
+
+returns-2 : tie.Need-returns-2
+returns-2 c = let ·args = c .before .before .before .before .before .before .before .before .before .args in
+    let ·if1 = c .before .before .before .before .if1 in
+    let ·pre = c .before .before .before .before .before .before .before .before .before .pre in
+    let ·parent = c .before .before .before .parent in let ·along = c .before .before .along in
+    parented-none (·args .cat .now) (listing (·args .cat .now) (·args .tab .now)) (·args .pos) (·args .t) _ (·if1 .left)
+    (parent-levels (·pre .0) (·pre .1) (·pre .2) (·parent .ensures) (sym (c .enum-told .given .1) ∙ ·along .ensures))
+
+run-end-requires : tie.Need-run-end-requires
+run-end-requires c κs =
+    let ·pre = c .before .before .before .before .before .before .before .before .before .before .pre in
+    let ·parent = c .before .before .before .before .parent in
+    let ·if1 = c .before .before .before .before .before .if1 in let ·along = c .before .before .before .along in (
+      ·pre .0 .sound,
+      parent-in (·pre .0) (·pre .1) (·pre .2) (·parent .ensures) (·if1 .left)
+          (sym (c .before .p .given .1) ∙ ·along .ensures),
+    )
+
+is-one-of-row-requires : tie.Need-is-one-of-row-requires
+is-one-of-row-requires c κs =
+    let ·pre = c .before .before .before .before .before .before .before .before .before .before .before .pre in
+    let ·parent = c .before .before .before .before .before .parent in
+    let ·if1 = c .before .before .before .before .before .before .if1 in let ·p = c .before .before .p in
+    let ·along = c .before .before .before .before .along in (
+      ·pre .0 .sound,
+      parent-in (·pre .0) (·pre .1) (·pre .2) (·parent .ensures) (·if1 .left)
+          (sym (·p .given .1) ∙ ·along .ensures),
+    )
+
+add-t17 : tie.Need-add-t17
+add-t17 c = omega (
+  arith,
+  parent-in (c .before .before .before .before .before .before .before .before .before
+      .before .before .before .before .pre .0) (c .before .before .before .before .before .before .before .before .before
+      .before .before .before .before .pre .1) (c .before .before .before .before .before .before .before .before .before
+      .before .before .before .before .pre .2) (c .before .before .before .before .before .before .before .parent
+      .ensures) (c .before .before .before .before .before .before .before .before .if1 .left)
+      (sym (c .before .before .before .before .p .given .1) ∙
+      c .before .before .before .before .before .before .along .ensures),
+  c .before .before .before .before .before .before .before .before .before .before .before .before .before .pre .0
+      .sound .sized .few,
+)
+
+returns-3 : tie.Need-returns-3
+returns-3 c =
+    let ·args = c .before .before .before .before .before .before .before .before .before .before .before .before
+    .before .args in let ·if1 = c .before .before .before .before .before .before .before .before .if1 in
+    let ·pre = c .before .before .before .before .before .before .before .before .before .before .before .before .before
+    .pre in let ·parent = c .before .before .before .before .before .before .before .parent in
+    let ·p = c .before .before .before .before .p in
+    let ·along = c .before .before .before .before .before .before .along in
+    let ·run-end = c .before .before .run-end in
+    parented-child (·args .cat .now) (listing (·args .cat .now) (·args .tab .now)) (·args .pos) (·args .t) _
+    (·if1 .left) _ _ _ (parent-levels (·pre .0) (·pre .1) (·pre .2) (·parent .ensures)
+    (sym (·p .given .1) ∙ ·along .ensures)) (·run-end .ensures) (c .before .is-one-of-row .ensures)
+
+pub found-parent-spec : {M : Type 1} → statement M
+found-parent-spec =
+    tie.close
+    (tie.spec
+    count-requires
+    returns
+    parent-requires
+    along-requires
+    enum-known-p
+    enum-told
+    returns-2
+    run-end-requires
+    is-one-of-row-requires
+    add-t17
+    returns-3)
