@@ -48,7 +48,9 @@ fn has_key(cat: &[u8], tab: &[u8], size: usize, c: CellNumber, t: TypeCode, area
 // "stores the area's first L bytes in the held cell"
 pub fn replace(cat: &[u8], tab: &mut [u8], size: usize, pos: Position, area: &[u8]) -> Answer
     requires { ⌜ Held (now cat) (now tab) size pos × (size ≤ suc (length (now area))) ⌝ }
-    ensures { λ r. ⌜ made r (now (tab .exit)) (now (area .entry)) ≡ landed (now (cat .entry)) (now (tab .entry)) (replace (now (cat .entry)) (listing (now (cat .entry)) (now (tab .entry))) pos (now (area .entry))) ⌝ }
+    ensures { λ r. ⌜ made r (now (tab .exit)) (now (area .entry))
+        ≡ landed (now (cat .entry)) (now (tab .entry))
+        (replace (now (cat .entry)) (listing (now (cat .entry)) (now (tab .entry))) pos (now (area .entry))) ⌝ }
 {
     let c = pos.cell();
     let t = code_at(cat, tab, size, c);
@@ -62,7 +64,8 @@ pub fn replace(cat: &[u8], tab: &mut [u8], size: usize, pos: Position, area: &[u
 // "removes the held cell's run; later cells move down, freed cells become zero"
 pub fn delete(cat: &[u8], tab: &mut [u8], size: usize, pos: Position) -> Answer
     requires { ⌜ Held (now cat) (now tab) size pos ⌝ }
-    ensures { λ r. ⌜ ((area : Bytes) → made r (now (tab .exit)) area ≡ landed (now (cat .entry)) (now (tab .entry)) (delete (now (cat .entry)) (listing (now (cat .entry)) (now (tab .entry))) pos area)) ⌝ }
+    ensures { λ r. ⌜ ((area : Bytes) → made r (now (tab .exit)) area
+        ≡ landed (now (cat .entry)) (now (tab .entry)) (delete (now (cat .entry)) (listing (now (cat .entry)) (now (tab .entry))) pos area)) ⌝ }
 {
     let c = pos.cell();
     let t = code_at(cat, tab, size, c);

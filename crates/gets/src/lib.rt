@@ -79,7 +79,8 @@ pub fn level_status(
     c: CellNumber,
 ) -> Status
     requires { ⌜ Ready (now cat) (now tab) size pos (now list) × (c .0 < count (now tab)) ⌝ }
-    ensures { λ r. ⌜ r ≡ levelStatus (now (cat .entry)) (listing (now (cat .entry)) (now (tab .entry))) (getLevels (now (cat .entry)) (now (list .entry)) (listRead (now (cat .entry)) (now (list .entry)) .arguments)) (pos .place) (c .0) ⌝ }
+    ensures { λ r. ⌜ r ≡ levelStatus (now (cat .entry)) (listing (now (cat .entry)) (now (tab .entry)))
+        (getLevels (now (cat .entry)) (now (list .entry)) (listRead (now (cat .entry)) (now (list .entry)) .arguments)) (pos .place) (c .0) ⌝ }
 {
     if list.len() != 0 {
         return Status::Blank;
@@ -132,7 +133,9 @@ pub fn get_unique(
     hold: bool,
 ) -> Answer
     requires { ⌜ Ready (now cat) (now tab) size pos (now list) × (size ≤ suc (length (now area))) ⌝ }
-    ensures { λ r. ⌜ left r (now (area .exit)) ≡ getUnique (now (cat .entry)) (listing (now (cat .entry)) (now (tab .entry))) pos (now (area .entry)) hold (getLevels (now (cat .entry)) (now (list .entry)) (listRead (now (cat .entry)) (now (list .entry)) .arguments)) ⌝ }
+    ensures { λ r. ⌜ left r (now (area .exit))
+        ≡ getUnique (now (cat .entry)) (listing (now (cat .entry)) (now (tab .entry))) pos (now (area .entry)) hold
+        (getLevels (now (cat .entry)) (now (list .entry)) (listRead (now (cat .entry)) (now (list .entry)) .arguments)) ⌝ }
 {
     let place = pos.place;
     let t = last_of(cat, list).code;
@@ -163,7 +166,9 @@ pub fn get_next(
     hold: bool,
 ) -> Answer
     requires { ⌜ Ready (now cat) (now tab) size pos (now list) × (size ≤ suc (length (now area))) ⌝ }
-    ensures { λ r. ⌜ left r (now (area .exit)) ≡ getNext (now (cat .entry)) (listing (now (cat .entry)) (now (tab .entry))) pos (now (area .entry)) hold (getLevels (now (cat .entry)) (now (list .entry)) (listRead (now (cat .entry)) (now (list .entry)) .arguments)) ⌝ }
+    ensures { λ r. ⌜ left r (now (area .exit))
+        ≡ getNext (now (cat .entry)) (listing (now (cat .entry)) (now (tab .entry))) pos (now (area .entry)) hold
+        (getLevels (now (cat .entry)) (now (list .entry)) (listRead (now (cat .entry)) (now (list .entry)) .arguments)) ⌝ }
 {
     let place = pos.place;
     let t = last_of(cat, list).code;
@@ -187,7 +192,9 @@ pub fn get_next_cell(
     hold: bool,
 ) -> Answer
     requires { ⌜ Ready (now cat) (now tab) size pos (now list) × (size ≤ suc (length (now area))) × (length (now list) ≡ 0) ⌝ }
-    ensures { λ r. ⌜ left r (now (area .exit)) ≡ getNext (now (cat .entry)) (listing (now (cat .entry)) (now (tab .entry))) pos (now (area .entry)) hold (getLevels (now (cat .entry)) (now (list .entry)) (listRead (now (cat .entry)) (now (list .entry)) .arguments)) ⌝ }
+    ensures { λ r. ⌜ left r (now (area .exit))
+        ≡ getNext (now (cat .entry)) (listing (now (cat .entry)) (now (tab .entry))) pos (now (area .entry)) hold
+        (getLevels (now (cat .entry)) (now (list .entry)) (listRead (now (cat .entry)) (now (list .entry)) .arguments)) ⌝ }
 {
     let place = pos.place;
     let i = after_place(place);
@@ -224,7 +231,9 @@ fn get_next_cell_within(
     p: CellNumber,
 ) -> Answer
     requires { ⌜ Ready (now cat) (now tab) size pos (now list) × (size ≤ suc (length (now area))) × (length (now list) ≡ 0) × (pos .parentage ≡ Of p) ⌝ }
-    ensures { λ r. ⌜ left r (now (area .exit)) ≡ getNextWithin (now (cat .entry)) (listing (now (cat .entry)) (now (tab .entry))) pos (now (area .entry)) hold (getLevels (now (cat .entry)) (now (list .entry)) (listRead (now (cat .entry)) (now (list .entry)) .arguments)) ⌝ }
+    ensures { λ r. ⌜ left r (now (area .exit))
+        ≡ getNextWithin (now (cat .entry)) (listing (now (cat .entry)) (now (tab .entry))) pos (now (area .entry)) hold
+        (getLevels (now (cat .entry)) (now (list .entry)) (listRead (now (cat .entry)) (now (list .entry)) .arguments)) ⌝ }
 {
     let place = pos.place;
     let i = after_place(place);
@@ -247,7 +256,9 @@ pub fn get_next_within(
     hold: bool,
 ) -> Answer
     requires { ⌜ Ready (now cat) (now tab) size pos (now list) × (size ≤ suc (length (now area))) × (isAbsent (pos .parentage) ≡ false) ⌝ }
-    ensures { λ r. ⌜ left r (now (area .exit)) ≡ getNextWithin (now (cat .entry)) (listing (now (cat .entry)) (now (tab .entry))) pos (now (area .entry)) hold (getLevels (now (cat .entry)) (now (list .entry)) (listRead (now (cat .entry)) (now (list .entry)) .arguments)) ⌝ }
+    ensures { λ r. ⌜ left r (now (area .exit))
+        ≡ getNextWithin (now (cat .entry)) (listing (now (cat .entry)) (now (tab .entry))) pos (now (area .entry)) hold
+        (getLevels (now (cat .entry)) (now (list .entry)) (listRead (now (cat .entry)) (now (list .entry)) .arguments)) ⌝ }
 {
     let place = pos.place;
     let parentage = pos.parentage;

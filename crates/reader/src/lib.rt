@@ -1,4 +1,5 @@
-// The get-next reader: "issues GN with an empty list from fresh to the first GB". It holds the blocks, the list and how far it has come; what it does is one covered call.
+// The get-next reader: "issues GN with an empty list from fresh to the first GB". It holds the blocks, the list and how far it has come; what
+// it does is one covered call.
 use gets::level_status;
 use search::forward::forward;
 use terms::CellNumber;
@@ -47,7 +48,8 @@ fn sought(
     to: usize,
 ) -> Found
     requires { ⌜ Reading (now cat) (now tab) (now list) size code long at to ⌝ }
-    ensures { λ r. ⌜ r ≡ firstMatch (now (cat .entry)) (listing (now (cat .entry)) (now (tab .entry))) (levels (now (cat .entry)) (now (list .entry)) (typeOf code)) at to ⌝ }
+    ensures { λ r. ⌜ r ≡ firstMatch (now (cat .entry)) (listing (now (cat .entry)) (now (tab .entry)))
+        (levels (now (cat .entry)) (now (list .entry)) (typeOf code)) at to ⌝ }
 {
     if to <= at {
         return Found::Nothing;
@@ -107,7 +109,8 @@ pub fn new<'a, 'b, 'c>(
     at: usize,
     to: usize,
 ) -> Reader<'a, 'b, 'c>
-    ensures { λ r. ⌜ (r .cat ≡ cat .entry) × (r .tab ≡ tab .entry) × (r .list ≡ list .entry) × (r .size ≡ size) × (r .code ≡ code) × (r .long ≡ long) × (r .at ≡ at) × (r .to ≡ to) ⌝ }
+    ensures { λ r. ⌜ (r .cat ≡ cat .entry) × (r .tab ≡ tab .entry) × (r .list ≡ list .entry) × (r .size ≡ size) × (r .code ≡ code) × (r .long ≡ long)
+        × (r .at ≡ at) × (r .to ≡ to) ⌝ }
 {
     Reader {
         cat,

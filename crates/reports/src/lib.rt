@@ -64,7 +64,8 @@ fn found_by(
     out: &mut [u8],
 ) -> usize
     requires { ⌜ GivenBoth (now cat) (now tab) (now one) (now two) size × (now list ≡ now one ++ now two) ⌝ }
-    ensures { λ r. ⌜ (r ≡ length (picked (now (cat .entry)) (now (tab .entry)) (now (one .entry) ++ now (two .entry)))) × (now (out .exit) ≡ shownFrom 0 (picked (now (cat .entry)) (now (tab .entry)) (now (one .entry) ++ now (two .entry))) (now (out .entry))) ⌝ }
+    ensures { λ r. ⌜ (r ≡ length (picked (now (cat .entry)) (now (tab .entry)) (now (one .entry) ++ now (two .entry))))
+        × (now (out .exit) ≡ shownFrom 0 (picked (now (cat .entry)) (now (tab .entry)) (now (one .entry) ++ now (two .entry))) (now (out .entry))) ⌝ }
 {
     match way {
         Way::Nested => nested_sound(cat, tab, size, one, two, out),
@@ -85,7 +86,8 @@ fn shown_by(
     out: &mut [u8],
 ) -> Report
     requires { ⌜ GivenBoth (now cat) (now tab) (now one) (now two) size × (now list ≡ now one ++ now two) ⌝ }
-    ensures { λ r. ⌜ reported r (now (out .exit)) ≡ showing (picked (now (cat .entry)) (now (tab .entry)) (now (one .entry) ++ now (two .entry))) (now (out .entry)) ⌝ }
+    ensures { λ r. ⌜ reported r (now (out .exit))
+        ≡ showing (picked (now (cat .entry)) (now (tab .entry)) (now (one .entry) ++ now (two .entry))) (now (out .entry)) ⌝ }
 {
     if 2 * count(tab) <= out.len() {
         return shows(found_by(way, cat, tab, size, one, two, list, out));

@@ -23,7 +23,8 @@ pub(crate) fn nested_sound(
     out: &mut [u8],
 ) -> usize
     requires { ⌜ GivenBoth (now cat) (now tab) (now one) (now two) size ⌝ }
-    ensures { λ r. ⌜ (r ≡ length (picked (now (cat .entry)) (now (tab .entry)) (now (one .entry) ++ now (two .entry)))) × (now (out .exit) ≡ shownFrom 0 (picked (now (cat .entry)) (now (tab .entry)) (now (one .entry) ++ now (two .entry))) (now (out .entry))) ⌝ }
+    ensures { λ r. ⌜ (r ≡ length (picked (now (cat .entry)) (now (tab .entry)) (now (one .entry) ++ now (two .entry))))
+        × (now (out .exit) ≡ shownFrom 0 (picked (now (cat .entry)) (now (tab .entry)) (now (one .entry) ++ now (two .entry))) (now (out .entry))) ⌝ }
 {
     let n = count(tab);
     let t = last_of(cat, one).code;

@@ -25,7 +25,8 @@ ghost use Rattle.reports.specs.Given.{Given};
 // Whether a segment satisfies every argument for its type.
 fn heeds(cat: &[u8], tab: &[u8], size: usize, list: &[u8], c: CellNumber) -> bool
     requires { ⌜ Given (now cat) (now tab) (now list) size × (c .0 < count (now tab)) ⌝ }
-    ensures { λ r. ⌜ r ≡ every (heeds (now (cat .entry)) (now (list .entry)) (segment (listing (now (cat .entry)) (now (tab .entry))) (c .0))) (listRead (now (cat .entry)) (now (list .entry)) .arguments) ⌝ }
+    ensures { λ r. ⌜ r ≡ every (heeds (now (cat .entry)) (now (list .entry)) (segment (listing (now (cat .entry)) (now (tab .entry))) (c .0)))
+        (listRead (now (cat .entry)) (now (list .entry)) .arguments) ⌝ }
 {
     match wanted(cat, list, code_at(cat, tab, size, c)) {
         Wanted::Implied => true,
@@ -36,7 +37,9 @@ fn heeds(cat: &[u8], tab: &[u8], size: usize, list: &[u8], c: CellNumber) -> boo
 // Whether it and its ancestors do: one call for a level.
 fn row_heeds(cat: &[u8], tab: &[u8], size: usize, list: &[u8], c: CellNumber) -> bool
     requires { ⌜ Given (now cat) (now tab) (now list) size × (c .0 < count (now tab)) ⌝ }
-    ensures { λ r. ⌜ r ≡ every (λ j. every (heeds (now (cat .entry)) (now (list .entry)) (segment (listing (now (cat .entry)) (now (tab .entry))) j)) (listRead (now (cat .entry)) (now (list .entry)) .arguments)) (rowAt (now (cat .entry)) (listing (now (cat .entry)) (now (tab .entry))) (c .0)) ⌝ }
+    ensures { λ r. ⌜ r ≡ every (λ j. every (heeds (now (cat .entry)) (now (list .entry)) (segment (listing (now (cat .entry)) (now (tab .entry))) j))
+        (listRead (now (cat .entry)) (now (list .entry)) .arguments))
+        (rowAt (now (cat .entry)) (listing (now (cat .entry)) (now (tab .entry))) (c .0)) ⌝ }
 {
     if !heeds(cat, tab, size, list, c) {
         return false;
@@ -50,7 +53,8 @@ fn row_heeds(cat: &[u8], tab: &[u8], size: usize, list: &[u8], c: CellNumber) ->
 // "A segment matches a list when it has the last type and it and its ancestors satisfy every argument for their type."
 fn meets(cat: &[u8], tab: &[u8], size: usize, list: &[u8], t: TypeCode, c: CellNumber) -> bool
     requires { ⌜ Given (now cat) (now tab) (now list) size × (t ≡ lastArgument (listRead (now cat) (now list) .arguments) .code) × (c .0 < count (now tab)) ⌝ }
-    ensures { λ r. ⌜ r ≡ meets (now (cat .entry)) (now (list .entry)) (listing (now (cat .entry)) (now (tab .entry))) (listRead (now (cat .entry)) (now (list .entry)) .arguments) (c .0) ⌝ }
+    ensures { λ r. ⌜ r ≡ meets (now (cat .entry)) (now (list .entry)) (listing (now (cat .entry)) (now (tab .entry)))
+        (listRead (now (cat .entry)) (now (list .entry)) .arguments) (c .0) ⌝ }
 {
     if code_at(cat, tab, size, c).0 != t.0 {
         return false;
@@ -69,8 +73,12 @@ fn show_met(
     k: usize,
     out: &mut [u8],
 ) -> usize
-    requires { ⌜ Given (now cat) (now tab) (now list) size × (t ≡ lastArgument (listRead (now cat) (now list) .arguments) .code) × (c .0 < count (now tab)) × (k < 65536) ⌝ }
-    ensures { λ r. ⌜ (r ≡ pick (meets (now (cat .entry)) (now (list .entry)) (listing (now (cat .entry)) (now (tab .entry))) (listRead (now (cat .entry)) (now (list .entry)) .arguments) (c .0)) (k + 1) k) × (now (out .exit) ≡ pick (meets (now (cat .entry)) (now (list .entry)) (listing (now (cat .entry)) (now (tab .entry))) (listRead (now (cat .entry)) (now (list .entry)) .arguments) (c .0)) (putHit k (c .0) (now (out .entry))) (now (out .entry))) ⌝ }
+    requires { ⌜ Given (now cat) (now tab) (now list) size × (t ≡ lastArgument (listRead (now cat) (now list) .arguments) .code)
+        × (c .0 < count (now tab)) × (k < 65536) ⌝ }
+    ensures { λ r. ⌜ (r ≡ pick (meets (now (cat .entry)) (now (list .entry)) (listing (now (cat .entry)) (now (tab .entry)))
+        (listRead (now (cat .entry)) (now (list .entry)) .arguments) (c .0)) (k + 1) k)
+        × (now (out .exit) ≡ pick (meets (now (cat .entry)) (now (list .entry)) (listing (now (cat .entry)) (now (tab .entry)))
+        (listRead (now (cat .entry)) (now (list .entry)) .arguments) (c .0)) (putHit k (c .0) (now (out .entry))) (now (out .entry))) ⌝ }
 {
     if !meets(cat, tab, size, list, t, c) {
         return k;
@@ -82,7 +90,8 @@ fn show_met(
 // Every cell from first to last.
 pub(crate) fn plain_sound(cat: &[u8], tab: &[u8], size: usize, list: &[u8], out: &mut [u8]) -> usize
     requires { ⌜ Given (now cat) (now tab) (now list) size ⌝ }
-    ensures { λ r. ⌜ (r ≡ length (picked (now (cat .entry)) (now (tab .entry)) (now (list .entry)))) × (now (out .exit) ≡ shownFrom 0 (picked (now (cat .entry)) (now (tab .entry)) (now (list .entry))) (now (out .entry))) ⌝ }
+    ensures { λ r. ⌜ (r ≡ length (picked (now (cat .entry)) (now (tab .entry)) (now (list .entry))))
+        × (now (out .exit) ≡ shownFrom 0 (picked (now (cat .entry)) (now (tab .entry)) (now (list .entry))) (now (out .entry))) ⌝ }
 {
     let n = count(tab);
     let t = last_of(cat, list).code;

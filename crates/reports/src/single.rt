@@ -35,7 +35,8 @@ pub(crate) fn stretch_before(
     at: usize,
 ) -> u8
     requires { ⌜ Good (now cat) (now tab) (now list) size t × (at ≤ count (now tab)) ⌝ }
-    ensures { λ r. ⌜ r ≡ stretchBefore (now (cat .entry)) (listing (now (cat .entry)) (now (tab .entry))) (levels (now (cat .entry)) (now (list .entry)) t) at ⌝ }
+    ensures { λ r. ⌜ r ≡ stretchBefore (now (cat .entry)) (listing (now (cat .entry)) (now (tab .entry)))
+        (levels (now (cat .entry)) (now (list .entry)) t) at ⌝ }
 {
     if at == 0 {
         return 0;
@@ -85,7 +86,8 @@ pub(crate) fn joined_sound(
     out: &mut [u8],
 ) -> usize
     requires { ⌜ Given (now cat) (now tab) (now list) size ⌝ }
-    ensures { λ r. ⌜ (r ≡ length (picked (now (cat .entry)) (now (tab .entry)) (now (list .entry)))) × (now (out .exit) ≡ shownFrom 0 (picked (now (cat .entry)) (now (tab .entry)) (now (list .entry))) (now (out .entry))) ⌝ }
+    ensures { λ r. ⌜ (r ≡ length (picked (now (cat .entry)) (now (tab .entry)) (now (list .entry))))
+        × (now (out .exit) ≡ shownFrom 0 (picked (now (cat .entry)) (now (tab .entry)) (now (list .entry))) (now (out .entry))) ⌝ }
 {
     let r = read_on(cat, tab, size, list, 0, count(tab), 0, out);
     r.hits

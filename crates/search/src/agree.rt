@@ -58,7 +58,8 @@ pub fn satisfies(
     q: Qualification,
 ) -> bool
     requires { ⌜ Testable (now cat) (now tab) (now list) size (c .0) q ⌝ }
-    ensures { λ r. ⌜ r ≡ satisfies (now (cat .entry)) (segment (listing (now (cat .entry)) (now (tab .entry))) (c .0)) (meant (now (cat .entry)) (now (list .entry)) q) ⌝ }
+    ensures { λ r. ⌜ r ≡ satisfies (now (cat .entry)) (segment (listing (now (cat .entry)) (now (tab .entry))) (c .0))
+        (meant (now (cat .entry)) (now (list .entry)) q) ⌝ }
 {
     match q {
         Qualification::None => true,
@@ -91,7 +92,8 @@ pub(crate) fn agrees(
 // Whether the list leaves out the type of a cell.
 pub(crate) fn is_implied(cat: &[u8], tab: &[u8], size: usize, list: &[u8], c: CellNumber) -> bool
     requires { ⌜ Sized (now cat) (now tab) size × SoundList (now cat) (now list) × (c .0 < count (now tab)) ⌝ }
-    ensures { λ r. ⌜ r ≡ isImplied (askedOf (now (cat .entry)) (now (list .entry)) (listRead (now (cat .entry)) (now (list .entry)) .arguments) (segment (listing (now (cat .entry)) (now (tab .entry))) (c .0) .code)) ⌝ }
+    ensures { λ r. ⌜ r ≡ isImplied (askedOf (now (cat .entry)) (now (list .entry)) (listRead (now (cat .entry)) (now (list .entry)) .arguments)
+        (segment (listing (now (cat .entry)) (now (tab .entry))) (c .0) .code)) ⌝ }
 {
     match wanted(cat, list, code_at(cat, tab, size, c)) {
         Wanted::Implied => true,

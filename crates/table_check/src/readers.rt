@@ -74,7 +74,8 @@ fn group(cat: &[u8], tab: &[u8], size: usize, v: TypeCode, i: usize, left: usize
 // The types beneath a type stand together right behind it, so the first type of a smaller parent ends the search for child types.
 fn segment(cat: &[u8], tab: &[u8], size: usize, i: usize, left: usize) -> usize
     requires { ⌜ Known (now cat) (now tab) size (segment (listing (now cat) (now tab)) i .code) × (0 < left) × (i + left ≤ count (now tab)) ⌝ }
-    ensures { λ r. ⌜ Ends (afterRow (now (cat .entry)) (listing (now (cat .entry)) (now (tab .entry))) (segment (listing (now (cat .entry)) (now (tab .entry))) i .code .0) (i + 1) (left - 1)) (i + 1) (left - 1) r ⌝ }
+    ensures { λ r. ⌜ Ends (afterRow (now (cat .entry)) (listing (now (cat .entry)) (now (tab .entry)))
+        (segment (listing (now (cat .entry)) (now (tab .entry))) i .code .0) (i + 1) (left - 1)) (i + 1) (left - 1) r ⌝ }
 {
     let p = code_at(cat, tab, size, CellNumber(i)).0;
     let top = types(cat);

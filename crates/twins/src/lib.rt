@@ -62,7 +62,8 @@ fn stands_to(
     c: CellNumber,
 ) -> Order
     requires { ⌜ New (now cat) (now tab) size t (now area) × (c .0 < count (now tab)) × (depth ≡ level (now cat) t) ⌝ }
-    ensures { λ r. ⌜ r ≡ standing (now (cat .entry)) (arriving (now (cat .entry)) t (now (area .entry))) (segment (listing (now (cat .entry)) (now (tab .entry))) (c .0)) ⌝ }
+    ensures { λ r. ⌜ r ≡ standing (now (cat .entry)) (arriving (now (cat .entry)) t (now (area .entry)))
+        (segment (listing (now (cat .entry)) (now (tab .entry))) (c .0)) ⌝ }
 {
     let u = code_at(cat, tab, size, c);
     if u.0 < t.0 {
@@ -119,7 +120,8 @@ pub fn spot_sound(
     to: usize,
 ) -> Spot
     requires { ⌜ New (now cat) (now tab) size t (now area) × Beneath (now cat) (now tab) t from to ⌝ }
-    ensures { λ r. ⌜ r ≡ spotAmong (now (cat .entry)) (listing (now (cat .entry)) (now (tab .entry))) (arriving (now (cat .entry)) t (now (area .entry))) from to ⌝ }
+    ensures { λ r. ⌜ r ≡ spotAmong (now (cat .entry)) (listing (now (cat .entry)) (now (tab .entry)))
+        (arriving (now (cat .entry)) t (now (area .entry))) from to ⌝ }
 {
     let s = pass_row(cat, tab, size, t, area, from, to);
     if key_kind(cat, t) == 1 {
