@@ -15,28 +15,19 @@ use Rattle.forest.specs.Good.{both-left, both-right}
 use Rattle.forest.specs.Runs.{under, under-in, under-out}
 use Rattle.forest.specs.Rows.{back, back-in, back-out}
 use Rattle.forest.specs.Numbers.{range, downTo}
-use Rattle.rules.specs.Block.{Bytes, byte, part, every, zeros, marked}
-use Rattle.rules.specs.Catalogue.{lengthOf, goodCatalogue}
+use Rattle.rules.specs.Block.{Bytes, byte, every, zeros, marked}
+use Rattle.rules.specs.Catalogue.{goodCatalogue}
 use Rattle.rules.specs.Cells.{Segment, segment, segmentOf, levelAt, runAt, endAt, goodListing}
 use Rattle.rules.specs.Table.{count, cellSize, cellStart, room, typeAt, segmentAt, listing, padded, goodRoom, goodTable}
 use Rattle.rules.proofs.Cells.{listing-at}
 use Rattle.cells.specs.Lent.{Sized, Inside, startOf, behind, nearest, endFrom, climbed, parentAt}
 use Rattle.cells.specs.Sound.{Sound}
-use Rattle.cells.proofs.Start.{start-made, start-in, inside-sized, inside-less, inside-room, room-sized}
+use Rattle.cells.proofs.Start.{inside-less, inside-room, room-sized}
 
 -- the type of cell i
 pub type-of : (cat tab : Bytes) (i : ℕ) → i < count tab → segment (listing cat tab) i .code ≡ typeAt cat tab i
 unfolding segmentAt segmentOf
 type-of cat tab i l = ap (λ (s : Segment). s .code) (listing-at cat tab i l)
-
--- the data of cell i, and its end, by numbers
-module _ {cat tab : Bytes} {size : ℕ} (s : Sized cat tab size) (i : ℕ) (l : i < count tab) where
-  pub bytes-of : segment (listing cat tab) i .bytes ≡ part tab (suc (8 + i * size)) (lengthOf cat (segment (listing cat tab) i .code))
-  unfolding segmentAt segmentOf typeAt cellStart
-  bytes-of = rw (s .is, listing-at cat tab i l)
-
-  pub cell-in : 8 + i * size + size ≤ length tab
-  cell-in = rw (start-made tab size i) (start-in (inside-sized s) i l)
 
 module _ (lev : ℕ → ℕ) where
   pub under-few : (n s k : ℕ) → under lev n (range s k) ≤ k

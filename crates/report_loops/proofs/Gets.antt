@@ -4,11 +4,11 @@ use mathlib.Core.Path.{_≡_, refl, ap, _∙_}
 use mathlib.Core.Bool.{Bool, true, false, _&&_, not}
 use mathlib.Core.Option.{none}
 use mathlib.Core.List.{List, [], _∷_}
-use Prim.Native.Nat.{ℕ, zero, suc, _+_, _-_, _*_, _<_, _≤_}
+use Prim.Native.Nat.{ℕ, zero, suc, _+_, _-_, _<_, _≤_}
 use native.Mathlib.Omega.{arith}
 use lib.Dec.{ltb, leb, eqb}
 use lib.ListN.{length, drop, length-append, length-drop}
-use lib.Seq.{take-at, length-take-le}
+use lib.Seq.{take-at}
 use borrow.Author.Tests.{lt-ltb, le-ltb, le-leb, ltb-true, leb-true}
 use Rattle.terms.specs.declared.Place.{Place}
 use Rattle.terms.specs.declared.Place.the-variants.{On, Before}
@@ -25,7 +25,7 @@ use Rattle.terms.specs.Moves.{fresh, afterPlace, movedOnto, holdDropped}
 use Rattle.forest.specs.Good.{both-left, both-right}
 use Rattle.forest.specs.Numbers.{range}
 use Rattle.rules.specs.Block.{Bytes, byte, every, zeros, marked}
-use Rattle.rules.specs.Catalogue.{lengthOf, goodCatalogue}
+use Rattle.rules.specs.Catalogue.{goodCatalogue}
 use Rattle.rules.specs.Cells.{Segment, segment, shownBytes, long, levelAt, endAt, goodListing}
 use Rattle.rules.specs.Table.{count, cellSize, cellStart, room, listing, goodRoom, padded, goodTable}
 use Rattle.rules.specs.Position.{goodPlace, goodParentage, goodHold, goodPosition}
@@ -36,13 +36,12 @@ use Rattle.rules.specs.Calls.{answerOf, missed, over, missStatus, levelStatus, 
 use Rattle.rules.specs.Outcome.{Outcome, unsound, misused, unless, afterSound, afterCall, landed, outcomeOf, outcome}
 use Rattle.rules.proofs.Search.{seek-none, seek-here, seek-next}
 use Rattle.rules.proofs.Cells.{listing-length, row-run}
-use Rattle.catalogue.proofs.Hierarchy.{type-range, cell-holds}
-use Rattle.cells.proofs.Located.{bytes-of, cell-in, good-sized, end-after, end-within}
+use Rattle.cells.proofs.Located.{good-sound, end-after, end-within}
+use Rattle.cells.proofs.Ancestry.{sound-long}
 use Rattle.report_loops.specs.Loops.{State, promised, start, handedOn, sight}
 use Rattle.report_loops.specs.Demand3.{seenAt}
 use Rattle.report_loops.proofs.Hits.{Without}
 use Rattle.report_loops.proofs.Scan.{after, Seeks}
-use Rattle.report_loops.proofs.Rows.{row-type}
 
 -- the search of the rules
 module _ (cat : Bytes) (cs : List Segment) (ls : List Level) where
@@ -136,14 +135,7 @@ module _ (cat tab : Bytes) (g : goodCatalogue cat ≡ true) (h : goodTable cat t
   -- a segment has as many bytes as its type says
   data-long : (j : ℕ) → j < length cs → length (shownBytes cat (segment cs j)) ≡ long cat (segment cs j)
   unfolding long shownBytes
-  data-long j l =
-      let s = good-sized cat tab g h in
-      let m : j < count tab = omega (arith, listing-length cat tab) in
-      let t = segment cs j .code in
-      let r = type-range cat t (row-type cat cs g good-listing j l) in
-      let w : suc (lengthOf cat t) ≤ cellSize cat = cell-holds cat g t (r .0) (r .1) in
-      let c : 8 + j * cellSize cat + cellSize cat ≤ length tab = cell-in s j m in
-      ap length (bytes-of s j m) ∙ length-take-le (lengthOf cat t) (drop (suc (8 + j * cellSize cat)) tab) (rw length-drop (omega arith))
+  data-long j l = sound-long (good-sound cat tab g h) (omega (arith, listing-length cat tab)) refl refl
 
   -- what a call needs: the table, a good position, an area that is long enough
   pub record Fit (s : State) : Type 0 where
