@@ -554,9 +554,8 @@ def stands(crate, anchor):
     return os.path.exists(path) and (words[:-3] if words.endswith(" ..") else words) in read(path)
 
 
-def anchors(crate, function=None):
-    """Have the kit offer the proofs anew, which names the place of each need, and write those places' lines above the answers."""
-    found = [path for path in proofs(crate, function) if Proof(path).plain]
+def offered_places(crate, found):
+    """By proof and need, the place that the kit names in the proof that it offers where none stands."""
     texts = {path: read(path) for path in found}
     try:
         for path in found:
@@ -575,13 +574,22 @@ def anchors(crate, function=None):
             where = line.strip()[3:]
         elif need and path:
             places[path, need.group(1)] = where
-    for path in found:
-        proof = Proof(path)
-        given = proof.answers()
-        proof.anchors = {n: anchored(crate, places[path, n]) for n, _, _ in given[""][1] if (path, n) in places}
-        write(path, proof.text(given, []))
-        if len(proof.anchors) < len(given[""][1]):
-            print(f"{path}: {len(given[''][1]) - len(proof.anchors)} needs without a line")
+    return places
+
+
+def anchors(crate, function=None):
+    """Have the kit offer the proofs anew, and write the lines of its places above the answers. It offers none for a function whose callees are
+    unproved, so that those wait for the next turn."""
+    found = {path: Proof(path) for path in proofs(crate, function)}
+    left = [path for path, proof in found.items() if proof.members and proof.plain]
+    while left:
+        places = offered_places(crate, left)
+        told = [path for path in left if any(path == p for p, _ in places)]
+        for path in told:
+            given = found[path].answers()
+            found[path].anchors = {n: anchored(crate, places[path, n]) for n, _, _ in given[""][1] if (path, n) in places}
+            write(path, found[path].text(given, []))
+        left = [path for path in left if path not in told] if told else []
     subprocess.run(["rt", "fmt"], stdout=subprocess.DEVNULL)
 
 

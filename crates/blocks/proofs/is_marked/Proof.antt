@@ -6,16 +6,20 @@ use borrow.Author.Needs.{needs}
 use Rattle.blocks.proofs.is_marked.Statement.{statement}
 use Rattle.blocks.proofs.is_marked.Tie as tie
 
+-- src/lib.rt: if byte_at(b, 0) != 0x48 {
 byte-at-requires : tie.Need-byte-at-requires
 byte-at-requires c κs = search needs
 
+-- src/lib.rt: return false;
 returns : tie.Need-returns
 unfolding marked
 returns c = simp (ne-eqb _ _ (λ e. c .if1 .taken (c .before .byte-at .ensures ∙ e)))
 
+-- src/lib.rt: if byte_at(b, 1) != 0x44 {
 byte-at-requires-2 : tie.Need-byte-at-requires-2
 byte-at-requires-2 c κs = search needs
 
+-- src/lib.rt: return false;
 returns-2 : tie.Need-returns-2
 unfolding marked
 returns-2 c = let ·byte-at = c .before .before .before .byte-at in let ·if1 = c .before .before .if1 in
@@ -25,9 +29,11 @@ returns-2 c = let ·byte-at = c .before .before .before .byte-at in let ·if1 = 
           (λ e. c .if2 .taken (c .before .byte-at2 .ensures ∙ e)),
     )
 
+-- src/lib.rt: if byte_at(b, 2) != letter {
 byte-at-requires-3 : tie.Need-byte-at-requires-3
 byte-at-requires-3 c κs = search needs
 
+-- src/lib.rt: return false;
 returns-3 : tie.Need-returns-3
 unfolding marked
 returns-3 c = let ·byte-at = c .before .before .before .before .before .byte-at in
@@ -40,9 +46,11 @@ returns-3 c = let ·byte-at = c .before .before .before .before .before .byte-at
           _ _ (λ e. c .if3 .taken (c .before .byte-at3 .ensures ∙ e)),
     )
 
+-- src/lib.rt: word_at(b, 3) == 1
 word-at-requires : tie.Need-word-at-requires
 word-at-requires c κs = search needs
 
+-- src/lib.rt: pub fn is_marked(letter: u8, b: &[u8]) -> bool
 returns-4 : tie.Need-returns-4
 unfolding marked
 returns-4 c = let ·byte-at = c .before .before .before .before .before .before .byte-at in

@@ -6,15 +6,18 @@ use borrow.Author.Needs.{needs}
 use Rattle.dli.proofs.call_sound.Statement.{statement}
 use Rattle.dli.proofs.call_sound.Tie as tie
 
+-- src/lib.rt: let size = wide(tab[5]);
 slice-read-wide : tie.Need-slice-read-wide
 slice-read-wide c = let ·args = c .before .before .before .before .before .args in
     let ·pre = c .before .before .before .before .before .pre in
     five-in (·args .cat .now) (·args .tab .now) (·args .pos) (·args .number) (·args .list .now) (·args .area .now)
     (·pre)
 
+-- src/lib.rt: let size = wide(tab[5]);
 wide-requires : tie.Need-wide-requires
 wide-requires c κs = search needs
 
+-- src/lib.rt: let s = refusals::misused_sound(cat, size, pos, number, list, area);
 misused-sound-requires : tie.Need-misused-sound-requires
 misused-sound-requires c κs = let ·args = c .before .before .before .before .before .before .before .args in
     let ·pre = c .before .before .before .before .before .before .before .pre in (
@@ -23,15 +26,19 @@ misused-sound-requires c κs = let ·args = c .before .before .before .before .b
       ·pre .catalogue,
     )
 
+-- src/lib.rt: if terms::statuses::number(s) != 0 {
 number-requires : tie.Need-number-requires
 number-requires c κs = search needs
 
+-- src/lib.rt: return answers::stopped(s, pos);
 stopped-requires : tie.Need-stopped-requires
 stopped-requires c κs = search needs
 
+-- src/lib.rt: return answers::stopped(s, pos);
 same-length : tie.Need-same-length
 same-length c = search needs
 
+-- src/lib.rt: return answers::stopped(s, pos);
 returns : tie.Need-returns
 returns c =
     let ·args = c .before .before .before .before .before .before .before .before .before .before .before .args in
@@ -40,6 +47,7 @@ returns c =
     (·args .cat .now) (·args .tab .now) (·args .pos) (·args .number) (·args .list .now) (·args .area .now)
     (·misused-sound .result) (·number .result) (·misused-sound .ensures) (·number .ensures) (c .before .if1 .taken)
 
+-- src/lib.rt: called_sound(cat, tab, size, pos, number, list, area)
 called-sound-requires : tie.Need-called-sound-requires
 called-sound-requires c κs =
     let ·args = c .before .before .before .before .before .before .before .before .before .before .before .before .args
@@ -52,12 +60,15 @@ called-sound-requires c κs =
     (·pre) (·misused-sound .result) (·number .result) (·misused-sound .ensures) (·number .ensures) (·if1 .left)
     (·wide .result) (·wide .ensures .0)
 
+-- src/lib.rt: pub fn call_sound(
 same-length-2 : tie.Need-same-length-2
 same-length-2 c = search needs
 
+-- src/lib.rt: pub fn call_sound(
 same-length-3 : tie.Need-same-length-3
 same-length-3 c = search needs
 
+-- src/lib.rt: pub fn call_sound(
 returns-2 : tie.Need-returns-2
 returns-2 c = let ·called-sound = c .before .before .before .before .called-sound in
     let ·args = c .before .before .before .before .before .before .before .before .before .before .before .before

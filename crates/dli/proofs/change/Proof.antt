@@ -5,6 +5,7 @@ use borrow.Author.Needs.{needs}
 use Rattle.dli.proofs.change.Statement.{statement}
 use Rattle.dli.proofs.change.Tie as tie
 
+-- src/lib.rt: 7 => changes::insert::insert(cat, tab, size, pos, list, area),
 insert-requires : tie.Need-insert-requires
 insert-requires c κs = let ·args = c .before .before .before .before .before .before .args in
     let ·pre = c .before .before .before .before .before .before .pre in (
@@ -16,6 +17,7 @@ insert-requires c κs = let ·args = c .before .before .before .before .before .
           (·args .pos) (·args .number) (·args .list .now) (·args .area .now) (·pre .0) (ap isIsrt (c .before .match .keys1)),
     )
 
+-- src/lib.rt: 8 => changes::held::replace(cat, tab, size, pos, area),
 replace-requires : tie.Need-replace-requires
 replace-requires c κs = let ·args = c .before .before .before .before .before .before .args in
     let ·pre = c .before .before .before .before .before .before .pre in (
@@ -25,6 +27,7 @@ replace-requires c κs = let ·args = c .before .before .before .before .before 
           (·args .number) (·args .list .now) (·args .area .now) (·pre .0) (ap isDlet (c .before .match .keys2)),
     )
 
+-- src/lib.rt: _ => changes::held::delete(cat, tab, size, pos),
 delete-requires : tie.Need-delete-requires
 delete-requires c κs = let ·args = c .before .before .before .before .before .before .args in
     let ·pre = c .before .before .before .before .before .before .pre in
@@ -32,9 +35,11 @@ delete-requires c κs = let ·args = c .before .before .before .before .before .
     (·pre .0) (ap isHeld (is-nine (·args .cat .now) (·args .tab .now) (·args .pos) (·args .number) (·args .list .now)
     (·args .area .now) (·pre .0) (·pre .1) (c .before .match .rest .0 .1) (c .before .match .rest .1)))
 
+-- src/lib.rt: fn change(
 same-length : tie.Need-same-length
 same-length c = search needs
 
+-- src/lib.rt: fn change(
 returns : tie.Need-returns
 returns c = let ·insert = c .before .before .insert in
     let ·args = c .before .before .before .before .before .before .before .before .before .args in
@@ -43,9 +48,11 @@ returns c = let ·insert = c .before .before .insert in
     ·insert .ensures ∙ did-insert (·args .cat .now) (·args .tab .now) (·args .pos) (·args .number) (·args .list .now)
     (·args .area .now) (·pre .0) (·match .keys1)
 
+-- src/lib.rt: fn change(
 same-length-2 : tie.Need-same-length-2
 same-length-2 c = search needs
 
+-- src/lib.rt: fn change(
 returns-2 : tie.Need-returns-2
 returns-2 c = let ·replace = c .before .before .replace in
     let ·args = c .before .before .before .before .before .before .before .before .before .args in
@@ -54,9 +61,11 @@ returns-2 c = let ·replace = c .before .before .replace in
     ·replace .ensures ∙ did-replace (·args .cat .now) (·args .tab .now) (·args .pos) (·args .number) (·args .list .now)
     (·args .area .now) (·pre .0) (·match .keys2)
 
+-- src/lib.rt: fn change(
 same-length-3 : tie.Need-same-length-3
 same-length-3 c = search needs
 
+-- src/lib.rt: fn change(
 returns-3 : tie.Need-returns-3
 returns-3 c = let ·delete = c .before .before .delete in
     let ·args = c .before .before .before .before .before .before .before .before .before .args in

@@ -4,21 +4,26 @@ use borrow.Author.Needs.{needs}
 use Rattle.dli.proofs.get.Statement.{statement}
 use Rattle.dli.proofs.get.Tie as tie
 
+-- src/lib.rt: 1 => gets::get_unique(cat, tab, size, pos, list, area, hold),
 get-unique-requires : tie.Need-get-unique-requires
 get-unique-requires c κs = let ·pre = c .before .before .before .before .before .before .pre in
     (·pre .ready, ·pre .long)
 
+-- src/lib.rt: 2 => gets::get_next(cat, tab, size, pos, list, area, hold),
 get-next-requires : tie.Need-get-next-requires
 get-next-requires c κs = let ·pre = c .before .before .before .before .before .before .pre in
     (·pre .ready, ·pre .long)
 
+-- src/lib.rt: _ => gets::get_next_within(cat, tab, size, pos, list, area, hold),
 get-next-within-requires : tie.Need-get-next-within-requires
 get-next-within-requires c κs = let ·pre = c .before .before .before .before .before .before .pre in
     (·pre .ready, ·pre .long, ·pre .parent (c .before .match .rest .0 .1) (c .before .match .rest .1))
 
+-- src/lib.rt: fn get(
 same-length : tie.Need-same-length
 same-length c = search needs
 
+-- src/lib.rt: fn get(
 returns : tie.Need-returns
 returns c = let ·get-unique = c .before .before .get-unique in
     let ·args = c .before .before .before .before .before .before .before .before .before .args in
@@ -26,9 +31,11 @@ returns c = let ·get-unique = c .before .before .get-unique in
     ·get-unique .ensures ∙ of-unique (·args .cat .now) (·args .tab .now) (·args .pos) (·args .form) (·args .list .now)
     (·args .area .now) (·args .hold) (·match .keys1)
 
+-- src/lib.rt: fn get(
 same-length-2 : tie.Need-same-length-2
 same-length-2 c = search needs
 
+-- src/lib.rt: fn get(
 returns-2 : tie.Need-returns-2
 returns-2 c = let ·get-next = c .before .before .get-next in
     let ·args = c .before .before .before .before .before .before .before .before .before .args in
@@ -36,9 +43,11 @@ returns-2 c = let ·get-next = c .before .before .get-next in
     ·get-next .ensures ∙ of-next (·args .cat .now) (·args .tab .now) (·args .pos) (·args .form) (·args .list .now)
     (·args .area .now) (·args .hold) (·match .keys2)
 
+-- src/lib.rt: fn get(
 same-length-3 : tie.Need-same-length-3
 same-length-3 c = search needs
 
+-- src/lib.rt: fn get(
 returns-3 : tie.Need-returns-3
 returns-3 c = let ·get-next-within = c .before .before .get-next-within in
     let ·args = c .before .before .before .before .before .before .before .before .before .args in

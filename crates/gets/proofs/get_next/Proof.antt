@@ -12,9 +12,11 @@ use borrow.Author.Needs.{needs}
 use Rattle.gets.proofs.get_next.Statement.{statement}
 use Rattle.gets.proofs.get_next.Tie as tie
 
+-- src/lib.rt: let t = last_of(cat, list).code;
 last-of-requires : tie.Need-last-of-requires
 last-of-requires c κs = search needs
 
+-- src/lib.rt: let from = after_place(place);
 after-place-requires : tie.Need-after-place-requires
 after-place-requires c κs = let ·args = c .before .before .before .before .before .before .args in
     omega (
@@ -24,9 +26,11 @@ after-place-requires c κs = let ·args = c .before .before .before .before .bef
       c .before .before .before .before .before .before .pre .0 .sound .sized .few,
     )
 
+-- src/lib.rt: let Found::At(c) = first_match(cat, tab, size, list, t, from, count(tab)) else {
 count-requires : tie.Need-count-requires
 count-requires c κs = search needs
 
+-- src/lib.rt: let Found::At(c) = first_match(cat, tab, size, list, t, from, count(tab)) else {
 first-match-requires : tie.Need-first-match-requires
 first-match-requires c κs = (
   search-good (c .before .before .before .before .before .before .before .before .pre .0)
@@ -35,18 +39,23 @@ first-match-requires c κs = (
   omega (arith, c .count .ensures .0),
 )
 
+-- src/lib.rt: let Found::At(c) = first_match(cat, tab, size, list, t, from, count(tab)) else {
 enum-known-c : tie.Need-enum-known-c
 enum-known-c c = search needs
 
+-- src/lib.rt: return missed(miss_status(list), pos);
 enum-told : tie.Need-enum-told
 enum-told c = search needs
 
+-- src/lib.rt: return missed(miss_status(list), pos);
 miss-status-requires : tie.Need-miss-status-requires
 miss-status-requires c κs = search needs
 
+-- src/lib.rt: return missed(miss_status(list), pos);
 missed-requires : tie.Need-missed-requires
 missed-requires c κs = search needs
 
+-- src/lib.rt: return missed(miss_status(list), pos);
 returns : tie.Need-returns
 returns c =
     let ·args = c .before .before .before .before .before .before .before .before .before .before .before .before
@@ -62,6 +71,7 @@ returns c =
     (c .before .miss-status .result) (·count .ensures .0 ∙ sym (listing-length (·args .cat .now) (·args .tab .now)))
     (·enum-told .given .1) (c .before .miss-status .ensures)
 
+-- src/lib.rt: let s = level_status(cat, tab, size, pos, list, c);
 level-status-requires : tie.Need-level-status-requires
 level-status-requires c κs =
     let ·args = c .before .before .before .before .before .before .before .before .before .before .before .before .args
@@ -78,6 +88,7 @@ level-status-requires c κs =
       ),
     )
 
+-- src/lib.rt: got(cat, tab, size, c, s, Parentage::Of(c), hold, pos, area)
 got-requires : tie.Need-got-requires
 got-requires c κs =
     let ·args = c .before .before .before .before .before .before .before .before .before .before .before .before
@@ -98,9 +109,11 @@ got-requires c κs =
           .pre .1,
     )
 
+-- src/lib.rt: pub fn get_next(
 same-length : tie.Need-same-length
 same-length c = search needs
 
+-- src/lib.rt: pub fn get_next(
 returns-2 : tie.Need-returns-2
 returns-2 c = let ·got = c .before .before .got in
     let ·pre = c .before .before .before .before .before .before .before .before .before .before .before .before .before

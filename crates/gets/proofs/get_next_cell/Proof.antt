@@ -8,6 +8,7 @@ use borrow.Author.Needs.{needs}
 use Rattle.gets.proofs.get_next_cell.Statement.{statement}
 use Rattle.gets.proofs.get_next_cell.Tie as tie
 
+-- src/lib.rt: let i = after_place(place);
 after-place-requires : tie.Need-after-place-requires
 after-place-requires c κs = let ·args = c .before .before .before .before .args in
     omega (
@@ -17,12 +18,15 @@ after-place-requires c κs = let ·args = c .before .before .before .before .arg
       c .before .before .before .before .pre .0 .sound .sized .few,
     )
 
+-- src/lib.rt: if count(tab) <= i {
 count-requires : tie.Need-count-requires
 count-requires c κs = search needs
 
+-- src/lib.rt: return missed(Status::GB, pos);
 missed-requires : tie.Need-missed-requires
 missed-requires c κs = search needs
 
+-- src/lib.rt: return missed(Status::GB, pos);
 returns : tie.Need-returns
 returns c = let ·args = c .before .before .before .before .before .before .before .before .args in
     let ·pre = c .before .before .before .before .before .before .before .before .pre in
@@ -31,15 +35,19 @@ returns c = let ·args = c .before .before .before .before .before .before .befo
     (·args .hold) (·pre .2) (·after-place .result) (·after-place .ensures) (·count .result) (·count .ensures .0)
     (c .before .if1 .taken)
 
+-- src/lib.rt: let s = level_status(cat, tab, size, pos, list, c);
 level-status-requires : tie.Need-level-status-requires
 level-status-requires c κs = search needs
 
+-- src/lib.rt: got(cat, tab, size, c, s, Parentage::Of(c), hold, pos, area)
 got-requires : tie.Need-got-requires
 got-requires c κs = search needs
 
+-- src/lib.rt: pub fn get_next_cell(
 same-length : tie.Need-same-length
 same-length c = search needs
 
+-- src/lib.rt: pub fn get_next_cell(
 returns-2 : tie.Need-returns-2
 returns-2 c = let ·got = c .before .before .got in
     let ·pre = c .before .before .before .before .before .before .before .before .before .before .before .before .pre in

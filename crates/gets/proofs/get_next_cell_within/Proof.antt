@@ -12,6 +12,7 @@ use borrow.Author.Needs.{needs}
 use Rattle.gets.proofs.get_next_cell_within.Statement.{statement}
 use Rattle.gets.proofs.get_next_cell_within.Tie as tie
 
+-- src/lib.rt: let i = after_place(place);
 after-place-requires : tie.Need-after-place-requires
 after-place-requires c κs = let ·args = c .before .before .before .before .args in
     omega (
@@ -21,6 +22,7 @@ after-place-requires c κs = let ·args = c .before .before .before .before .arg
       c .before .before .before .before .pre .0 .sound .sized .few,
     )
 
+-- src/lib.rt: if !is_within(cat, tab, size, p, i) {
 is-within-requires : tie.Need-is-within-requires
 is-within-requires c κs = let ·args = c .before .before .before .before .before .args in
     let a = around (·args .cat .now) (·args .tab .now) (·args .pos)
@@ -35,9 +37,11 @@ is-within-requires c κs = let ·args = c .before .before .before .before .befor
           (c .before .before .before .before .before .pre .3),
     )
 
+-- src/lib.rt: return missed(Status::GE, pos);
 missed-requires : tie.Need-missed-requires
 missed-requires c κs = search needs
 
+-- src/lib.rt: return missed(Status::GE, pos);
 returns : tie.Need-returns
 returns c = let ·args = c .before .before .before .before .before .before .before .before .args in
     let ·pre = c .before .before .before .before .before .before .before .before .pre in
@@ -46,6 +50,7 @@ returns c = let ·args = c .before .before .before .before .before .before .befo
     (·args .hold) (·pre .2) (·after-place .result) (·after-place .ensures) (·args .p) (·pre .3) (·is-within .result)
     (·is-within .ensures) (not-true _ (c .before .if1 .taken))
 
+-- src/lib.rt: let s = level_status(cat, tab, size, pos, list, c);
 level-status-requires : tie.Need-level-status-requires
 level-status-requires c κs = let ·pre = c .before .before .before .before .before .before .before .pre in
     let ·args = c .before .before .before .before .before .before .before .args in (
@@ -54,6 +59,7 @@ level-status-requires c κs = let ·pre = c .before .before .before .before .bef
           (·args .p) (·pre .3)) (sym (c .before .is-within .ensures) ∙ not-false _ (c .if1 .left)),
     )
 
+-- src/lib.rt: got(cat, tab, size, c, s, Parentage::Of(p), hold, pos, area)
 got-requires : tie.Need-got-requires
 got-requires c κs = let ·pre = c .before .before .before .before .before .before .before .before .before .pre in
     let ·args = c .before .before .before .before .before .before .before .before .before .args in
@@ -64,9 +70,11 @@ got-requires c κs = let ·pre = c .before .before .before .before .before .befo
       ·pre .1,
     )
 
+-- src/lib.rt: fn get_next_cell_within(
 same-length : tie.Need-same-length
 same-length c = search needs
 
+-- src/lib.rt: fn get_next_cell_within(
 returns-2 : tie.Need-returns-2
 returns-2 c = let ·got = c .before .before .got in
     let ·pre = c .before .before .before .before .before .before .before .before .before .before .before .before .pre in

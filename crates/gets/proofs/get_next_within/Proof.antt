@@ -14,32 +14,41 @@ use borrow.Author.Needs.{needs}
 use Rattle.gets.proofs.get_next_within.Statement.{statement}
 use Rattle.gets.proofs.get_next_within.Tie as tie
 
+-- src/lib.rt: let Parentage::Of(p) = parentage else {
 enum-known-parentage : tie.Need-enum-known-parentage
 enum-known-parentage c = search needs
 
+-- src/lib.rt: return missed(Status::GP, pos);
 enum-told : tie.Need-enum-told
 enum-told c = search needs
 
+-- src/lib.rt: return missed(Status::GP, pos);
 missed-requires : tie.Need-missed-requires
 missed-requires c κs = search needs
 
+-- src/lib.rt: return missed(Status::GP, pos);
 returns : tie.Need-returns
 returns c = let ·args = c .before .before .before .before .before .before .before .args in
     let ·pre = c .before .before .before .before .before .before .before .pre in
     absurd (absent-not (·args .pos) (c .before .enum-told .given .1) (·pre .2))
 
+-- src/lib.rt: return get_next_cell_within(cat, tab, size, pos, list, area, hold, p);
 get-next-cell-within-requires : tie.Need-get-next-cell-within-requires
 get-next-cell-within-requires c κs = search needs
 
+-- src/lib.rt: return get_next_cell_within(cat, tab, size, pos, list, area, hold, p);
 same-length : tie.Need-same-length
 same-length c = search needs
 
+-- src/lib.rt: return get_next_cell_within(cat, tab, size, pos, list, area, hold, p);
 returns-2 : tie.Need-returns-2
 returns-2 c = search needs
 
+-- src/lib.rt: let t = last_of(cat, list).code;
 last-of-requires : tie.Need-last-of-requires
 last-of-requires c κs = search needs
 
+-- src/lib.rt: let from = after_place(place);
 after-place-requires : tie.Need-after-place-requires
 after-place-requires c κs =
     let ·args = c .before .before .before .before .before .before .before .before .before .before .args in
@@ -50,6 +59,7 @@ after-place-requires c κs =
       c .before .before .before .before .before .before .before .before .before .before .pre .0 .sound .sized .few,
     )
 
+-- src/lib.rt: let to = run_end(cat, tab, size, p).0;
 run-end-requires : tie.Need-run-end-requires
 run-end-requires c κs =
     let ·pre = c .before .before .before .before .before .before .before .before .before .before .before .pre in
@@ -60,6 +70,7 @@ run-end-requires c κs =
           (·parentage .given .0 .0) (·parentage .given .1),
     )
 
+-- src/lib.rt: let Found::At(c) = first_match(cat, tab, size, list, t, from, to) else {
 first-match-requires : tie.Need-first-match-requires
 first-match-requires c κs =
     let ·args = c .before .before .before .before .before .before .before .before .before .before .before .before .args
@@ -85,15 +96,19 @@ first-match-requires c κs =
       ),
     )
 
+-- src/lib.rt: let Found::At(c) = first_match(cat, tab, size, list, t, from, to) else {
 enum-known-c : tie.Need-enum-known-c
 enum-known-c c = search needs
 
+-- src/lib.rt: return missed(Status::GE, pos);
 enum-told-2 : tie.Need-enum-told-2
 enum-told-2 c = search needs
 
+-- src/lib.rt: return missed(Status::GE, pos);
 missed-requires-2 : tie.Need-missed-requires-2
 missed-requires-2 c κs = search needs
 
+-- src/lib.rt: return missed(Status::GE, pos);
 returns-3 : tie.Need-returns-3
 returns-3 c =
     let ·args = c .before .before .before .before .before .before .before .before .before .before .before .before
@@ -109,6 +124,7 @@ returns-3 c =
     (·after-place .result) (·after-place .ensures) (·run-end .result .0) (·first-match .ensures)
     (·parentage .given .0 .0) (·parentage .given .1) (·run-end .ensures) (c .before .enum-told2 .given .1)
 
+-- src/lib.rt: let s = level_status(cat, tab, size, pos, list, c);
 level-status-requires : tie.Need-level-status-requires
 level-status-requires c κs =
     let ·args = c .before .before .before .before .before .before .before .before .before .before .before .before
@@ -140,6 +156,7 @@ level-status-requires c κs =
       ),
     )
 
+-- src/lib.rt: got(cat, tab, size, c, s, parentage, hold, pos, area)
 got-requires : tie.Need-got-requires
 got-requires c κs =
     let ·args = c .before .before .before .before .before .before .before .before .before .before .before .before
@@ -174,9 +191,11 @@ got-requires c κs =
           .before .before .before .before .before .before .pre .1,
     )
 
+-- src/lib.rt: pub fn get_next_within(
 same-length-2 : tie.Need-same-length-2
 same-length-2 c = search needs
 
+-- src/lib.rt: pub fn get_next_within(
 returns-4 : tie.Need-returns-4
 returns-4 c = let ·got = c .before .before .got in
     let ·pre = c .before .before .before .before .before .before .before .before .before .before .before .before .before

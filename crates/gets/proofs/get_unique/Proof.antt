@@ -9,9 +9,11 @@ use borrow.Author.Needs.{needs}
 use Rattle.gets.proofs.get_unique.Statement.{statement}
 use Rattle.gets.proofs.get_unique.Tie as tie
 
+-- src/lib.rt: let t = last_of(cat, list).code;
 last-of-requires : tie.Need-last-of-requires
 last-of-requires c κs = search needs
 
+-- src/lib.rt: let Found::At(c) = along(cat, tab, size, list, t, place) else {
 along-requires : tie.Need-along-requires
 along-requires c κs = let ·pre = c .before .before .before .before .before .before .pre in
     let ·args = c .before .before .before .before .before .before .args in (
@@ -21,15 +23,19 @@ along-requires c κs = let ·pre = c .before .before .before .before .before .be
           (·args .pos) (·pre .0 .position),
     )
 
+-- src/lib.rt: let Found::At(c) = along(cat, tab, size, list, t, place) else {
 enum-known-c : tie.Need-enum-known-c
 enum-known-c c = search needs
 
+-- src/lib.rt: return missed(Status::GE, pos);
 enum-told : tie.Need-enum-told
 enum-told c = search needs
 
+-- src/lib.rt: return missed(Status::GE, pos);
 missed-requires : tie.Need-missed-requires
 missed-requires c κs = search needs
 
+-- src/lib.rt: return missed(Status::GE, pos);
 returns : tie.Need-returns
 returns c = let ·args = c .before .before .before .before .before .before .before .before .before .before .args in
     let ·pre = c .before .before .before .before .before .before .before .before .before .before .pre in
@@ -39,6 +45,7 @@ returns c = let ·args = c .before .before .before .before .before .before .befo
     (·args .hold) (·last-of .result .code) (·along .result) (ap (λ (a : Argument). a .code) (·last-of .ensures))
     (·along .ensures) (c .before .enum-told .given .1)
 
+-- src/lib.rt: got(
 got-requires : tie.Need-got-requires
 got-requires c κs =
     let ·pre = c .before .before .before .before .before .before .before .before .before .before .before .pre in
@@ -53,9 +60,11 @@ got-requires c κs =
       ·pre .1,
     )
 
+-- src/lib.rt: pub fn get_unique(
 same-length : tie.Need-same-length
 same-length c = search needs
 
+-- src/lib.rt: pub fn get_unique(
 returns-2 : tie.Need-returns-2
 returns-2 c = let ·got = c .before .before .got in
     let ·pre = c .before .before .before .before .before .before .before .before .before .before .before .before .before

@@ -5,20 +5,25 @@ use borrow.Author.Needs.{needs}
 use Rattle.gets.proofs.got.Statement.{statement}
 use Rattle.gets.proofs.got.Tie as tie
 
+-- src/lib.rt: let t = code_at(cat, tab, size, c);
 code-at-requires : tie.Need-code-at-requires
 code-at-requires c κs = search needs
 
+-- src/lib.rt: let long = wide(data_length(cat, t));
 data-length-requires : tie.Need-data-length-requires
 data-length-requires c κs = search needs
 
+-- src/lib.rt: let long = wide(data_length(cat, t));
 wide-requires : tie.Need-wide-requires
 wide-requires c κs = search needs
 
+-- src/lib.rt: put(area, data_part(cat, tab, size, c, 1, long));
 data-part-requires : tie.Need-data-part-requires
 data-part-requires c κs = let ·pre = c .before .before .before .before .before .before .before .pre in
     let ·code-at = c .before .before .before .code-at in let ·data-length = c .before .before .data-length in
     sound-data (·pre .0) (·pre .1) (·code-at .ensures) (c .before .wide .ensures .0 ∙ ·data-length .ensures)
 
+-- src/lib.rt: put(area, data_part(cat, tab, size, c, 1, long));
 put-requires : tie.Need-put-requires
 put-requires c κs = let ·pre = c .before .before .before .before .before .before .before .before .pre in
     let ·code-at = c .before .before .before .before .code-at in let ·wide = c .before .before .wide in
@@ -27,15 +32,19 @@ put-requires c κs = let ·pre = c .before .before .before .before .before .befo
     got-fits (·pre .0) (·pre .1) (·code-at .ensures) (·wide .ensures .0 ∙ ·data-length .ensures) (c .data-part .ensures)
     (·args .area .now) (·pre .2)
 
+-- src/lib.rt: told(cat, s, pos.moved_onto(c, parentage, hold), t, 0)
 moved-onto-requires : tie.Need-moved-onto-requires
 moved-onto-requires c κs = search needs
 
+-- src/lib.rt: told(cat, s, pos.moved_onto(c, parentage, hold), t, 0)
 told-requires : tie.Need-told-requires
 told-requires c κs = search needs
 
+-- src/lib.rt: fn got(
 same-length : tie.Need-same-length
 same-length c = search needs
 
+-- src/lib.rt: fn got(
 returns : tie.Need-returns
 returns c =
     let ·pre = c .before .before .before .before .before .before .before .before .before .before .before .before .before

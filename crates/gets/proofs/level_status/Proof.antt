@@ -6,22 +6,27 @@ use Rattle.gets.proofs.Gotten.{status-named, status-gap, codes-same, co
 use Rattle.gets.proofs.level_status.Statement.{statement}
 use Rattle.gets.proofs.level_status.Tie as tie
 
+-- src/lib.rt: return Status::Blank;
 returns : tie.Need-returns
 returns c = let ·pre = c .before .before .before .before .pre in
     let ·args = c .before .before .before .before .args in
     status-named (·pre .0) (·args .c .0) (c .if1 .taken)
 
+-- src/lib.rt: let Place::On(q) = place else {
 enum-known-place : tie.Need-enum-known-place
 enum-known-place c = search needs
 
+-- src/lib.rt: return Status::Blank;
 enum-told : tie.Need-enum-told
 enum-told c = search needs
 
+-- src/lib.rt: return Status::Blank;
 returns-2 : tie.Need-returns-2
 returns-2 c = let ·pre = c .before .before .before .before .before .before .pre in
     let ·args = c .before .before .before .before .before .before .args in let ·if1 = c .before .before .if1 in
     status-gap (·pre .0) (·args .c .0) (c .enum-told .given .0 .0) (·if1 .left) (c .enum-told .given .1)
 
+-- src/lib.rt: let u = code_at(cat, tab, size, q);
 code-at-requires : tie.Need-code-at-requires
 code-at-requires c κs = let ·pre = c .before .before .before .before .before .before .before .pre in
     let ·args = c .before .before .before .before .before .before .before .args in (
@@ -30,9 +35,11 @@ code-at-requires c κs = let ·pre = c .before .before .before .before .before .
           (c .before .place .given .0 .0) (c .before .place .given .1),
     )
 
+-- src/lib.rt: let t = code_at(cat, tab, size, c);
 code-at-requires-2 : tie.Need-code-at-requires-2
 code-at-requires-2 c κs = search needs
 
+-- src/lib.rt: return Status::Blank;
 returns-3 : tie.Need-returns-3
 returns-3 c =
     let ·pre = c .before .before .before .before .before .before .before .before .before .before .before .before .pre in
@@ -44,9 +51,11 @@ returns-3 c =
     (·place .given .1) (·pre .1) (on-place (·args .cat .now) (·args .tab .now) (·args .pos) (·pre .0 .position)
     (·place .given .0 .0) (·place .given .1)) (·code-at2 .ensures) (·code-at .ensures) (c .if2 .taken)
 
+-- src/lib.rt: let above = parent(cat, t).0;
 parent-requires : tie.Need-parent-requires
 parent-requires c κs = search needs
 
+-- src/lib.rt: return Status::Blank;
 returns-4 : tie.Need-returns-4
 returns-4 c =
     let ·pre = c .before .before .before .before .before .before .before .before .before .before .before .before .before
@@ -63,9 +72,11 @@ returns-4 c =
     (·place .given .0 .0) (·place .given .1)) (·code-at2 .ensures) (·code-at .ensures) (·parent .result)
     (·parent .ensures) (c .if3 .taken)
 
+-- src/lib.rt: if above == parent(cat, u).0 {
 parent-requires-2 : tie.Need-parent-requires-2
 parent-requires-2 c κs = search needs
 
+-- src/lib.rt: return Status::GK;
 returns-5 : tie.Need-returns-5
 returns-5 c =
     let ·pre = c .before .before .before .before .before .before .before .before .before .before .before .before .before
@@ -83,12 +94,15 @@ returns-5 c =
     (·place .given .0 .0) (·place .given .1)) (·code-at2 .ensures) (·code-at .ensures) (·parent .result)
     (·parent .ensures) (·parent2 .result) (·parent2 .ensures) (·if2 .left) (c .if4 .taken)
 
+-- src/lib.rt: let was = level(cat, u);
 level-requires : tie.Need-level-requires
 level-requires c κs = search needs
 
+-- src/lib.rt: let now = level(cat, t);
 level-requires-2 : tie.Need-level-requires-2
 level-requires-2 c κs = search needs
 
+-- src/lib.rt: return Status::GA;
 returns-6 : tie.Need-returns-6
 returns-6 c =
     let ·pre = c .before .before .before .before .before .before .before .before .before .before .before .before .before
@@ -108,6 +122,7 @@ returns-6 c =
     (·place .given .0 .0) (·place .given .1)) (·code-at2 .ensures) (·code-at .ensures) (·level .result)
     (c .before .level2 .result) (·level .ensures) (c .before .level2 .ensures) (c .if5 .taken)
 
+-- src/lib.rt: return Status::Blank;
 returns-7 : tie.Need-returns-7
 returns-7 c =
     let ·pre = c .before .before .before .before .before .before .before .before .before .before .before .before .before
@@ -128,6 +143,7 @@ returns-7 c =
     (·place .given .0 .0) (·place .given .1)) (·code-at2 .ensures) (·code-at .ensures) (·level .result)
     (·level2 .result) (·level .ensures) (·level2 .ensures) (c .if6 .taken)
 
+-- src/lib.rt: pub fn level_status(
 returns-8 : tie.Need-returns-8
 returns-8 c =
     let ·args = c .before .before .before .before .before .before .before .before .before .before .before .before

@@ -10,20 +10,25 @@ use borrow.Author.Needs.{needs}
 use Rattle.maker.proofs.make.Statement.{statement}
 use Rattle.maker.proofs.make.Tie as tie
 
+-- src/lib.rt: if !is_good(cat) {
 is-good-requires : tie.Need-is-good-requires
 is-good-requires c κs = search needs
 
+-- src/lib.rt: return Status::CX;
 returns : tie.Need-returns
 unfolding cellSize
 returns c = let ·args = c .before .before .before .before .args in
     made-refused (·args .cat .now) (·args .tab .now) (told-no (c .before .is-good .ensures) (c .if1 .taken))
 
+-- src/lib.rt: if !good_room(cat, tab) {
 good-room-requires : tie.Need-good-room-requires
 good-room-requires c κs = search needs
 
+-- src/lib.rt: return Status::TX;
 same-length : tie.Need-same-length
 same-length c = search needs
 
+-- src/lib.rt: return Status::TX;
 returns-2 : tie.Need-returns-2
 unfolding cellSize
 returns-2 c = let ·args = c .before .before .before .before .before .before .before .args in
@@ -31,9 +36,11 @@ returns-2 c = let ·args = c .before .before .before .before .before .before .be
     made-unfit (·args .cat .now) (·args .tab .now) (told-yes (·is-good .ensures) (·if1 .left))
     (told-no (c .before .good-room .ensures) (c .if2 .taken))
 
+-- src/lib.rt: write_empty(tab, 1 + largest(cat));
 largest-requires : tie.Need-largest-requires
 largest-requires c κs = search needs
 
+-- src/lib.rt: write_empty(tab, 1 + largest(cat));
 add-write-empty : tie.Need-add-write-empty
 unfolding cellSize
 add-write-empty c = let ·args = c .before .before .before .before .before .before .before .before .before .args in
@@ -45,6 +52,7 @@ add-write-empty c = let ·args = c .before .before .before .before .before .befo
           (c .before .before .before .before .before .if1 .left)),
     )
 
+-- src/lib.rt: write_empty(tab, 1 + largest(cat));
 write-empty-requires : tie.Need-write-empty-requires
 unfolding cellSize
 write-empty-requires c κs =
@@ -52,9 +60,11 @@ write-empty-requires c κs =
     let ·good-room = c .before .before .before .good-room in let ·if2 = c .before .before .if2 in
     room-is (·args .cat .now) (·args .tab .now) (told-yes (·good-room .ensures) (·if2 .left)) .0
 
+-- src/lib.rt: pub fn make(cat: &[u8], tab: &mut [u8]) -> Status
 same-length-2 : tie.Need-same-length-2
 same-length-2 c = search needs
 
+-- src/lib.rt: pub fn make(cat: &[u8], tab: &mut [u8]) -> Status
 returns-3 : tie.Need-returns-3
 unfolding cellSize
 returns-3 c =

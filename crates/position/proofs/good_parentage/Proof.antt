@@ -8,18 +8,23 @@ use borrow.Author.Needs.{needs}
 use Rattle.position.proofs.good_parentage.Statement.{statement}
 use Rattle.position.proofs.good_parentage.Tie as tie
 
+-- src/lib.rt: let Parentage::Of(a) = p else {
 enum-known-p : tie.Need-enum-known-p
 enum-known-p c = search needs
 
+-- src/lib.rt: return true;
 enum-told : tie.Need-enum-told
 enum-told c = search needs
 
+-- src/lib.rt: return true;
 returns : tie.Need-returns
 returns c = search needs
 
+-- src/lib.rt: Place::On(c) => {
 enum-known-q : tie.Need-enum-known-q
 enum-known-q c = search needs
 
+-- src/lib.rt: return false;
 returns-2 : tie.Need-returns-2
 returns-2 c =
     let ·args = c .before .before .before .before .before .before .before .before .before .before .before .args in
@@ -31,6 +36,7 @@ returns-2 c =
     (rw listing-length (on-in (·args .cat .now) (·args .tab .now) (·args .q) (·q .given .0 .0) (·q .given .1)
     (·pre .1))) (c .if1 .taken)
 
+-- src/lib.rt: c.0 < run_end(cat, tab, size, a).0
 run-end-requires : tie.Need-run-end-requires
 run-end-requires c κs =
     let ·args = c .before .before .before .before .before .before .before .before .before .before .before .args in (
@@ -44,9 +50,11 @@ run-end-requires c κs =
       ),
     )
 
+-- src/lib.rt: Place::Before(c) => {
 enum-known-q-2 : tie.Need-enum-known-q-2
 enum-known-q-2 c = search needs
 
+-- src/lib.rt: return false;
 returns-3 : tie.Need-returns-3
 returns-3 c =
     let ·args = c .before .before .before .before .before .before .before .before .before .before .before .args in
@@ -55,6 +63,7 @@ returns-3 c =
     before-not (·args .cat .now) (listing (·args .cat .now) (·args .tab .now)) (·args .q) (·args .p) (·q2 .given .0 .0)
     (·p .given .0 .0) (·p .given .1) (·q2 .given .1) (c .if2 .taken)
 
+-- src/lib.rt: c.0 <= run_end(cat, tab, size, a).0
 run-end-requires-2 : tie.Need-run-end-requires-2
 run-end-requires-2 c κs =
     let ·args = c .before .before .before .before .before .before .before .before .before .before .before .args in (
@@ -68,6 +77,7 @@ run-end-requires-2 c κs =
       ),
     )
 
+-- src/lib.rt: fn good_parentage(cat: &[u8], tab: &[u8], size: usize, q: Place, p: Parentage) -> bool
 returns-4 : tie.Need-returns-4
 returns-4 c =
     let ·args = c .before .before .before .before .before .before .before .before .before .before .before .before
@@ -81,6 +91,7 @@ returns-4 c =
     (rw listing-length (on-in (·args .cat .now) (·args .tab .now) (·args .q) (·q .given .0 .0) (·q .given .1)
     (·pre .1))) (·if1 .left) (·run-end .ensures)
 
+-- src/lib.rt: fn good_parentage(cat: &[u8], tab: &[u8], size: usize, q: Place, p: Parentage) -> bool
 returns-5 : tie.Need-returns-5
 returns-5 c =
     let ·args = c .before .before .before .before .before .before .before .before .before .before .before .before

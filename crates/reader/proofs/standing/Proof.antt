@@ -3,12 +3,15 @@ use borrow.Author.Needs.{needs}
 use Rattle.reader.proofs.standing.Statement.{statement}
 use Rattle.reader.proofs.standing.Tie as tie
 
+-- src/lib.rt: return Position {
 returns : tie.Need-returns
 returns c = standing-start _ (c .if1 .taken)
 
+-- src/lib.rt: place: Place::On(CellNumber(at - 1)),
 sub-t6 : tie.Need-sub-t6
 sub-t6 c = search needs
 
+-- src/lib.rt: fn standing(at: usize) -> Position
 returns-2 : tie.Need-returns-2
 returns-2 c = standing-on _ (c .if1 .left)
 

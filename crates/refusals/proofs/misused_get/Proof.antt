@@ -6,24 +6,30 @@ use borrow.Author.Needs.{needs}
 use Rattle.refusals.proofs.misused_get.Statement.{statement}
 use Rattle.refusals.proofs.misused_get.Tie as tie
 
+-- src/lib.rt: if is_short(size, number, area) {
 is-short-requires : tie.Need-is-short-requires
 is-short-requires c κs = search needs
 
+-- src/lib.rt: return Status::AB;
 returns : tie.Need-returns
 unfolding misusedGet
 returns c = simp (sym (c .before .is-short .ensures) ∙ c .if1 .taken)
 
+-- src/lib.rt: if !is_within(number) {
 is-within-requires : tie.Need-is-within-requires
 is-within-requires c κs = search needs
 
+-- src/lib.rt: return Status::Blank;
 returns-2 : tie.Need-returns-2
 unfolding misusedGet
 returns-2 c = let ·is-short = c .before .before .before .is-short in let ·if1 = c .before .before .if1 in
     simp (sym (·is-short .ensures) ∙ ·if1 .left, sym (c .before .is-within .ensures) ∙ not-true _ (c .if2 .taken))
 
+-- src/lib.rt: if is_absent(parentage) {
 is-absent-requires : tie.Need-is-absent-requires
 is-absent-requires c κs = search needs
 
+-- src/lib.rt: return Status::GP;
 returns-3 : tie.Need-returns-3
 unfolding misusedGet
 returns-3 c = let ·is-short = c .before .before .before .before .before .is-short in
@@ -36,6 +42,7 @@ returns-3 c = let ·is-short = c .before .before .before .before .before .is-sho
           (c .before .is-absent .ensures) ∙ c .if3 .taken,
     )
 
+-- src/lib.rt: fn misused_get(size: usize, pos: Position, number: u8, area: &[u8]) -> Status
 returns-4 : tie.Need-returns-4
 unfolding misusedGet
 returns-4 c = let ·is-short = c .before .before .before .before .before .is-short in

@@ -6,18 +6,22 @@ use borrow.Author.Needs.{needs}
 use Rattle.umbristal.proofs.step.Statement.{statement}
 use Rattle.umbristal.proofs.step.Tie as tie
 
+-- src/lib.rt: let size = wide(tab[5]);
 shared-slice-read-wide : tie.Need-shared-slice-read-wide
 shared-slice-read-wide c = let ·args = c .before .before .before .before .before .before .args in
     let ·pre = c .before .before .before .before .before .before .pre in
     sizes-in (·args .cat .now) (·args .tab .now) (positionOf (·args .pos .now)) (·args .list .now) (·args .area .now)
     (·pre .0) .0
 
+-- src/lib.rt: let size = wide(tab[5]);
 wide-requires : tie.Need-wide-requires
 wide-requires c κs = search needs
 
+-- src/lib.rt: let p = position_of(pos);
 position-of-requires : tie.Need-position-of-requires
 position-of-requires c κs = search needs
 
+-- src/lib.rt: let a = gets::get_next_cell(cat, tab, size, p, list, area, false);
 get-next-cell-requires : tie.Need-get-next-cell-requires
 get-next-cell-requires c κs =
     let ·args = c .before .before .before .before .before .before .before .before .before .before .args in
@@ -28,6 +32,7 @@ get-next-cell-requires c κs =
     (·args .area .now) (c .before .position-of .result) (c .before .position-of .ensures) (·pre .0)) (·pre .1)
     (·wide .result) (·wide .ensures .0)
 
+-- src/lib.rt: lent::leave(pos, a)
 leave-requires : tie.Need-leave-requires
 leave-requires c κs =
     let ·args = c .before .before .before .before .before .before .before .before .before .before .before .before
@@ -54,12 +59,15 @@ leave-requires c κs =
     (c .before .before .before .get-next-cell .last .1 .1 .1 .1 .1 .0)
     (c .before .before .before .get-next-cell .ensures))
 
+-- src/lib.rt: fn step(cat: &[u8], tab: &[u8], pos: &mut [u8], list: &[u8], area: &mut [u8]) -> u64
 same-length : tie.Need-same-length
 same-length c = search needs
 
+-- src/lib.rt: fn step(cat: &[u8], tab: &[u8], pos: &mut [u8], list: &[u8], area: &mut [u8]) -> u64
 same-length-2 : tie.Need-same-length-2
 same-length-2 c = search needs
 
+-- src/lib.rt: fn step(cat: &[u8], tab: &[u8], pos: &mut [u8], list: &[u8], area: &mut [u8]) -> u64
 returns : tie.Need-returns
 returns c =
     let ·args = c .before .before .before .before .before .before .before .before .before .before .before .before

@@ -4,12 +4,15 @@ use borrow.Author.Needs.{needs}
 use Rattle.umbristal.proofs.umbristal_call.Statement.{statement}
 use Rattle.umbristal.proofs.umbristal_call.Tie as tie
 
+-- src/lib.rt: let p = position_of(pos);
 position-of-requires : tie.Need-position-of-requires
 position-of-requires c κs = search needs
 
+-- src/lib.rt: let a = dli::call(cat, tab, p, number, list, area);
 call-requires : tie.Need-call-requires
 call-requires c κs = search needs
 
+-- src/lib.rt: lent::leave(pos, a)
 leave-requires : tie.Need-leave-requires
 leave-requires c κs =
     let ·args = c .before .before .before .before .before .before .before .before .before .before .before .before
@@ -28,15 +31,19 @@ leave-requires c κs =
     (arith, c .before .before .before .before .before .before .before .before .before .before .slice-known3 .given i))
     (c .before .before .before .before .before .call .ensures)
 
+-- src/lib.rt: #[no_mangle]
 same-length : tie.Need-same-length
 same-length c = search needs
 
+-- src/lib.rt: #[no_mangle]
 same-length-2 : tie.Need-same-length-2
 same-length-2 c = search needs
 
+-- src/lib.rt: #[no_mangle]
 same-length-3 : tie.Need-same-length-3
 same-length-3 c = search needs
 
+-- src/lib.rt: #[no_mangle]
 returns : tie.Need-returns
 returns c =
     let ·args = c .before .before .before .before .before .before .before .before .before .before .before .before

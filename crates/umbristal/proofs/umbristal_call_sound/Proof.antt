@@ -7,12 +7,14 @@ use borrow.Author.Needs.{needs}
 use Rattle.umbristal.proofs.umbristal_call_sound.Statement.{statement}
 use Rattle.umbristal.proofs.umbristal_call_sound.Tie as tie
 
+-- src/lib.rt: if is_step(tab, number, list, area) {
 is-step-requires : tie.Need-is-step-requires
 is-step-requires c κs = let ·args = c .before .before .before .before .before .before .before .args in
     let ·pre = c .before .before .before .before .before .before .before .pre in
     sizes-in (·args .cat .now) (·args .tab .now) (positionOf (·args .pos .now)) (·args .list .now) (·args .area .now)
     (·pre)
 
+-- src/lib.rt: return step(cat, tab, pos, list, area);
 step-requires : tie.Need-step-requires
 step-requires c κs =
     let ·pre = c .before .before .before .before .before .before .before .before .before .before .before .before .pre in
@@ -23,15 +25,19 @@ step-requires c κs =
           (sym (·is-step .ensures) ∙ ·if1 .taken),
     )
 
+-- src/lib.rt: return step(cat, tab, pos, list, area);
 same-length : tie.Need-same-length
 same-length c = search needs
 
+-- src/lib.rt: return step(cat, tab, pos, list, area);
 same-length-2 : tie.Need-same-length-2
 same-length-2 c = search needs
 
+-- src/lib.rt: return step(cat, tab, pos, list, area);
 same-length-3 : tie.Need-same-length-3
 same-length-3 c = search needs
 
+-- src/lib.rt: return step(cat, tab, pos, list, area);
 returns : tie.Need-returns
 returns c = let ·step = c .before .before .before .before .step in
     let ·args = c .before .before .before .before .before .before .before .before .before .before .before .before
@@ -41,9 +47,11 @@ returns c = let ·step = c .before .before .before .before .step in
     ·step .ensures ∙ step-left (·args .cat .now) (·args .tab .now) (·args .pos .now) (·args .number) (·args .list .now)
     (·args .area .now) (sym (·is-step .ensures) ∙ ·if1 .taken)
 
+-- src/lib.rt: let p = position_of(pos);
 position-of-requires : tie.Need-position-of-requires
 position-of-requires c κs = search needs
 
+-- src/lib.rt: let a = dli::call_sound(cat, tab, p, number, list, area);
 call-sound-requires : tie.Need-call-sound-requires
 call-sound-requires c κs =
     let ·args = c .before .before .before .before .before .before .before .before .before .before .before .before
@@ -53,6 +61,7 @@ call-sound-requires c κs =
     sound-read (·args .cat .now) (·args .tab .now) (·args .pos .now) (·args .number) (·args .list .now)
     (·args .area .now) (·position-of .result) (·position-of .ensures) (·pre)
 
+-- src/lib.rt: lent::leave(pos, a)
 leave-requires : tie.Need-leave-requires
 leave-requires c κs =
     let ·args = c .before .before .before .before .before .before .before .before .before .before .before .before
@@ -76,15 +85,19 @@ leave-requires c κs =
     (c .before .before .before .before .before .before .before .before .before .before .before .before .before .before
     .before .before .before .before .before .pre) (c .before .before .before .before .before .call-sound .ensures)
 
+-- src/lib.rt: #[no_mangle]
 same-length-4 : tie.Need-same-length-4
 same-length-4 c = search needs
 
+-- src/lib.rt: #[no_mangle]
 same-length-5 : tie.Need-same-length-5
 same-length-5 c = search needs
 
+-- src/lib.rt: #[no_mangle]
 same-length-6 : tie.Need-same-length-6
 same-length-6 c = search needs
 
+-- src/lib.rt: #[no_mangle]
 returns-2 : tie.Need-returns-2
 returns-2 c =
     let ·args = c .before .before .before .before .before .before .before .before .before .before .before .before

@@ -4,12 +4,15 @@ use borrow.Author.Needs.{needs}
 use Rattle.umbristal.proofs.umbristal_catalogue_check.Statement.{statement}
 use Rattle.umbristal.proofs.umbristal_catalogue_check.Tie as tie
 
+-- src/lib.rt: terms::statuses::number(catalogue_check::check::check(cat))
 check-requires : tie.Need-check-requires
 check-requires c κs = search needs
 
+-- src/lib.rt: terms::statuses::number(catalogue_check::check::check(cat))
 number-requires : tie.Need-number-requires
 number-requires c κs = search needs
 
+-- src/lib.rt: #[no_mangle]
 returns : tie.Need-returns
 returns c = c .number .ensures ∙ ap number (c .before .check .ensures)
 

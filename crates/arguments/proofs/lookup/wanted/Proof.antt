@@ -13,18 +13,22 @@ Inv-loop cat list t at₀ at = Sought cat list t at
 abbrev μ-loop : tie.MeasureT-loop
 μ-loop cat list t at₀ at = length list - at
 
+-- src/lookup.rt: while at < list.len() {
 loop-holds : tie.Need-loop-holds Inv-loop μ-loop
 loop-holds c = let ·args = c .before .before .args in let ·pre = c .before .before .pre in
     sought-start (·args .cat .now) (·args .list .now) (·args .t) (·pre)
 
+-- src/lookup.rt: if list[at] == t.0 {
 shared-slice-read-if1 : tie.Need-shared-slice-read-if1 Inv-loop μ-loop
 shared-slice-read-if1 c = omega arith
 
+-- src/lookup.rt: let a = argument_at(cat, list, at);
 argument-at-requires : tie.Need-argument-at-requires Inv-loop μ-loop
 argument-at-requires c κs = let ·args = c .before .before .before .before .before .before .before .args in
     let ·loop = c .before .before .before .before .loop in let ·loop-test = c .before .before .before .loop-test in
     sought-room (·args .cat .now) (·args .list .now) (·args .t) (·loop .at) (·loop-test .taken) (·loop .inv)
 
+-- src/lookup.rt: return Wanted::Named(q);
 returns : tie.Need-returns Inv-loop μ-loop
 returns c = let ·args = c .before .before .before .before .before .before .before .before .args in
     let ·loop = c .before .before .before .before .before .loop in
@@ -32,11 +36,13 @@ returns c = let ·args = c .before .before .before .before .before .before .befo
     sought-here (·args .cat .now) (·args .list .now) (·args .t) (·loop .at) (·loop-test .taken) (·loop .inv)
     (c .before .if1 .taken) (ap (λ (a : Argument). a .qualification) (c .argument-at .ensures))
 
+-- src/lookup.rt: let passed = argument_at(cat, list, at);
 argument-at-requires-2 : tie.Need-argument-at-requires-2 Inv-loop μ-loop
 argument-at-requires-2 c κs = let ·args = c .before .before .before .before .before .before .before .args in
     let ·loop = c .before .before .before .before .loop in let ·loop-test = c .before .before .before .loop-test in
     sought-room (·args .cat .now) (·args .list .now) (·args .t) (·loop .at) (·loop-test .taken) (·loop .inv)
 
+-- src/lookup.rt: while at < list.len() {
 loop-less : tie.Need-loop-less Inv-loop μ-loop
 loop-less c = let ·args = c .before .before .before .before .before .before .before .before .args in
     omega (
@@ -47,6 +53,7 @@ loop-less c = let ·args = c .before .before .before .before .before .before .be
       ap (λ (a : Argument). a .next) (c .argument-at2 .ensures),
     )
 
+-- src/lookup.rt: while at < list.len() {
 loop-again : tie.Need-loop-again Inv-loop μ-loop
 loop-again c = let ·args = c .before .before .before .before .before .before .before .before .args in
     let ·loop = c .before .before .before .before .before .loop in
@@ -54,6 +61,7 @@ loop-again c = let ·args = c .before .before .before .before .before .before .b
     sought-next (·args .cat .now) (·args .list .now) (·args .t) (·loop .at) (·loop-test .taken) (·loop .inv)
     (c .before .if1 .left) (ap (λ (a : Argument). a .next) (c .argument-at2 .ensures))
 
+-- src/lookup.rt: pub fn wanted(cat: &[u8], list: &[u8], t: TypeCode) -> Wanted
 returns-2 : tie.Need-returns-2 Inv-loop μ-loop
 returns-2 c = let ·args = c .before .before .before .before .args in
     sought-end (·args .cat .now) (·args .list .now) (·args .t) (c .before .loop .at) (c .loop-test .left)

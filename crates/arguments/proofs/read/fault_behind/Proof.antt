@@ -15,21 +15,27 @@ Inv-loop cat list before₀ at₀ before at = rest cat list before at .fault ≡
 abbrev μ-loop : tie.MeasureT-loop
 μ-loop cat list before₀ at₀ before at = length list - at
 
+-- src/read.rt: while at < list.len() {
 loop-holds : tie.Need-loop-holds Inv-loop μ-loop
 loop-holds c = refl
 
+-- src/read.rt: let read = read_argument(cat, list, before, at);
 read-argument-requires : tie.Need-read-argument-requires Inv-loop μ-loop
 read-argument-requires c κs = search needs
 
+-- src/read.rt: let ArgumentRead::Got(a) = read else {
 enum-known-read : tie.Need-enum-known-read Inv-loop μ-loop
 enum-known-read c = search needs
 
+-- src/read.rt: return status_of(read);
 enum-told : tie.Need-enum-told Inv-loop μ-loop
 enum-told c = search needs
 
+-- src/read.rt: return status_of(read);
 status-of-requires : tie.Need-status-of-requires Inv-loop μ-loop
 status-of-requires c κs = search needs
 
+-- src/read.rt: return status_of(read);
 returns : tie.Need-returns Inv-loop μ-loop
 returns c = let ·args = c .before .before .before .before .before .before .before .before .args in
     let ·loop = c .before .before .before .before .before .loop in
@@ -38,6 +44,7 @@ returns c = let ·args = c .before .before .before .before .before .before .befo
     got-fault (·args .cat .now) (·args .list .now) (·loop .before) (·loop .at) (·loop-test .taken)
     (·read-argument .ensures) (c .before .enum-told .given .1) (c .status-of .ensures) ∙ ·loop .inv
 
+-- src/read.rt: while at < list.len() {
 loop-less : tie.Need-loop-less Inv-loop μ-loop
 loop-less c = let ·args = c .before .before .before .before .before .before .before .before .before .args in
     omega (
@@ -49,6 +56,7 @@ loop-less c = let ·args = c .before .before .before .before .before .before .be
           (c .before .before .before .before .read-argument .ensures) (c .before .before .read .given .1),
     )
 
+-- src/read.rt: while at < list.len() {
 loop-again : tie.Need-loop-again Inv-loop μ-loop
 loop-again c = let ·args = c .before .before .before .before .before .before .before .before .before .args in
     let ·loop = c .before .before .before .before .before .before .loop in
@@ -57,6 +65,7 @@ loop-again c = let ·args = c .before .before .before .before .before .before .b
     got-rest (·args .cat .now) (·args .list .now) (·loop .before) (·loop .at) (·loop-test .taken)
     (·read-argument .ensures) (·read .given .1) ∙ ·loop .inv
 
+-- src/read.rt: pub fn fault_behind(cat: &[u8], list: &[u8], last: TypeCode) -> Status
 returns-2 : tie.Need-returns-2 Inv-loop μ-loop
 returns-2 c = let ·args = c .before .before .before .before .args in
     sym (ap (λ (l : ListRead). l .fault) (rest-end (·args .cat .now) (·args .list .now) (c .before .loop .before)

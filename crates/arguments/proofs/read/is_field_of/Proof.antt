@@ -7,14 +7,17 @@ use borrow.Author.Needs.{needs}
 use Rattle.arguments.proofs.read.is_field_of.Statement.{statement}
 use Rattle.arguments.proofs.read.is_field_of.Tie as tie
 
+-- src/read.rt: return false;
 returns : tie.Need-returns
 unfolding isFieldOf
 returns c = let ·args = c .before .before .before .args in
     simp (lt-leb 1 (·args .f .0) (omega arith))
 
+-- src/read.rt: if fields(cat) < f.0 {
 fields-requires : tie.Need-fields-requires
 fields-requires c κs = search needs
 
+-- src/read.rt: return false;
 returns-2 : tie.Need-returns-2
 unfolding isFieldOf
 returns-2 c = let ·args = c .before .before .before .before .before .before .args in
@@ -24,9 +27,11 @@ returns-2 c = let ·args = c .before .before .before .before .before .before .ar
           (omega (arith, c .before .before .fields .ensures)),
     )
 
+-- src/read.rt: field_type(cat, f).0 == t.0
 field-type-requires : tie.Need-field-type-requires
 field-type-requires c κs = search needs
 
+-- src/read.rt: fn is_field_of(cat: &[u8], t: TypeCode, f: FieldNumber) -> bool
 returns-3 : tie.Need-returns-3
 unfolding isFieldOf
 returns-3 c = let ·args = c .before .before .before .before .before .before .before .before .before .args in

@@ -15,18 +15,23 @@ Inv-loop tail₀ i₀ tail i = (i ≤ length tail₀) × (length tail ≡ length
 abbrev μ-loop : tie.MeasureT-loop
 μ-loop tail₀ i₀ tail i = length tail - i
 
+-- src/moves.rt: while i < tail.len() {
 loop-holds : tie.Need-loop-holds Inv-loop μ-loop
 loop-holds c = (search needs, refl, refl)
 
+-- src/moves.rt: tail[i] = 0;
 slice-write-tail : tie.Need-slice-write-tail Inv-loop μ-loop
 slice-write-tail c = search needs
 
+-- src/moves.rt: i += 1;
 add-i : tie.Need-add-i Inv-loop μ-loop
 add-i c = search needs
 
+-- src/moves.rt: while i < tail.len() {
 loop-less : tie.Need-loop-less Inv-loop μ-loop
 loop-less c = simp length-set (omega arith)
 
+-- src/moves.rt: while i < tail.len() {
 loop-again : tie.Need-loop-again Inv-loop μ-loop
 loop-again c = let ·args = c .before .before .args in
     let l = c .before .loop in (
@@ -36,9 +41,11 @@ loop-again c = let ·args = c .before .before .args in
           fill-more (l .i) 0 (·args .tail .now) (omega arith),
     )
 
+-- src/moves.rt: pub fn clear(tail: &mut [u8])
 same-length : tie.Need-same-length Inv-loop μ-loop
 same-length c = search needs
 
+-- src/moves.rt: pub fn clear(tail: &mut [u8])
 returns : tie.Need-returns Inv-loop μ-loop
 returns c = let ·args = c .before .before .args in
     let a = ·args .tail .now in let e : c .before .loop .i ≡ length a = omega arith in let d : drop (length a) a ≡ [] =

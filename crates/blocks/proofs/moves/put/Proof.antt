@@ -16,21 +16,27 @@ Inv-loop tail₀ from i₀ tail i = (i ≤ length from) × (length from ≤ leng
 abbrev μ-loop : tie.MeasureT-loop
 μ-loop tail₀ from i₀ tail i = length from - i
 
+-- src/moves.rt: while i < from.len() {
 loop-holds : tie.Need-loop-holds Inv-loop μ-loop
 loop-holds c = (omega arith, omega arith, refl, refl)
 
+-- src/moves.rt: tail[i] = from[i];
 shared-slice-read-tail : tie.Need-shared-slice-read-tail Inv-loop μ-loop
 shared-slice-read-tail c = omega arith
 
+-- src/moves.rt: tail[i] = from[i];
 slice-write-tail : tie.Need-slice-write-tail Inv-loop μ-loop
 slice-write-tail c = omega arith
 
+-- src/moves.rt: i += 1;
 add-i : tie.Need-add-i Inv-loop μ-loop
 add-i c = omega arith
 
+-- src/moves.rt: while i < from.len() {
 loop-less : tie.Need-loop-less Inv-loop μ-loop
 loop-less c = omega arith
 
+-- src/moves.rt: while i < from.len() {
 loop-again : tie.Need-loop-again Inv-loop μ-loop
 loop-again c = let ·args = c .before .before .before .args in (
   omega arith,
@@ -42,9 +48,11 @@ loop-again c = let ·args = c .before .before .before .args in (
       (omega arith) (omega arith),
 )
 
+-- src/moves.rt: pub fn put(tail: &mut [u8], from: &[u8])
 same-length : tie.Need-same-length Inv-loop μ-loop
 same-length c = omega arith
 
+-- src/moves.rt: pub fn put(tail: &mut [u8], from: &[u8])
 returns : tie.Need-returns Inv-loop μ-loop
 returns c = let ·args = c .before .before .args in
     let e : c .before .loop .i ≡ length (·args .from .now) = omega arith in c .before .loop .inv .3 ∙ ap

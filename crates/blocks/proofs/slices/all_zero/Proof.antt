@@ -15,18 +15,23 @@ Inv-loop b most₀ i₀ most i = (i ≤ length b) × ((eqb most 0 && zeros (drop
 abbrev μ-loop : tie.MeasureT-loop
 μ-loop b most₀ i₀ most i = length b - i
 
+-- src/slices.rt: while i < b.len() {
 loop-holds : tie.Need-loop-holds Inv-loop μ-loop
 loop-holds c = (omega arith, refl)
 
+-- src/slices.rt: let x = b[i];
 shared-slice-read-x : tie.Need-shared-slice-read-x Inv-loop μ-loop
 shared-slice-read-x c = omega arith
 
+-- src/slices.rt: i += 1;
 add-i : tie.Need-add-i Inv-loop μ-loop
 add-i c = omega arith
 
+-- src/slices.rt: while i < b.len() {
 loop-less : tie.Need-loop-less Inv-loop μ-loop
 loop-less c = omega arith
 
+-- src/slices.rt: while i < b.len() {
 loop-again : tie.Need-loop-again Inv-loop μ-loop
 loop-again c = (
   omega arith,
@@ -34,9 +39,11 @@ loop-again c = (
       c .before .before .before .loop .inv .1,
 )
 
+-- src/slices.rt: while i < b.len() {
 loop-less-2 : tie.Need-loop-less-2 Inv-loop μ-loop
 loop-less-2 c = omega arith
 
+-- src/slices.rt: while i < b.len() {
 loop-again-2 : tie.Need-loop-again-2 Inv-loop μ-loop
 loop-again-2 c = (
   omega arith,
@@ -44,6 +51,7 @@ loop-again-2 c = (
       c .before .before .before .loop .inv .1,
 )
 
+-- src/slices.rt: pub fn all_zero(b: &[u8]) -> bool
 returns : tie.Need-returns Inv-loop μ-loop
 returns c = let ·args = c .before .before .args in
     most-end (·args .b .now) (c .before .loop .i) (c .before .loop .most) (c .loop-test .left) ∙ c .before .loop .inv .1

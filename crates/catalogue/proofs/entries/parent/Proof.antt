@@ -5,9 +5,11 @@ use borrow.Author.Needs.{needs}
 use Rattle.catalogue.proofs.entries.parent.Statement.{statement}
 use Rattle.catalogue.proofs.entries.parent.Tie as tie
 
+-- src/entries.rt: TypeCode(type_byte(cat, t, 0))
 type-byte-requires : tie.Need-type-byte-requires
 type-byte-requires c κs = search needs
 
+-- src/entries.rt: pub fn parent(cat: &[u8], t: TypeCode) -> TypeCode
 returns : tie.Need-returns
 unfolding parentOf
 returns c = ap code (c .type-byte .ensures)

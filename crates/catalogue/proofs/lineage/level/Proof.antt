@@ -15,10 +15,12 @@ Inv-loop cat u₀ left₀ n₀ u left n = (n + left ≤ u₀) × (n + length (cl
 abbrev μ-loop : tie.MeasureT-loop
 μ-loop cat u₀ left₀ n₀ u left n = left
 
+-- src/lineage.rt: while 0 < left {
 loop-holds : tie.Need-loop-holds Inv-loop μ-loop
 unfolding level lineage lineageOver
 loop-holds c = (omega arith, omega arith)
 
+-- src/lineage.rt: return n;
 returns : tie.Need-returns Inv-loop μ-loop
 unfolding level lineage lineageOver
 returns c = let ·args = c .before .before .before .before .args in
@@ -29,21 +31,26 @@ returns c = let ·args = c .before .before .before .before .args in
           (climbed-top (·args .cat .now) (c .before .before .loop .left) (c .before .before .loop .u) (c .if1 .taken)),
     )
 
+-- src/lineage.rt: n += 1;
 add-n : tie.Need-add-n Inv-loop μ-loop
 unfolding level lineage lineageOver
 add-n c = omega arith
 
+-- src/lineage.rt: left -= 1;
 sub-left : tie.Need-sub-left Inv-loop μ-loop
 unfolding level lineage lineageOver
 sub-left c = omega arith
 
+-- src/lineage.rt: u = parent(cat, TypeCode(u)).0;
 parent-requires : tie.Need-parent-requires Inv-loop μ-loop
 parent-requires c κs = search needs
 
+-- src/lineage.rt: while 0 < left {
 loop-less : tie.Need-loop-less Inv-loop μ-loop
 unfolding level lineage lineageOver
 loop-less c = omega arith
 
+-- src/lineage.rt: while 0 < left {
 loop-again : tie.Need-loop-again Inv-loop μ-loop
 unfolding level lineage lineageOver
 loop-again c = let ·args = c .before .before .before .before .before .args in (
@@ -54,6 +61,7 @@ loop-again c = let ·args = c .before .before .before .before .before .args in (
       c .before .before .before .loop .inv .1,
 )
 
+-- src/lineage.rt: pub fn level(cat: &[u8], t: TypeCode) -> u8
 returns-2 : tie.Need-returns-2 Inv-loop μ-loop
 unfolding level lineage lineageOver
 returns-2 c = let ·args = c .before .before .before .args in

@@ -13,24 +13,30 @@ Inv-loop cat top k₀ most₀ k most = (k ≤ top) × (most ≡ largest cat k)
 abbrev μ-loop : tie.MeasureT-loop
 μ-loop cat top k₀ most₀ k most = top - k
 
+-- src/type_range.rt: let top = types(cat);
 types-requires : tie.Need-types-requires Inv-loop μ-loop
 types-requires c κs = search needs
 
+-- src/type_range.rt: while k < top {
 loop-holds : tie.Need-loop-holds Inv-loop μ-loop
 unfolding largest
 loop-holds c = (omega arith, refl)
 
+-- src/type_range.rt: k += 1;
 add-k : tie.Need-add-k Inv-loop μ-loop
 unfolding largest
 add-k c = omega arith
 
+-- src/type_range.rt: let long = data_length(cat, TypeCode(k));
 data-length-requires : tie.Need-data-length-requires Inv-loop μ-loop
 data-length-requires c κs = search needs
 
+-- src/type_range.rt: while k < top {
 loop-less : tie.Need-loop-less Inv-loop μ-loop
 unfolding largest
 loop-less c = omega arith
 
+-- src/type_range.rt: while k < top {
 loop-again : tie.Need-loop-again Inv-loop μ-loop
 unfolding largest
 loop-again c = let ·args = c .before .before .before .before .before .before .args in (
@@ -39,10 +45,12 @@ loop-again c = let ·args = c .before .before .before .before .before .before .a
       (largest-more (·args .cat .now) (c .before .before .before .loop .k) (omega arith)),
 )
 
+-- src/type_range.rt: while k < top {
 loop-less-2 : tie.Need-loop-less-2 Inv-loop μ-loop
 unfolding largest
 loop-less-2 c = omega arith
 
+-- src/type_range.rt: while k < top {
 loop-again-2 : tie.Need-loop-again-2 Inv-loop μ-loop
 unfolding largest
 loop-again-2 c = let ·args = c .before .before .before .before .before .before .args in (
@@ -51,6 +59,7 @@ loop-again-2 c = let ·args = c .before .before .before .before .before .before 
       (largest-same (·args .cat .now) (c .before .before .before .loop .k) (omega arith)),
 )
 
+-- src/type_range.rt: pub fn largest(cat: &[u8]) -> u8
 returns : tie.Need-returns Inv-loop μ-loop
 unfolding largest
 returns c = let ·args = c .before .before .before .before .args in

@@ -17,9 +17,11 @@ Inv-loop cat last f₀ f = (f ≤ last) × (last ≡ fields cat) ×
 abbrev μ-loop : tie.MeasureT-loop
 μ-loop cat last f₀ f = last - f
 
+-- src/check.rt: let last = fields(cat);
 fields-requires : tie.Need-fields-requires Inv-loop μ-loop
 fields-requires c κs = search needs
 
+-- src/check.rt: while f < last {
 loop-holds : tie.Need-loop-holds Inv-loop μ-loop
 loop-holds c = (
   omega arith,
@@ -28,12 +30,15 @@ loop-holds c = (
       rw z,
 )
 
+-- src/check.rt: f += 1;
 add-f : tie.Need-add-f Inv-loop μ-loop
 add-f c = omega arith
 
+-- src/check.rt: if !good_field(cat, f) {
 good-field-requires : tie.Need-good-field-requires Inv-loop μ-loop
 good-field-requires c κs = search needs
 
+-- src/check.rt: return false;
 returns : tie.Need-returns Inv-loop μ-loop
 returns c = let ·args = c .before .before .before .before .before .before .args in
     let ·loop = c .before .before .before .loop in let ·fields = c .before .before .before .before .fields in
@@ -42,9 +47,11 @@ returns c = let ·args = c .before .before .before .before .before .before .args
     (told-no (c .before .good-field .ensures) (c .if1 .taken)) ∙ ·loop .inv .2 ∙ ap
     (λ (n : ℕ). every (goodField (·args .cat .now)) (range 1 n)) (·loop .inv .1)
 
+-- src/check.rt: while f < last {
 loop-less : tie.Need-loop-less Inv-loop μ-loop
 loop-less c = omega arith
 
+-- src/check.rt: while f < last {
 loop-again : tie.Need-loop-again Inv-loop μ-loop
 loop-again c = let ·args = c .before .before .before .before .before .before .args in (
   omega arith,
@@ -55,6 +62,7 @@ loop-again c = let ·args = c .before .before .before .before .before .before .a
       c .before .before .before .loop .inv .2,
 )
 
+-- src/check.rt: fn good_fields(cat: &[u8]) -> bool
 returns-2 : tie.Need-returns-2 Inv-loop μ-loop
 returns-2 c = let ·args = c .before .before .before .before .args in let ·fields = c .before .before .fields in
     every-done (goodField (·args .cat .now)) (c .before .loop .f) (·fields .result) (c .loop-test .left) ∙

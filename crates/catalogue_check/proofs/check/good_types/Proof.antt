@@ -17,9 +17,11 @@ Inv-loop cat top k₀ k = (k ≤ top) × (top ≡ types cat) ×
 abbrev μ-loop : tie.MeasureT-loop
 μ-loop cat top k₀ k = top - k
 
+-- src/check.rt: let top = types(cat);
 types-requires : tie.Need-types-requires Inv-loop μ-loop
 types-requires c κs = search needs
 
+-- src/check.rt: while k < top {
 loop-holds : tie.Need-loop-holds Inv-loop μ-loop
 loop-holds c = (
   omega arith,
@@ -28,12 +30,15 @@ loop-holds c = (
       z,
 )
 
+-- src/check.rt: k += 1;
 add-k : tie.Need-add-k Inv-loop μ-loop
 add-k c = omega arith
 
+-- src/check.rt: if !good_type(cat, k) {
 good-type-requires : tie.Need-good-type-requires Inv-loop μ-loop
 good-type-requires c κs = search needs
 
+-- src/check.rt: return false;
 returns : tie.Need-returns Inv-loop μ-loop
 returns c = let ·args = c .before .before .before .before .before .before .args in
     let ·loop = c .before .before .before .loop in let ·types = c .before .before .before .before .types in
@@ -42,9 +47,11 @@ returns c = let ·args = c .before .before .before .before .before .before .args
     (told-no (c .before .good-type .ensures) (c .if1 .taken)) ∙ ·loop .inv .2 ∙ ap
     (λ (n : ℕ). every (goodType (·args .cat .now)) (range 1 n)) (·loop .inv .1)
 
+-- src/check.rt: while k < top {
 loop-less : tie.Need-loop-less Inv-loop μ-loop
 loop-less c = omega arith
 
+-- src/check.rt: while k < top {
 loop-again : tie.Need-loop-again Inv-loop μ-loop
 loop-again c = let ·args = c .before .before .before .before .before .before .args in (
   omega arith,
@@ -55,6 +62,7 @@ loop-again c = let ·args = c .before .before .before .before .before .before .a
       c .before .before .before .loop .inv .2,
 )
 
+-- src/check.rt: fn good_types(cat: &[u8]) -> bool
 returns-2 : tie.Need-returns-2 Inv-loop μ-loop
 returns-2 c = let ·args = c .before .before .before .before .args in let ·types = c .before .before .types in
     every-done (goodType (·args .cat .now)) (c .before .loop .k) (·types .result) (c .loop-test .left) ∙

@@ -5,9 +5,11 @@ use borrow.Author.Needs.{needs}
 use Rattle.catalogue_check.proofs.entry.ends_in_zeros.Statement.{statement}
 use Rattle.catalogue_check.proofs.entry.ends_in_zeros.Tie as tie
 
+-- src/entry.rt: if type_byte(cat, t, 5) != 0 {
 type-byte-requires : tie.Need-type-byte-requires
 type-byte-requires c κs = search needs
 
+-- src/entry.rt: return false;
 returns : tie.Need-returns
 returns c = let ·args = c .before .before .before .args in
     simp (
@@ -16,9 +18,11 @@ returns c = let ·args = c .before .before .before .args in
           (λ e. c .if1 .taken (c .before .type-byte .ensures ∙ e)),
     )
 
+-- src/entry.rt: if type_byte(cat, t, 6) != 0 {
 type-byte-requires-2 : tie.Need-type-byte-requires-2
 type-byte-requires-2 c κs = search needs
 
+-- src/entry.rt: return false;
 returns-2 : tie.Need-returns-2
 returns-2 c = let ·args = c .before .before .before .before .before .args in
     let ·type-byte = c .before .before .before .type-byte in let ·if1 = c .before .before .if1 in
@@ -29,9 +33,11 @@ returns-2 c = let ·args = c .before .before .before .before .before .args in
           (λ e. c .if2 .taken (c .before .type-byte2 .ensures ∙ e)),
     )
 
+-- src/entry.rt: type_byte(cat, t, 7) == 0
 type-byte-requires-3 : tie.Need-type-byte-requires-3
 type-byte-requires-3 c κs = search needs
 
+-- src/entry.rt: fn ends_in_zeros(cat: &[u8], t: TypeCode) -> bool
 returns-3 : tie.Need-returns-3
 returns-3 c = let ·args = c .before .before .before .before .before .before .args in
     let ·type-byte = c .before .before .before .before .type-byte in let ·if1 = c .before .before .before .if1 in

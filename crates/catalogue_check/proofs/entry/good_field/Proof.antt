@@ -5,29 +5,37 @@ use borrow.Author.Needs.{needs}
 use Rattle.catalogue_check.proofs.entry.good_field.Statement.{statement}
 use Rattle.catalogue_check.proofs.entry.good_field.Tie as tie
 
+-- src/entry.rt: let t = field_type(cat, FieldNumber(f));
 field-type-requires : tie.Need-field-type-requires
 field-type-requires c κs = search needs
 
+-- src/entry.rt: if !is_type(cat, t) {
 is-type-requires : tie.Need-is-type-requires
 is-type-requires c κs = search needs
 
+-- src/entry.rt: return false;
 returns : tie.Need-returns
 unfolding goodField
 returns c = let ·field-type = c .before .before .field-type in
     simp (sym (·field-type .ensures), told-no (c .before .is-type .ensures) (c .if1 .taken))
 
+-- src/entry.rt: let start = field_start(cat, FieldNumber(f));
 field-start-requires : tie.Need-field-start-requires
 field-start-requires c κs = search needs
 
+-- src/entry.rt: let long = field_length(cat, FieldNumber(f));
 field-length-requires : tie.Need-field-length-requires
 field-length-requires c κs = search needs
 
+-- src/entry.rt: if !good_span(start, long, data_length(cat, t)) {
 data-length-requires : tie.Need-data-length-requires
 data-length-requires c κs = search needs
 
+-- src/entry.rt: if !good_span(start, long, data_length(cat, t)) {
 good-span-requires : tie.Need-good-span-requires
 good-span-requires c κs = search needs
 
+-- src/entry.rt: return false;
 returns-2 : tie.Need-returns-2
 unfolding goodField
 returns-2 c = let ·field-type = c .before .before .before .before .before .before .before .field-type in
@@ -45,9 +53,11 @@ returns-2 c = let ·field-type = c .before .before .before .before .before .befo
       told-no (c .before .good-span .ensures) (c .if2 .taken),
     )
 
+-- src/entry.rt: field_byte(cat, FieldNumber(f), 3) == 0
 field-byte-requires : tie.Need-field-byte-requires
 field-byte-requires c κs = search needs
 
+-- src/entry.rt: pub fn good_field(cat: &[u8], f: u8) -> bool
 returns-3 : tie.Need-returns-3
 unfolding goodField
 returns-3 c = let ·field-type = c .before .before .before .before .before .before .before .before .field-type in

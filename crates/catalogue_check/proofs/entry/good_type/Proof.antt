@@ -4,24 +4,30 @@ use borrow.Author.Needs.{needs}
 use Rattle.catalogue_check.proofs.entry.good_type.Statement.{statement}
 use Rattle.catalogue_check.proofs.entry.good_type.Tie as tie
 
+-- src/entry.rt: if !good_parent(cat, k) {
 good-parent-requires : tie.Need-good-parent-requires
 good-parent-requires c κs = search needs
 
+-- src/entry.rt: return false;
 returns : tie.Need-returns
 unfolding goodType
 returns c = simp (told-no (c .before .good-parent .ensures) (c .if1 .taken))
 
+-- src/entry.rt: if !good_length(cat, TypeCode(k)) {
 good-length-requires : tie.Need-good-length-requires
 good-length-requires c κs = search needs
 
+-- src/entry.rt: return false;
 returns-2 : tie.Need-returns-2
 unfolding goodType
 returns-2 c = let ·good-parent = c .before .before .before .good-parent in let ·if1 = c .before .before .if1 in
     simp (told-yes (·good-parent .ensures) (·if1 .left), told-no (c .before .good-length .ensures) (c .if2 .taken))
 
+-- src/entry.rt: if !good_key(cat, TypeCode(k)) {
 good-key-requires : tie.Need-good-key-requires
 good-key-requires c κs = search needs
 
+-- src/entry.rt: return false;
 returns-3 : tie.Need-returns-3
 unfolding goodType
 returns-3 c = let ·good-parent = c .before .before .before .before .before .good-parent in
@@ -34,9 +40,11 @@ returns-3 c = let ·good-parent = c .before .before .before .before .before .goo
           (c .before .good-key .ensures) (c .if3 .taken),
     )
 
+-- src/entry.rt: if !ends_in_zeros(cat, TypeCode(k)) {
 ends-in-zeros-requires : tie.Need-ends-in-zeros-requires
 ends-in-zeros-requires c κs = search needs
 
+-- src/entry.rt: return false;
 returns-4 : tie.Need-returns-4
 unfolding goodType
 returns-4 c = let ·good-parent = c .before .before .before .before .before .before .before .good-parent in
@@ -52,9 +60,11 @@ returns-4 c = let ·good-parent = c .before .before .before .before .before .bef
       told-no (c .before .ends-in-zeros .ensures) (c .if4 .taken),
     )
 
+-- src/entry.rt: level(cat, TypeCode(k)) <= 15
 level-requires : tie.Need-level-requires
 level-requires c κs = search needs
 
+-- src/entry.rt: pub fn good_type(cat: &[u8], k: u8) -> bool
 returns-5 : tie.Need-returns-5
 unfolding goodType
 returns-5 c = let ·good-parent = c .before .before .before .before .before .before .before .before .good-parent in

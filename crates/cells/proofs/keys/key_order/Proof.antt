@@ -6,6 +6,7 @@ use borrow.Author.Needs.{needs}
 use Rattle.cells.proofs.keys.key_order.Statement.{statement}
 use Rattle.cells.proofs.keys.key_order.Tie as tie
 
+-- src/keys.rt: let t = code_at(cat, tab, size, c);
 code-at-requires : tie.Need-code-at-requires
 code-at-requires c κs = let ·args = c .before .before .args in (
   c .before .before .pre .0,
@@ -17,18 +18,23 @@ code-at-requires c κs = let ·args = c .before .before .args in (
   ),
 )
 
+-- src/keys.rt: let start = wide(key_start(cat, t));
 key-start-requires : tie.Need-key-start-requires
 key-start-requires c κs = search needs
 
+-- src/keys.rt: let start = wide(key_start(cat, t));
 wide-requires : tie.Need-wide-requires
 wide-requires c κs = search needs
 
+-- src/keys.rt: let long = wide(key_length(cat, t));
 key-length-requires : tie.Need-key-length-requires
 key-length-requires c κs = search needs
 
+-- src/keys.rt: let long = wide(key_length(cat, t));
 wide-requires-2 : tie.Need-wide-requires-2
 wide-requires-2 c κs = search needs
 
+-- src/keys.rt: data_part(cat, tab, size, c, start, long),
 data-part-requires : tie.Need-data-part-requires
 data-part-requires c κs = let ·pre = c .before .before .before .before .before .before .before .pre in
     let ·code-at = c .before .before .before .before .code-at in let ·wide = c .before .before .wide in
@@ -36,6 +42,7 @@ data-part-requires c κs = let ·pre = c .before .before .before .before .before
     keys-data (·pre .0) (·pre .1) (·code-at .ensures) (·wide .ensures .0 ∙ ·key-start .ensures)
     (c .wide2 .ensures .0 ∙ c .before .key-length .ensures) .0
 
+-- src/keys.rt: data_part(cat, tab, size, d, start, long),
 data-part-requires-2 : tie.Need-data-part-requires-2
 data-part-requires-2 c κs = let ·pre = c .before .before .before .before .before .before .before .before .pre in
     let ·code-at = c .before .before .before .before .before .code-at in let ·wide = c .before .before .before .wide in
@@ -43,9 +50,11 @@ data-part-requires-2 c κs = let ·pre = c .before .before .before .before .befo
     keys-data (·pre .0) (·pre .1) (·code-at .ensures) (·wide .ensures .0 ∙ ·key-start .ensures)
     (c .before .wide2 .ensures .0 ∙ ·key-length .ensures) .1
 
+-- src/keys.rt: order_of(
 order-of-requires : tie.Need-order-of-requires
 order-of-requires c κs = search needs
 
+-- src/keys.rt: pub fn key_order(cat: &[u8], tab: &[u8], size: usize, c: CellNumber, d: CellNumber) -> Order
 returns : tie.Need-returns
 returns c = let ·pre = c .before .before .before .before .before .before .before .before .before .before .pre in
     let ·code-at = c .before .before .before .before .before .before .before .code-at in

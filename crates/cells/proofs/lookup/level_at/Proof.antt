@@ -5,12 +5,15 @@ use borrow.Author.Needs.{needs}
 use Rattle.cells.proofs.lookup.level_at.Statement.{statement}
 use Rattle.cells.proofs.lookup.level_at.Tie as tie
 
+-- src/lookup.rt: level(cat, code_at(cat, tab, size, c))
 code-at-requires : tie.Need-code-at-requires
 code-at-requires c κs = search needs
 
+-- src/lookup.rt: level(cat, code_at(cat, tab, size, c))
 level-requires : tie.Need-level-requires
 level-requires c κs = search needs
 
+-- src/lookup.rt: pub fn level_at(cat: &[u8], tab: &[u8], size: usize, c: CellNumber) -> u8
 returns : tie.Need-returns
 unfolding levelAt
 returns c = let ·args = c .before .before .before .before .args in

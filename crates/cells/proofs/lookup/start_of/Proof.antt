@@ -3,6 +3,7 @@ use Rattle.cells.proofs.Start.{start-made}
 use Rattle.cells.proofs.lookup.start_of.Statement.{statement}
 use Rattle.cells.proofs.lookup.start_of.Tie as tie
 
+-- src/lookup.rt: 8 + c.0 * size
 mul-result : tie.Need-mul-result
 mul-result c = omega (
   arith,
@@ -10,6 +11,7 @@ mul-result c = omega (
   c .before .pre .within,
 )
 
+-- src/lookup.rt: 8 + c.0 * size
 add-result : tie.Need-add-result
 add-result c = omega (
   arith,
@@ -17,6 +19,7 @@ add-result c = omega (
   c .before .pre .within,
 )
 
+-- src/lookup.rt: pub fn start_of(tab: &[u8], size: usize, c: CellNumber) -> usize
 returns : tie.Need-returns
 returns c = (
   start-made (c .before .args .tab .now) (c .before .args .size) (c .before .args .c .0),

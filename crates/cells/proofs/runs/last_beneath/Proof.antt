@@ -14,9 +14,11 @@ Inv-loop cat t top last₀ last = (t ≤ last) × (last ≤ types cat) × InnerT
 abbrev μ-loop : tie.MeasureT-loop
 μ-loop cat t top last₀ last = types cat - last
 
+-- src/runs.rt: let top = types(cat);
 types-requires : tie.Need-types-requires Inv-loop μ-loop
 types-requires c κs = search needs
 
+-- src/runs.rt: while last < top {
 loop-holds : tie.Need-loop-holds Inv-loop μ-loop
 loop-holds c = let ·args = c .before .before .args in (
   omega arith,
@@ -25,6 +27,7 @@ loop-holds c = let ·args = c .before .before .args in (
       (c .before .before .pre .1) (c .before .before .pre .2),
 )
 
+-- src/runs.rt: if parent(cat, TypeCode(last + 1)).0 < t {
 add-t7 : tie.Need-add-t7 Inv-loop μ-loop
 add-t7 c = let ·args = c .before .before .before .before .args in
     omega (
@@ -34,9 +37,11 @@ add-t7 c = let ·args = c .before .before .before .before .args in
           (c .before .before .before .before .pre .0) .types-most,
     )
 
+-- src/runs.rt: if parent(cat, TypeCode(last + 1)).0 < t {
 parent-requires : tie.Need-parent-requires Inv-loop μ-loop
 parent-requires c κs = search needs
 
+-- src/runs.rt: return last;
 returns : tie.Need-returns Inv-loop μ-loop
 returns c = let ·args = c .before .before .before .before .before .before .before .args in
     record {
@@ -53,6 +58,7 @@ returns c = let ·args = c .before .before .before .before .before .before .befo
           (c .if1 .taken);
     }
 
+-- src/runs.rt: last += 1;
 add-last : tie.Need-add-last Inv-loop μ-loop
 add-last c = let ·args = c .before .before .before .before .before .before .before .args in
     omega (
@@ -62,9 +68,11 @@ add-last c = let ·args = c .before .before .before .before .before .before .bef
           (c .before .before .before .before .before .before .before .pre .0) .types-most,
     )
 
+-- src/runs.rt: while last < top {
 loop-less : tie.Need-loop-less Inv-loop μ-loop
 loop-less c = omega (arith, c .before .before .before .before .before .types .ensures)
 
+-- src/runs.rt: while last < top {
 loop-again : tie.Need-loop-again Inv-loop μ-loop
 loop-again c = let ·args = c .before .before .before .before .before .before .before .args in (
   omega (arith, c .before .before .before .before .loop .inv .0),
@@ -79,6 +87,7 @@ loop-again c = let ·args = c .before .before .before .before .before .before .b
       (c .before .before .before .before .loop .inv .2) (c .if1 .left),
 )
 
+-- src/runs.rt: fn last_beneath(cat: &[u8], t: u8) -> u8
 returns-2 : tie.Need-returns-2 Inv-loop μ-loop
 returns-2 c = record {
   least = c .before .loop .inv .0;

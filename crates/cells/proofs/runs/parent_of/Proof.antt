@@ -16,13 +16,16 @@ Inv-loop cat tab size above k₀ k = (k ≤ k₀) ×
 abbrev μ-loop : tie.MeasureT-loop
 μ-loop cat tab size above k₀ k = k
 
+-- src/runs.rt: let above = parent(cat, code_at(cat, tab, size, c));
 code-at-requires : tie.Need-code-at-requires Inv-loop μ-loop
 code-at-requires c κs = let ·pre = c .before .before .pre in
     (·pre .0 .sized, ·pre .1)
 
+-- src/runs.rt: let above = parent(cat, code_at(cat, tab, size, c));
 parent-requires : tie.Need-parent-requires Inv-loop μ-loop
 parent-requires c κs = search needs
 
+-- src/runs.rt: return Found::Nothing;
 returns : tie.Need-returns Inv-loop μ-loop
 returns c = let ·pre = c .before .before .before .before .before .before .pre in
     let ·args = c .before .before .before .before .before .before .args in
@@ -30,6 +33,7 @@ returns c = let ·pre = c .before .before .before .before .before .before .pre i
     parent-root (·pre .0) (·args .c .0) (·pre .1) (·code-at .result) (·parent .result) (·code-at .ensures)
     (·parent .ensures) (c .if1 .taken)
 
+-- src/runs.rt: while 0 < k {
 loop-holds : tie.Need-loop-holds Inv-loop μ-loop
 loop-holds c = let ·args = c .before .before .before .before .before .before .args in (
   omega arith,
@@ -39,9 +43,11 @@ loop-holds c = let ·args = c .before .before .before .before .before .before .a
       (c .before .before .parent .ensures),
 )
 
+-- src/runs.rt: k -= 1;
 sub-k : tie.Need-sub-k Inv-loop μ-loop
 sub-k c = omega arith
 
+-- src/runs.rt: if code_at(cat, tab, size, CellNumber(k)).0 == above.0 {
 code-at-requires-2 : tie.Need-code-at-requires-2 Inv-loop μ-loop
 code-at-requires-2 c κs = (
   c .before .before .before .before .before .before .before .before .pre .0 .sized,
@@ -49,6 +55,7 @@ code-at-requires-2 c κs = (
       (arith, c .before .before .before .before .before .before .before .before .pre .1, c .before .loop .inv .0),
 )
 
+-- src/runs.rt: return Found::At(CellNumber(k));
 returns-2 : tie.Need-returns-2 Inv-loop μ-loop
 returns-2 c =
     let ·pre = c .before .before .before .before .before .before .before .before .before .before .before .before .pre in
@@ -62,9 +69,11 @@ returns-2 c =
     (·parent .ensures) (·loop .k) (·code-at2 .result) (·loop-test .taken) (·code-at2 .ensures) (·loop .inv .1)
     (c .if2 .taken)
 
+-- src/runs.rt: while 0 < k {
 loop-less : tie.Need-loop-less Inv-loop μ-loop
 loop-less c = omega arith
 
+-- src/runs.rt: while 0 < k {
 loop-again : tie.Need-loop-again Inv-loop μ-loop
 loop-again c =
     let ·args = c .before .before .before .before .before .before .before .before .before .before .before .before .args
@@ -82,6 +91,7 @@ loop-again c =
           (c .before .before .before .before .before .loop .inv .1) (c .if2 .left),
     )
 
+-- src/runs.rt: pub fn parent_of(cat: &[u8], tab: &[u8], size: usize, c: CellNumber) -> Found
 returns-3 : tie.Need-returns-3 Inv-loop μ-loop
 returns-3 c = let ·pre = c .before .before .before .before .before .before .before .before .pre in
     let ·args = c .before .before .before .before .before .before .before .before .args in

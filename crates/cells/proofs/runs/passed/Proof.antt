@@ -15,13 +15,16 @@ Inv-loop tab size t last from to i₀ i = (from ≤ i) × (i ≤ to) ×
 abbrev μ-loop : tie.MeasureT-loop
 μ-loop tab size t last from to i₀ i = to - i
 
+-- src/runs.rt: while i < to {
 loop-holds : tie.Need-loop-holds Inv-loop μ-loop
 loop-holds c = (omega arith, omega (arith, c .before .pre .1), refl)
 
+-- src/runs.rt: let at = start_of(tab, size, CellNumber(i));
 start-of-requires : tie.Need-start-of-requires Inv-loop μ-loop
 start-of-requires c κs = inside-less (c .before .before .before .pre .0) (c .before .loop .i)
     (omega (arith, c .loop-test .taken))
 
+-- src/runs.rt: let u = tab[at];
 shared-slice-read-u : tie.Need-shared-slice-read-u Inv-loop μ-loop
 shared-slice-read-u c = omega (
   arith,
@@ -32,12 +35,14 @@ shared-slice-read-u c = omega (
   c .before .before .before .before .before .pre .0 .some,
 )
 
+-- src/runs.rt: return i;
 returns : tie.Need-returns Inv-loop μ-loop
 returns c = let ·args = c .before .before .before .before .before .before .args in
     let ·loop = c .before .before .before .before .loop in let ·start-of = c .before .before .start-of in
     end-here _ _ _ _ _ _ (behind-low (·args .tab .now) (·args .size) (·args .t) (·args .last) (·loop .i) _
     (ap (byte (·args .tab .now)) (·start-of .ensures .0)) (c .if1 .taken)) ∙ ·loop .inv .2
 
+-- src/runs.rt: return i;
 returns-2 : tie.Need-returns-2 Inv-loop μ-loop
 returns-2 c = let ·args = c .before .before .before .before .before .before .before .args in
     let ·loop = c .before .before .before .before .before .loop in
@@ -45,12 +50,15 @@ returns-2 c = let ·args = c .before .before .before .before .before .before .be
     end-here _ _ _ _ _ _ (behind-high (·args .tab .now) (·args .size) (·args .t) (·args .last) (·loop .i) _
     (ap (byte (·args .tab .now)) (·start-of .ensures .0)) (c .if2 .taken)) ∙ ·loop .inv .2
 
+-- src/runs.rt: i += 1;
 add-i : tie.Need-add-i Inv-loop μ-loop
 add-i c = omega (arith, c .before .before .before .before .loop-test .taken)
 
+-- src/runs.rt: while i < to {
 loop-less : tie.Need-loop-less Inv-loop μ-loop
 loop-less c = omega arith
 
+-- src/runs.rt: while i < to {
 loop-again : tie.Need-loop-again Inv-loop μ-loop
 loop-again c = let ·args = c .before .before .before .before .before .before .before .args in (
   omega (arith, c .before .before .before .before .before .loop .inv .0),
@@ -64,6 +72,7 @@ loop-again c = let ·args = c .before .before .before .before .before .before .b
       c .before .before .before .before .before .loop .inv .2,
 )
 
+-- src/runs.rt: fn passed(tab: &[u8], size: usize, t: u8, last: u8, from: usize, to: usize) -> usize
 returns-3 : tie.Need-returns-3 Inv-loop μ-loop
 returns-3 c = end-none _ _ _ _ _ _ (omega arith) ∙ c .before .loop .inv .2
 

@@ -8,27 +8,34 @@ use borrow.Author.Needs.{needs}
 use Rattle.changes.proofs.insert.found_parent.Statement.{statement}
 use Rattle.changes.proofs.insert.found_parent.Tie as tie
 
+-- src/insert.rt: return Parented::Among(0, count(tab), false);
 count-requires : tie.Need-count-requires
 count-requires c κs = search needs
 
+-- src/insert.rt: return Parented::Among(0, count(tab), false);
 returns : tie.Need-returns
 returns c = let ·args = c .before .before .before .before .before .before .args in
     parented-top (·args .cat .now) (listing (·args .cat .now) (·args .tab .now)) (·args .pos) (·args .t) _
     (c .before .if1 .taken) _ (c .count .ensures .0 ∙ sym (listing-length (·args .cat .now) (·args .tab .now)))
 
+-- src/insert.rt: let Found::At(p) = along(cat, tab, size, list, parent(cat, t), place) else {
 parent-requires : tie.Need-parent-requires
 parent-requires c κs = search needs
 
+-- src/insert.rt: let Found::At(p) = along(cat, tab, size, list, parent(cat, t), place) else {
 along-requires : tie.Need-along-requires
 along-requires c κs = let ·pre = c .before .before .before .before .before .before .pre in
     (parent-ready (·pre .0) (·pre .1) (·pre .2) (c .parent .ensures), place-ready (·pre .0) (·pre .1) (·pre .2))
 
+-- src/insert.rt: let Found::At(p) = along(cat, tab, size, list, parent(cat, t), place) else {
 enum-known-p : tie.Need-enum-known-p
 enum-known-p c = search needs
 
+-- src/insert.rt: return Parented::Nowhere;
 enum-told : tie.Need-enum-told
 enum-told c = search needs
 
+-- src/insert.rt: return Parented::Nowhere;
 returns-2 : tie.Need-returns-2
 returns-2 c = let ·args = c .before .before .before .before .before .before .before .before .before .args in
     let ·if1 = c .before .before .before .before .if1 in
@@ -37,6 +44,7 @@ returns-2 c = let ·args = c .before .before .before .before .before .before .be
     parented-none (·args .cat .now) (listing (·args .cat .now) (·args .tab .now)) (·args .pos) (·args .t) _ (·if1 .left)
     (parent-levels (·pre .0) (·pre .1) (·pre .2) (·parent .ensures) (sym (c .enum-told .given .1) ∙ ·along .ensures))
 
+-- src/insert.rt: let end = run_end(cat, tab, size, p).0;
 run-end-requires : tie.Need-run-end-requires
 run-end-requires c κs =
     let ·pre = c .before .before .before .before .before .before .before .before .before .before .pre in
@@ -47,6 +55,7 @@ run-end-requires c κs =
           (sym (c .before .p .given .1) ∙ ·along .ensures),
     )
 
+-- src/insert.rt: let beneath = is_one_of_row(cat, tab, size, p, parentage);
 is-one-of-row-requires : tie.Need-is-one-of-row-requires
 is-one-of-row-requires c κs =
     let ·pre = c .before .before .before .before .before .before .before .before .before .before .before .pre in
@@ -58,6 +67,7 @@ is-one-of-row-requires c κs =
           (sym (·p .given .1) ∙ ·along .ensures),
     )
 
+-- src/insert.rt: Parented::Among(p.0 + 1, end, beneath)
 add-t17 : tie.Need-add-t17
 add-t17 c = omega (
   arith,
@@ -72,6 +82,7 @@ add-t17 c = omega (
       .sound .sized .few,
 )
 
+-- src/insert.rt: fn found_parent(
 returns-3 : tie.Need-returns-3
 returns-3 c =
     let ·args = c .before .before .before .before .before .before .before .before .before .before .before .before

@@ -8,26 +8,33 @@ use borrow.Author.Needs.{needs}
 use Rattle.changes.proofs.insert.insert.Statement.{statement}
 use Rattle.changes.proofs.insert.insert.Tie as tie
 
+-- src/insert.rt: let t = last_of(cat, list).code;
 last-of-requires : tie.Need-last-of-requires
 last-of-requires c κs = search needs
 
+-- src/insert.rt: let Parented::Among(from, to, beneath) = found_parent(cat, tab, size, pos, list, t) else {
 found-parent-requires : tie.Need-found-parent-requires
 found-parent-requires c κs = let ·pre = c .before .before .before .before .before .before .before .pre in
     let ·last-of = c .before .before .last-of in
     (·pre .0, ·pre .2, ap (λ (a : Argument). a .code) (·last-of .ensures))
 
+-- src/insert.rt: let Parented::Among(from, to, beneath) = found_parent(cat, tab, size, pos, list, t) else {
 enum-known-from : tie.Need-enum-known-from
 enum-known-from c = search needs
 
+-- src/insert.rt: return missed(Status::GE, pos);
 enum-told : tie.Need-enum-told
 enum-told c = search needs
 
+-- src/insert.rt: return missed(Status::GE, pos);
 missed-requires : tie.Need-missed-requires
 missed-requires c κs = search needs
 
+-- src/insert.rt: return missed(Status::GE, pos);
 same-length : tie.Need-same-length
 same-length c = search needs
 
+-- src/insert.rt: return missed(Status::GE, pos);
 returns : tie.Need-returns
 returns c =
     let ·args = c .before .before .before .before .before .before .before .before .before .before .before .args in
@@ -37,6 +44,7 @@ returns c =
     (·args .tab .now) (·args .pos) (·args .area .now) _ (ap (λ (a : Argument). a .code) (·last-of .ensures))
     (sym (c .before .enum-told .given .1) ∙ ·found-parent .ensures)
 
+-- src/insert.rt: let spot = spot_sound(cat, tab, size, t, area, from, to);
 spot-sound-requires : tie.Need-spot-sound-requires
 spot-sound-requires c κs =
     let ·pre = c .before .before .before .before .before .before .before .before .before .before .before .before .pre in
@@ -47,21 +55,26 @@ spot-sound-requires c κs =
           (sym (·from .given .1) ∙ ·found-parent .ensures)),
     )
 
+-- src/insert.rt: let refusal = insert_refused(cat, tab, size, spot);
 insert-refused-requires : tie.Need-insert-refused-requires
 insert-refused-requires c κs =
     let ·pre = c .before .before .before .before .before .before .before .before .before .before .before .before .before
     .before .pre in
     ·pre .0 .sound
 
+-- src/insert.rt: if number(refusal) != 0 {
 number-requires : tie.Need-number-requires
 number-requires c κs = search needs
 
+-- src/insert.rt: return bare(refusal, pos);
 bare-requires : tie.Need-bare-requires
 bare-requires c κs = search needs
 
+-- src/insert.rt: return bare(refusal, pos);
 same-length-2 : tie.Need-same-length-2
 same-length-2 c = search needs
 
+-- src/insert.rt: return bare(refusal, pos);
 returns-2 : tie.Need-returns-2
 returns-2 c =
     let ·args = c .before .before .before .before .before .before .before .before .before .before .before .before
@@ -81,6 +94,7 @@ returns-2 c =
     (·args .area .now) _ (ap (λ (a : Argument). a .code) (·last-of .ensures))
     (sym (·from .given .1) ∙ ·found-parent .ensures)
 
+-- src/insert.rt: put_sound(cat, tab, size, pos, CellNumber(spot.at), t, area, beneath)
 put-sound-requires : tie.Need-put-sound-requires
 put-sound-requires c κs =
     let ·pre = c .before .before .before .before .before .before .before .before .before .before .before .before .before
@@ -95,9 +109,11 @@ put-sound-requires c κs =
     (sym (·from .given .1) ∙ ·found-parent .ensures)) (·spot-sound .ensures) (·insert-refused .ensures)
     (sym (·number .ensures) ∙ c .before .if1 .left)
 
+-- src/insert.rt: pub fn insert(
 same-length-3 : tie.Need-same-length-3
 same-length-3 c = search needs
 
+-- src/insert.rt: pub fn insert(
 returns-3 : tie.Need-returns-3
 returns-3 c = let ·put-sound = c .before .before .put-sound in
     let ·pre = c .before .before .before .before .before .before .before .before .before .before .before .before .before

@@ -5,18 +5,23 @@ use borrow.Author.Needs.{needs}
 use Rattle.changes.proofs.insert.put_sound.Statement.{statement}
 use Rattle.changes.proofs.insert.put_sound.Tie as tie
 
+-- src/insert.rt: insert_cell_sound(cat, tab, size, at, t, area);
 insert-cell-sound-requires : tie.Need-insert-cell-sound-requires
 insert-cell-sound-requires c κs = search needs
 
+-- src/insert.rt: told(cat, Status::Blank, pos.after_insert(at, beneath), t, 0)
 after-insert-requires : tie.Need-after-insert-requires
 after-insert-requires c κs = search needs
 
+-- src/insert.rt: told(cat, Status::Blank, pos.after_insert(at, beneath), t, 0)
 told-requires : tie.Need-told-requires
 told-requires c κs = search needs
 
+-- src/insert.rt: fn put_sound(
 same-length : tie.Need-same-length
 same-length c = search needs
 
+-- src/insert.rt: fn put_sound(
 returns : tie.Need-returns
 returns c = let ·insert-cell-sound = c .before .before .before .before .insert-cell-sound in
     let ·args = c .before .before .before .before .before .before .before .before .before .args in

@@ -15,22 +15,28 @@ Inv-loop out₀ at from next₀ i₀ out next i = (i ≤ length from) × (next �
 abbrev μ-loop : tie.MeasureT-loop
 μ-loop out₀ at from next₀ i₀ out next i = length from - i
 
+-- src/text.rt: while i < from.len() {
 loop-holds : tie.Need-loop-holds Inv-loop μ-loop
 loop-holds c = let ·args = c .before .before .args in
     (omega arith, omega arith, omega arith, wrote-none _ _ _ (hex-none (·args .from .now)))
 
+-- src/text.rt: next = put_byte(out, next, hex_digit(from[i] / 16));
 shared-slice-read-hex-digit : tie.Need-shared-slice-read-hex-digit Inv-loop μ-loop
 shared-slice-read-hex-digit c = omega arith
 
+-- src/text.rt: next = put_byte(out, next, hex_digit(from[i] / 16));
 hex-digit-requires : tie.Need-hex-digit-requires Inv-loop μ-loop
 hex-digit-requires c κs = omega (arith, c .shared-slice-known2 .given (c .before .before .before .loop .i))
 
+-- src/text.rt: next = put_byte(out, next, hex_digit(from[i] / 16));
 put-byte-requires : tie.Need-put-byte-requires Inv-loop μ-loop
 put-byte-requires c κs = omega (arith, c .before .before .before .before .loop .inv .3 .long)
 
+-- src/text.rt: next = put_byte(out, next, hex_digit(from[i] % 16));
 shared-slice-read-hex-digit-2 : tie.Need-shared-slice-read-hex-digit-2 Inv-loop μ-loop
 shared-slice-read-hex-digit-2 c = omega arith
 
+-- src/text.rt: next = put_byte(out, next, hex_digit(from[i] % 16));
 hex-digit-requires-2 : tie.Need-hex-digit-requires-2 Inv-loop μ-loop
 hex-digit-requires-2 c κs = omega (
   arith,
@@ -38,6 +44,7 @@ hex-digit-requires-2 c κs = omega (
       (c .before .before .before .before .before .before .before .before .before .loop .i),
 )
 
+-- src/text.rt: next = put_byte(out, next, hex_digit(from[i] % 16));
 put-byte-requires-2 : tie.Need-put-byte-requires-2 Inv-loop μ-loop
 put-byte-requires-2 c κs = omega (
   arith,
@@ -47,12 +54,15 @@ put-byte-requires-2 c κs = omega (
   c .before .before .before .before .before .put-byte .ensures .place,
 )
 
+-- src/text.rt: i += 1;
 add-i : tie.Need-add-i Inv-loop μ-loop
 add-i c = omega arith
 
+-- src/text.rt: while i < from.len() {
 loop-less : tie.Need-loop-less Inv-loop μ-loop
 loop-less c = omega arith
 
+-- src/text.rt: while i < from.len() {
 loop-again : tie.Need-loop-again Inv-loop μ-loop
 loop-again c =
     let ·args = c .before .before .before .before .before .before .before .before .before .before .before .before
@@ -76,9 +86,11 @@ loop-again c =
           (c .before .before .before .hex-digit2 .ensures)),
     )
 
+-- src/text.rt: pub(crate) fn put_hex(out: &mut [u8], at: usize, from: &[u8]) -> usize
 same-length : tie.Need-same-length Inv-loop μ-loop
 same-length c = c .before .loop .inv .3 .long
 
+-- src/text.rt: pub(crate) fn put_hex(out: &mut [u8], at: usize, from: &[u8]) -> usize
 returns : tie.Need-returns Inv-loop μ-loop
 returns c = (wrote-as (c .before .loop .inv .3) (hex-all _ _ (c .loop-test .left)), omega arith)
 

@@ -14,17 +14,21 @@ Inv-loop cat tab size one two out₀ n t hits₀ at₀ out hits at = Outer cat t
 abbrev μ-loop : tie.MeasureT-loop
 μ-loop cat tab size one two out₀ n t hits₀ at₀ out hits at = n - at
 
+-- src/nesting.rt: let n = count(tab);
 count-requires : tie.Need-count-requires Inv-loop μ-loop
 count-requires c κs = search needs
 
+-- src/nesting.rt: let t = last_of(cat, one).code;
 last-of-requires : tie.Need-last-of-requires Inv-loop μ-loop
 last-of-requires c κs = let ·pre = c .before .before .before .before .before .before .pre in
     sound-list (·pre .first)
 
+-- src/nesting.rt: while at < n {
 loop-holds : tie.Need-loop-holds Inv-loop μ-loop
 loop-holds c = let ·pre = c .before .before .before .before .before .before .before .before .pre in
     outer-start (·pre) _
 
+-- src/nesting.rt: let long = stretch_before(cat, tab, size, one, t, at);
 stretch-before-requires : tie.Need-stretch-before-requires Inv-loop μ-loop
 stretch-before-requires c κs =
     let ·pre = c .before .before .before .before .before .before .before .before .before .before .pre in
@@ -34,22 +38,27 @@ stretch-before-requires c κs =
           (c .before .loop .inv),
     )
 
+-- src/nesting.rt: let Read::Got(p, _) = read_next(cat, tab, one, size, t.0, long, at, n) else {
 read-next-requires : tie.Need-read-next-requires Inv-loop μ-loop
 read-next-requires c κs = turn-reading (c .before .before .before .before .before .before .before .before .before
     .before .before .pre .first) _ (ap (λ (a : Argument). a .code)
     (c .before .before .before .before .last-of .ensures)) _ _ _ (c .stretch-before .ensures) (omega arith)
     (omega (arith, c .before .before .before .before .before .count .ensures))
 
+-- src/nesting.rt: let Read::Got(p, _) = read_next(cat, tab, one, size, t.0, long, at, n) else {
 enum-known-p : tie.Need-enum-known-p Inv-loop μ-loop
 enum-known-p c = search needs
 
+-- src/nesting.rt: return hits;
 enum-told : tie.Need-enum-told Inv-loop μ-loop
 enum-told c = search needs
 
+-- src/nesting.rt: return hits;
 same-length : tie.Need-same-length Inv-loop μ-loop
 same-length c = let ·loop = c .before .before .before .before .before .loop in
     ·loop .inv .room
 
+-- src/nesting.rt: return hits;
 returns : tie.Need-returns Inv-loop μ-loop
 returns c =
     let ·pre = c .before .before .before .before .before .before .before .before .before .before .before .before .before
@@ -58,6 +67,7 @@ returns c =
     let ·read-next = c .before .before .read-next in
     outer-done (·pre) (·loop .inv) _ _ (·count .ensures .0) (·read-next .ensures) (c .enum-told .given .1)
 
+-- src/nesting.rt: let end = run_end(cat, tab, size, p).0;
 run-end-requires : tie.Need-run-end-requires Inv-loop μ-loop
 run-end-requires c κs =
     let ·pre = c .before .before .before .before .before .before .before .before .before .before .before .before .before
@@ -69,6 +79,7 @@ run-end-requires c κs =
           (c .before .p .given .1) _ refl .found,
     )
 
+-- src/nesting.rt: let under = read_on(cat, tab, size, two, p.0 + 1, end, hits, out);
 add-read-on : tie.Need-add-read-on Inv-loop μ-loop
 add-read-on c = omega (
   arith,
@@ -80,6 +91,7 @@ add-read-on c = omega (
       refl .small,
 )
 
+-- src/nesting.rt: let under = read_on(cat, tab, size, two, p.0 + 1, end, hits, out);
 read-on-requires : tie.Need-read-on-requires Inv-loop μ-loop
 read-on-requires c κs =
     let ·pre = c .before .before .before .before .before .before .before .before .before .before .before .before .before
@@ -91,6 +103,7 @@ read-on-requires c κs =
     let i = outer-inner (·pre) (·loop .inv) _ _ _ _ (·count .ensures .0) (·read-next .ensures) (·p .given .1) _
     (·run-end .ensures) in (·pre .second, i .run, i .within, i .fewer)
 
+-- src/nesting.rt: while at < n {
 loop-less : tie.Need-loop-less Inv-loop μ-loop
 loop-less c = let i = outer-inner (c .before .before .before .before .before .before .before .before .before .before
     .before .before .before .before .before .before .before .before .before .before .before .pre)
@@ -105,6 +118,7 @@ loop-less c = let i = outer-inner (c .before .before .before .before .before .be
       c .before .before .before .before .before .before .before .before .before .before .before .loop-test .taken,
     )
 
+-- src/nesting.rt: while at < n {
 loop-again : tie.Need-loop-again Inv-loop μ-loop
 loop-again c =
     let ·pre = c .before .before .before .before .before .before .before .before .before .before .before .before .before
@@ -118,9 +132,11 @@ loop-again c =
     outer-next (·pre) (·loop .inv) _ _ _ _ (·count .ensures .0) (·read-next .ensures) (·p .given .1) _
     (·run-end .ensures) _ _ (·read-on .ensures)
 
+-- src/nesting.rt: pub(crate) fn nested_sound(
 same-length-2 : tie.Need-same-length-2 Inv-loop μ-loop
 same-length-2 c = c .before .loop .inv .room
 
+-- src/nesting.rt: pub(crate) fn nested_sound(
 returns-2 : tie.Need-returns-2 Inv-loop μ-loop
 returns-2 c = let ·pre = c .before .before .before .before .before .before .before .before .before .before .pre in
     let ·count = c .before .before .before .before .count in

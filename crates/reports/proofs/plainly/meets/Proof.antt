@@ -3,17 +3,21 @@ use borrow.Author.Needs.{needs}
 use Rattle.reports.proofs.plainly.meets.Statement.{statement}
 use Rattle.reports.proofs.plainly.meets.Tie as tie
 
+-- src/plainly.rt: if code_at(cat, tab, size, c).0 != t.0 {
 code-at-requires : tie.Need-code-at-requires
 code-at-requires c κs = search needs
 
+-- src/plainly.rt: return false;
 returns : tie.Need-returns
 returns c = let ·pre = c .before .before .before .before .before .before .before .pre in
     let ·code-at = c .before .before .before .code-at in
     meets-other (·pre .0) _ _ _ (·pre .1) (·code-at .ensures) (c .if1 .taken)
 
+-- src/plainly.rt: row_heeds(cat, tab, size, list, c)
 row-heeds-requires : tie.Need-row-heeds-requires
 row-heeds-requires c κs = search needs
 
+-- src/plainly.rt: fn meets(cat: &[u8], tab: &[u8], size: usize, list: &[u8], t: TypeCode, c: CellNumber) -> bool
 returns-2 : tie.Need-returns-2
 returns-2 c = let ·pre = c .before .before .before .before .before .before .before .before .pre in
     let ·code-at = c .before .before .before .before .code-at in

@@ -9,15 +9,19 @@ use borrow.Author.Needs.{needs}
 use Rattle.reports.proofs.single.joined_sound.Statement.{statement}
 use Rattle.reports.proofs.single.joined_sound.Tie as tie
 
+-- src/single.rt: let r = read_on(cat, tab, size, list, 0, count(tab), 0, out);
 count-requires : tie.Need-count-requires
 count-requires c κs = search needs
 
+-- src/single.rt: let r = read_on(cat, tab, size, list, 0, count(tab), 0, out);
 read-on-requires : tie.Need-read-on-requires
 read-on-requires c κs = search needs
 
+-- src/single.rt: pub(crate) fn joined_sound(
 same-length : tie.Need-same-length
 same-length c = search needs
 
+-- src/single.rt: pub(crate) fn joined_sound(
 returns : tie.Need-returns
 returns c = let ·args = c .before .before .before .before .before .before .before .before .before .args in (
   let p = ap length (picked-between (c .before .before .before .before .before .before .before .before .before .pre)

@@ -15,13 +15,16 @@ Inv-loop cat tab size list from to k out₀ t last long₀ hits₀ at₀ out lon
 abbrev μ-loop : tie.MeasureT-loop
 μ-loop cat tab size list from to k out₀ t last long₀ hits₀ at₀ out long hits at = to - at
 
+-- src/single.rt: let t = last_of(cat, list).code;
 last-of-requires : tie.Need-last-of-requires Inv-loop μ-loop
 last-of-requires c κs = let ·pre = c .before .before .before .before .pre in
     sound-list (·pre .0)
 
+-- src/single.rt: let last = level(cat, t);
 level-requires : tie.Need-level-requires Inv-loop μ-loop
 level-requires c κs = search needs
 
+-- src/single.rt: let mut long = stretch_before(cat, tab, size, list, t, from);
 stretch-before-requires : tie.Need-stretch-before-requires Inv-loop μ-loop
 stretch-before-requires c κs = (
   given-good (c .before .before .before .before .before .before .before .pre .0) _
@@ -33,12 +36,14 @@ stretch-before-requires c κs = (
   ),
 )
 
+-- src/single.rt: while at < to {
 loop-holds : tie.Need-loop-holds Inv-loop μ-loop
 loop-holds c = let ·pre = c .before .before .before .before .before .before .before .before .pre in
     let ·last-of = c .before .before .before .last-of in
     way-start (·pre .0) (ap (λ (a : Argument). a .code) (·last-of .ensures)) (·pre .2) _ (c .stretch-before .ensures)
     (·pre .1) (·pre .3)
 
+-- src/single.rt: let Read::Got(c, _) = read_next(cat, tab, list, size, t.0, long, at, to) else {
 read-next-requires : tie.Need-read-next-requires Inv-loop μ-loop
 read-next-requires c κs =
     let ·pre = c .before .before .before .before .before .before .before .before .before .before .pre in
@@ -46,16 +51,20 @@ read-next-requires c κs =
     turn-reading (·pre .0) _ (ap (λ (a : Argument). a .code) (·last-of .ensures)) _ _ _ (c .before .loop .inv .carried)
     (c .before .loop .inv .inside) (·pre .2)
 
+-- src/single.rt: let Read::Got(c, _) = read_next(cat, tab, list, size, t.0, long, at, to) else {
 enum-known-c : tie.Need-enum-known-c Inv-loop μ-loop
 enum-known-c c = search needs
 
+-- src/single.rt: return Onward { hits: hits, at: at };
 enum-told : tie.Need-enum-told Inv-loop μ-loop
 enum-told c = search needs
 
+-- src/single.rt: return Onward { hits: hits, at: at };
 same-length : tie.Need-same-length Inv-loop μ-loop
 same-length c = let ·loop = c .before .before .before .before .loop in
     ·loop .inv .room
 
+-- src/single.rt: return Onward { hits: hits, at: at };
 returns : tie.Need-returns Inv-loop μ-loop
 returns c =
     let ·pre = c .before .before .before .before .before .before .before .before .before .before .before .before .before
@@ -64,6 +73,7 @@ returns c =
     way-done (·pre .0) (ap (λ (a : Argument). a .code) (·last-of .ensures)) (·pre .2) (·loop .inv) _
     (·read-next .ensures) (c .enum-told .given .1)
 
+-- src/single.rt: put_hit(out, hits, c);
 put-hit-requires : tie.Need-put-hit-requires Inv-loop μ-loop
 put-hit-requires c κs =
     let ·pre = c .before .before .before .before .before .before .before .before .before .before .before .before .before
@@ -77,6 +87,7 @@ put-hit-requires c κs =
           (·pre .2) (·loop .inv) _ _ _ (·read-next .ensures) (·c .given .1) .2,
     )
 
+-- src/single.rt: hits += 1;
 add-hits : tie.Need-add-hits Inv-loop μ-loop
 add-hits c = omega (
   arith,
@@ -90,6 +101,7 @@ add-hits c = omega (
       (c .before .before .before .before .before .c .given .1),
 )
 
+-- src/single.rt: at = c.0 + 1;
 add-at : tie.Need-add-at Inv-loop μ-loop
 add-at c = omega (
   arith,
@@ -104,6 +116,7 @@ add-at c = omega (
       (c .before .before .before .before .before .before .c .given .1),
 )
 
+-- src/single.rt: while at < to {
 loop-less : tie.Need-loop-less Inv-loop μ-loop
 loop-less c = omega (
   arith,
@@ -118,6 +131,7 @@ loop-less c = omega (
       (c .before .before .before .before .before .before .c .given .1),
 )
 
+-- src/single.rt: while at < to {
 loop-again : tie.Need-loop-again Inv-loop μ-loop
 loop-again c =
     let ·pre = c .before .before .before .before .before .before .before .before .before .before .before .before .before
@@ -132,9 +146,11 @@ loop-again c =
     way-next (·pre .0) (ap (λ (a : Argument). a .code) (·last-of .ensures)) (·pre .2) (·loop .inv) _ _ _
     (·read-next .ensures) (·c .given .1) _ (·level .ensures) _ (·put-hit .ensures)
 
+-- src/single.rt: pub(crate) fn read_on(
 same-length-2 : tie.Need-same-length-2 Inv-loop μ-loop
 same-length-2 c = c .before .loop .inv .room
 
+-- src/single.rt: pub(crate) fn read_on(
 returns-2 : tie.Need-returns-2 Inv-loop μ-loop
 returns-2 c = let ·pre = c .before .before .before .before .before .before .before .before .before .before .pre in
     let ·last-of = c .before .before .before .before .before .last-of in

@@ -9,21 +9,26 @@ use borrow.Author.Needs.{needs}
 use Rattle.search.proofs.agree.satisfies.Statement.{statement}
 use Rattle.search.proofs.agree.satisfies.Tie as tie
 
+-- src/agree.rt: Qualification::None => true,
 enum-told : tie.Need-enum-told
 enum-told c = search needs
 
+-- src/agree.rt: Qualification::Test(o, f, v) => passes(cat, tab, size, list, c, o, f, v),
 enum-known-q : tie.Need-enum-known-q
 enum-known-q c = search needs
 
+-- src/agree.rt: Qualification::Test(o, f, v) => passes(cat, tab, size, list, c, o, f, v),
 passes-requires : tie.Need-passes-requires
 passes-requires c κs = let ·args = c .before .before .before .before .before .before .args in
     let ·pre = c .before .before .before .before .before .before .pre in
     subst (λ (q : Qualification). Testable (·args .cat .now) (·args .tab .now) (·args .list .now) (·args .size)
     (·args .c .0) q) (c .before .q .given .1) (·pre)
 
+-- src/agree.rt: pub fn satisfies(
 returns : tie.Need-returns
 returns c = search needs
 
+-- src/agree.rt: pub fn satisfies(
 returns-2 : tie.Need-returns-2
 returns-2 c = let ·args = c .before .before .before .before .before .before .before .args in
     let ·q = c .before .before .q in

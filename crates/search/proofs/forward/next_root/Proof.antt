@@ -11,9 +11,11 @@ Inv-loop cat tab size from to i₀ i = (from ≤ i) × (i ≤ to) × NoRoot (lis
 abbrev μ-loop : tie.MeasureT-loop
 μ-loop cat tab size from to i₀ i = to - i
 
+-- src/forward.rt: while i < to {
 loop-holds : tie.Need-loop-holds Inv-loop μ-loop
 loop-holds c = (omega arith, c .before .before .pre .1, λ j a b z. omega arith)
 
+-- src/forward.rt: if code_at(cat, tab, size, CellNumber(i)).0 == 1 {
 code-at-requires : tie.Need-code-at-requires Inv-loop μ-loop
 code-at-requires c κs = (
   c .before .before .before .before .pre .0,
@@ -21,16 +23,20 @@ code-at-requires c κs = (
       (arith, c .before .before .before .before .pre .2),
 )
 
+-- src/forward.rt: return i;
 returns : tie.Need-returns Inv-loop μ-loop
 returns c = let ·loop = c .before .before .before .before .loop in
     record { least = ·loop .inv .0; most = ·loop .inv .1; others = ·loop .inv .2 }
 
+-- src/forward.rt: i += 1;
 add-i : tie.Need-add-i Inv-loop μ-loop
 add-i c = omega (arith, c .before .before .before .loop-test .taken)
 
+-- src/forward.rt: while i < to {
 loop-less : tie.Need-loop-less Inv-loop μ-loop
 loop-less c = omega arith
 
+-- src/forward.rt: while i < to {
 loop-again : tie.Need-loop-again Inv-loop μ-loop
 loop-again c = let ·args = c .before .before .before .before .before .before .before .args in (
   omega (arith, c .before .before .before .before .loop .inv .0),
@@ -41,6 +47,7 @@ loop-again c = let ·args = c .before .before .before .before .before .before .b
       (c .before .before .before .before .loop .inv .2),
 )
 
+-- src/forward.rt: fn next_root(cat: &[u8], tab: &[u8], size: usize, from: usize, to: usize) -> usize
 returns-2 : tie.Need-returns-2 Inv-loop μ-loop
 returns-2 c = record {
   least = c .before .loop .inv .0;

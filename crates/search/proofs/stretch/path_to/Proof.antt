@@ -19,28 +19,35 @@ Inv-loop cat tab size list t at₀ l₀ below₀ at l below = (at .0 < count tab
 abbrev μ-loop : tie.MeasureT-loop
 μ-loop cat tab size list t at₀ l₀ below₀ at l below = at .0
 
+-- src/stretch.rt: let mut l = level_at(cat, tab, size, c);
 level-at-requires : tie.Need-level-at-requires Inv-loop μ-loop
 level-at-requires c κs = search needs
 
+-- src/stretch.rt: loop {
 loop-holds : tie.Need-loop-holds Inv-loop μ-loop
 loop-holds c = let ·pre = c .before .before .before .before .pre in
     let ·args = c .before .before .before .before .args in
     (·pre .1, c .level-at .ensures, climb-start (·pre .0) (·args .c .0) (·pre .1) _ (c .level-at .ensures))
 
+-- src/stretch.rt: below = one_up(cat, tab, size, list, t, below, l, at);
 one-up-requires : tie.Need-one-up-requires Inv-loop μ-loop
 one-up-requires c κs = let ·pre = c .before .before .before .before .before .pre in
     (·pre .0, c .loop .inv .0, c .loop .inv .1)
 
+-- src/stretch.rt: let Found::At(p) = parent_of(cat, tab, size, at) else {
 parent-of-requires : tie.Need-parent-of-requires Inv-loop μ-loop
 parent-of-requires c κs = let ·pre = c .before .before .before .before .before .before .pre in
     (record { catalogue = ·pre .0 .catalogue; table = ·pre .0 .table; sized = ·pre .0 .sized }, c .before .loop .inv .0)
 
+-- src/stretch.rt: let Found::At(p) = parent_of(cat, tab, size, at) else {
 enum-known-p : tie.Need-enum-known-p Inv-loop μ-loop
 enum-known-p c = search needs
 
+-- src/stretch.rt: return below;
 enum-told : tie.Need-enum-told Inv-loop μ-loop
 enum-told c = search needs
 
+-- src/stretch.rt: return below;
 returns : tie.Need-returns Inv-loop μ-loop
 returns c = let ·pre = c .before .before .before .before .before .before .before .before .before .pre in
     let ·loop = c .before .before .before .before .loop in let ·parent-of = c .before .before .parent-of in
@@ -48,6 +55,7 @@ returns c = let ·pre = c .before .before .before .before .before .before .befor
     climb-end (·pre .0) (·loop .at .0) (·loop .inv .0) _ (sym (c .enum-told .given .1) ∙ ·parent-of .ensures) ∙
     ·one-up .ensures ∙ ·loop .inv .2
 
+-- src/stretch.rt: l -= 1;
 sub-l : tie.Need-sub-l Inv-loop μ-loop
 sub-l c = omega (
   arith,
@@ -58,6 +66,7 @@ sub-l c = omega (
       (sym (c .before .p .given .1) ∙ c .before .before .before .parent-of .ensures),
 )
 
+-- src/stretch.rt: loop {
 loop-less : tie.Need-loop-less Inv-loop μ-loop
 loop-less c = omega (
   arith,
@@ -65,6 +74,7 @@ loop-less c = omega (
       (sym (c .before .p .given .1) ∙ c .before .before .before .parent-of .ensures) .0,
 )
 
+-- src/stretch.rt: loop {
 loop-again : tie.Need-loop-again Inv-loop μ-loop
 loop-again c = (
   omega (

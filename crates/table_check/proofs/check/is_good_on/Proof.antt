@@ -4,22 +4,27 @@ use borrow.Author.Needs.{needs}
 use Rattle.table_check.proofs.check.is_good_on.Statement.{statement}
 use Rattle.table_check.proofs.check.is_good_on.Tie as tie
 
+-- src/check.rt: if !good_frame(cat, tab) {
 good-frame-requires : tie.Need-good-frame-requires
 good-frame-requires c κs = search needs
 
+-- src/check.rt: return false;
 returns : tie.Need-returns
 returns c = let ·args = c .before .before .before .before .args in
     simp (table-frame (·args .cat .now) (·args .tab .now), told-no (c .before .good-frame .ensures) (c .if1 .taken))
 
+-- src/check.rt: let size = cell_size(cat);
 cell-size-requires : tie.Need-cell-size-requires
 cell-size-requires c κs = search needs
 
+-- src/check.rt: if !all_padded(cat, tab, size) {
 all-padded-requires : tie.Need-all-padded-requires
 all-padded-requires c κs = let ·args = c .before .before .before .before .before .args in
     let ·pre = c .before .before .before .before .before .pre in let ·good-frame = c .before .before .good-frame in
     frame-sized (·args .cat .now) (·args .tab .now) (c .cell-size .result) (c .cell-size .ensures .0) (·pre)
     (told-yes (·good-frame .ensures) (c .before .if1 .left))
 
+-- src/check.rt: return false;
 returns-2 : tie.Need-returns-2
 returns-2 c = let ·args = c .before .before .before .before .before .before .before .args in
     let ·good-frame = c .before .before .before .before .good-frame in let ·if1 = c .before .before .before .if1 in
@@ -30,6 +35,7 @@ returns-2 c = let ·args = c .before .before .before .before .before .before .be
           (c .before .all-padded .ensures) (c .if2 .taken),
     )
 
+-- src/check.rt: if !all_free(cat, tab, size) {
 all-free-requires : tie.Need-all-free-requires
 all-free-requires c κs = let ·args = c .before .before .before .before .before .before .before .args in
     let ·cell-size = c .before .before .cell-size in
@@ -38,6 +44,7 @@ all-free-requires c κs = let ·args = c .before .before .before .before .before
     frame-sized (·args .cat .now) (·args .tab .now) (·cell-size .result) (·cell-size .ensures .0) (·pre)
     (told-yes (·good-frame .ensures) (·if1 .left))
 
+-- src/check.rt: return false;
 returns-3 : tie.Need-returns-3
 returns-3 c = let ·args = c .before .before .before .before .before .before .before .before .before .args in
     let ·good-frame = c .before .before .before .before .before .before .good-frame in
@@ -51,6 +58,7 @@ returns-3 c = let ·args = c .before .before .before .before .before .before .be
       told-no (c .before .all-free .ensures) (c .if3 .taken),
     )
 
+-- src/check.rt: is_listing(cat, tab, size)
 is-listing-requires : tie.Need-is-listing-requires
 is-listing-requires c κs =
     let ·pre = c .before .before .before .before .before .before .before .before .before .pre in
@@ -63,6 +71,7 @@ is-listing-requires c κs =
           (told-yes (·good-frame .ensures) (·if1 .left)),
     )
 
+-- src/check.rt: pub fn is_good_on(cat: &[u8], tab: &[u8]) -> bool
 returns-4 : tie.Need-returns-4
 returns-4 c = let ·args = c .before .before .before .before .before .before .before .before .before .before .args in
     let ·good-frame = c .before .before .before .before .before .before .before .good-frame in

@@ -17,15 +17,19 @@ Inv-loop cat tab size n i₀ i = (i ≤ n) × (every (padded cat tab) (range i (
 abbrev μ-loop : tie.MeasureT-loop
 μ-loop cat tab size n i₀ i = n - i
 
+-- src/padding.rt: let n = count(tab);
 count-requires : tie.Need-count-requires Inv-loop μ-loop
 count-requires c κs = search needs
 
+-- src/padding.rt: while i < n {
 loop-holds : tie.Need-loop-holds Inv-loop μ-loop
 loop-holds c = (omega arith, (let z : c .count .result - 0 ≡ c .count .result = omega arith in rw z))
 
+-- src/padding.rt: if !is_padded(cat, tab, size, i) {
 is-padded-requires : tie.Need-is-padded-requires Inv-loop μ-loop
 is-padded-requires c κs = (c .before .before .before .before .before .pre, omega arith)
 
+-- src/padding.rt: return false;
 returns : tie.Need-returns Inv-loop μ-loop
 returns c = let ·args = c .before .before .before .before .before .before .before .args in
     let ·loop = c .before .before .before .loop in let ·count = c .before .before .before .before .count in
@@ -34,12 +38,15 @@ returns c = let ·args = c .before .before .before .before .before .before .befo
     (told-no (c .before .is-padded .ensures) (c .if1 .taken)) ∙ ·loop .inv .1 ∙ ap
     (λ (n : ℕ). every (padded (·args .cat .now) (·args .tab .now)) (range 0 n)) (·count .ensures .0)
 
+-- src/padding.rt: i += 1;
 add-i : tie.Need-add-i Inv-loop μ-loop
 add-i c = omega arith
 
+-- src/padding.rt: while i < n {
 loop-less : tie.Need-loop-less Inv-loop μ-loop
 loop-less c = omega arith
 
+-- src/padding.rt: while i < n {
 loop-again : tie.Need-loop-again Inv-loop μ-loop
 loop-again c = let ·args = c .before .before .before .before .before .before .before .args in (
   omega arith,
@@ -48,6 +55,7 @@ loop-again c = let ·args = c .before .before .before .before .before .before .b
       (told-yes (c .before .is-padded .ensures) (c .if1 .left)) ∙ c .before .before .before .loop .inv .1,
 )
 
+-- src/padding.rt: pub(crate) fn all_padded(cat: &[u8], tab: &[u8], size: usize) -> bool
 returns-2 : tie.Need-returns-2 Inv-loop μ-loop
 returns-2 c = let ·args = c .before .before .before .before .before .args in
     let ·count = c .before .before .count in

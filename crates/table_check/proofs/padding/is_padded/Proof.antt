@@ -6,18 +6,23 @@ use borrow.Author.Needs.{needs}
 use Rattle.table_check.proofs.padding.is_padded.Statement.{statement}
 use Rattle.table_check.proofs.padding.is_padded.Tie as tie
 
+-- src/padding.rt: let used = 1 + wide(data_length(cat, code_at(cat, tab, size, CellNumber(i))));
 code-at-requires : tie.Need-code-at-requires
 code-at-requires c κs = search needs
 
+-- src/padding.rt: let used = 1 + wide(data_length(cat, code_at(cat, tab, size, CellNumber(i))));
 data-length-requires : tie.Need-data-length-requires
 data-length-requires c κs = search needs
 
+-- src/padding.rt: let used = 1 + wide(data_length(cat, code_at(cat, tab, size, CellNumber(i))));
 wide-requires : tie.Need-wide-requires
 wide-requires c κs = search needs
 
+-- src/padding.rt: let used = 1 + wide(data_length(cat, code_at(cat, tab, size, CellNumber(i))));
 add-used : tie.Need-add-used
 add-used c = search needs
 
+-- src/padding.rt: return true;
 returns : tie.Need-returns
 returns c = let ·pre = c .before .before .before .before .before .before .pre in
     let ·args = c .before .before .before .before .before .before .args in
@@ -25,11 +30,13 @@ returns c = let ·pre = c .before .before .before .before .before .before .pre i
     pad-none (·pre .0) (·args .i) (·pre .1) (·code-at .ensures) (c .before .wide .ensures .0 ∙ ·data-length .ensures)
     (c .if1 .taken)
 
+-- src/padding.rt: let at = start_of(tab, size, CellNumber(i));
 start-of-requires : tie.Need-start-of-requires
 start-of-requires c κs = let ·pre = c .before .before .before .before .before .before .pre in
     let ·args = c .before .before .before .before .before .before .args in
     cell-inside (·pre .0) (·args .i) (·pre .1)
 
+-- src/padding.rt: let a = at + used;
 add-a : tie.Need-add-a
 add-a c = let ·args = c .before .before .before .before .before .before .before .args in
     omega (
@@ -39,6 +46,7 @@ add-a c = let ·args = c .before .before .before .before .before .before .before
           (·args .i) (c .before .before .before .before .before .before .before .pre .1),
     )
 
+-- src/padding.rt: let b = at + size;
 add-b : tie.Need-add-b
 add-b c = let ·args = c .before .before .before .before .before .before .before .args in
     omega (
@@ -48,12 +56,15 @@ add-b c = let ·args = c .before .before .before .before .before .before .before
           (·args .i) (c .before .before .before .before .before .before .before .pre .1),
     )
 
+-- src/padding.rt: all_zero(&tab[a..b])
 sub-all-zero : tie.Need-sub-all-zero
 sub-all-zero c = search needs
 
+-- src/padding.rt: all_zero(&tab[a..b])
 part-all-zero-start : tie.Need-part-all-zero-start
 part-all-zero-start c = search needs
 
+-- src/padding.rt: all_zero(&tab[a..b])
 part-all-zero-end : tie.Need-part-all-zero-end
 part-all-zero-end c = let ·args = c .before .before .before .before .before .before .before .args in
     omega (
@@ -63,9 +74,11 @@ part-all-zero-end c = let ·args = c .before .before .before .before .before .be
           (·args .i) (c .before .before .before .before .before .before .before .pre .1),
     )
 
+-- src/padding.rt: all_zero(&tab[a..b])
 all-zero-requires : tie.Need-all-zero-requires
 all-zero-requires c κs = search needs
 
+-- src/padding.rt: fn is_padded(cat: &[u8], tab: &[u8], size: usize, i: usize) -> bool
 returns-2 : tie.Need-returns-2
 returns-2 c = let ·pre = c .before .before .before .before .before .before .before .before .before .pre in
     let ·args = c .before .before .before .before .before .before .before .before .before .args in

@@ -6,9 +6,11 @@ use borrow.Author.Needs.{needs}
 use Rattle.table_check.proofs.readers.is_listing.Statement.{statement}
 use Rattle.table_check.proofs.readers.is_listing.Tie as tie
 
+-- src/readers.rt: let n = count(tab);
 count-requires : tie.Need-count-requires
 count-requires c κs = search needs
 
+-- src/readers.rt: group(cat, tab, size, TypeCode(1), 0, n) == n
 group-requires : tie.Need-group-requires
 group-requires c κs = let ·args = c .before .before .before .args in (
   record {
@@ -21,6 +23,7 @@ group-requires c κs = let ·args = c .before .before .before .args in (
   omega (arith, c .count .ensures .0),
 )
 
+-- src/readers.rt: pub(crate) fn is_listing(cat: &[u8], tab: &[u8], size: usize) -> bool
 returns : tie.Need-returns
 returns c = let ·args = c .before .before .before .before .args in
     let ·pre = c .before .before .before .before .pre in

@@ -9,23 +9,28 @@ use borrow.Author.Needs.{needs}
 use Rattle.table_check.proofs.readers.twin.Statement.{statement}
 use Rattle.table_check.proofs.readers.twin.Tie as tie
 
+-- src/readers.rt: if code_at(cat, tab, size, CellNumber(i)).0 != v.0 {
 code-at-requires : tie.Need-code-at-requires
 code-at-requires c κs = search needs
 
+-- src/readers.rt: return false;
 returns : tie.Need-returns
 returns c = let ·args = c .before .before .before .before .before .before .args in
     let ·code-at = c .before .before .before .code-at in
     twin-other _ _ _ (·args .first) (·args .last) _
     (λ e. c .if1 .taken (ap (λ (t : TypeCode). t .0) (·code-at .ensures) ∙ e))
 
+-- src/readers.rt: return true;
 returns-2 : tie.Need-returns-2
 returns-2 c = let ·code-at = c .before .before .before .before .code-at in
     twin-first _ _ _ _ _ _ (sym (ap (λ (t : TypeCode). t .0) (·code-at .ensures)) ∙ c .before .if1 .left)
     (c .if2 .taken)
 
+-- src/readers.rt: let kind = key_kind(cat, v);
 key-kind-requires : tie.Need-key-kind-requires
 key-kind-requires c κs = search needs
 
+-- src/readers.rt: return true;
 returns-3 : tie.Need-returns-3
 returns-3 c = let ·code-at = c .before .before .before .before .before .before .code-at in
     let ·if1 = c .before .before .before .if1 in let ·if2 = c .before .before .if2 in
@@ -34,6 +39,7 @@ returns-3 c = let ·code-at = c .before .before .before .before .before .before 
     (sym (ap (λ (t : TypeCode). t .0) (·code-at .ensures)) ∙ ·if1 .left) (·if2 .left) (·pre .1 .same (·if2 .left))
     (c .before .key-kind .ensures) (c .if3 .taken)
 
+-- src/readers.rt: match key_order(cat, tab, size, CellNumber(last), CellNumber(i)) {
 key-order-requires : tie.Need-key-order-requires
 key-order-requires c κs =
     let ·args = c .before .before .before .before .before .before .before .before .before .args in (
@@ -59,15 +65,19 @@ key-order-requires c κs =
       },
     )
 
+-- src/readers.rt: Order::Smaller => true,
 enum-told : tie.Need-enum-told
 enum-told c = search needs
 
+-- src/readers.rt: Order::Equal => kind != 1,
 enum-told-2 : tie.Need-enum-told-2
 enum-told-2 c = search needs
 
+-- src/readers.rt: Order::Greater => false,
 enum-told-3 : tie.Need-enum-told-3
 enum-told-3 c = search needs
 
+-- src/readers.rt: fn twin(
 returns-4 : tie.Need-returns-4
 returns-4 c = let ·key-kind = c .before .before .before .before .key-kind in
     let ·code-at = c .before .before .before .before .before .before .before .before .before .code-at in
@@ -78,6 +88,7 @@ returns-4 c = let ·key-kind = c .before .before .before .before .key-kind in
     twin-smaller _ _ _ _ _ _ (·key-kind .result) (sym (ap (λ (t : TypeCode). t .0) (·code-at .ensures)) ∙ ·if1 .left)
     (·if2 .left) (·pre .1 .same (·if2 .left)) (·key-kind .ensures) (sym (c .enum-told .given .1) ∙ ·key-order .ensures)
 
+-- src/readers.rt: fn twin(
 returns-5 : tie.Need-returns-5
 returns-5 c = let ·key-kind = c .before .before .before .before .key-kind in
     let ·code-at = c .before .before .before .before .before .before .before .before .before .code-at in
@@ -89,6 +100,7 @@ returns-5 c = let ·key-kind = c .before .before .before .before .key-kind in
     (·if2 .left) (·pre .1 .same (·if2 .left)) (·key-kind .ensures) (·if3 .left)
     (sym (c .enum-told2 .given .1) ∙ ·key-order .ensures)
 
+-- src/readers.rt: fn twin(
 returns-6 : tie.Need-returns-6
 returns-6 c = let ·key-kind = c .before .before .before .before .key-kind in
     let ·code-at = c .before .before .before .before .before .before .before .before .before .code-at in

@@ -1,9 +1,11 @@
 use Rattle.terms.proofs.Position.after_insert.Statement.{statement}
 use Rattle.terms.proofs.Position.after_insert.Tie as tie
 
+-- src/positions.rt: pub fn after_insert(self, c: CellNumber, beneath: bool) -> Self
 returns : tie.Need-returns
 returns c = simp (c .if1 .taken)
 
+-- src/positions.rt: pub fn after_insert(self, c: CellNumber, beneath: bool) -> Self
 returns-2 : tie.Need-returns-2
 returns-2 c = simp (c .if1 .left)
 

@@ -7,29 +7,37 @@ use borrow.Author.Needs.{needs}
 use Rattle.update.proofs.edits.insert_cell_sound.Statement.{statement}
 use Rattle.update.proofs.edits.insert_cell_sound.Tie as tie
 
+-- src/edits.rt: let n = count(tab) + 1;
 count-requires : tie.Need-count-requires
 count-requires c κs = search needs
 
+-- src/edits.rt: let n = count(tab) + 1;
 add-n : tie.Need-add-n
 add-n c = search needs
 
+-- src/edits.rt: let long = wide(data_length(cat, t));
 data-length-requires : tie.Need-data-length-requires
 data-length-requires c κs = search needs
 
+-- src/edits.rt: let long = wide(data_length(cat, t));
 wide-requires : tie.Need-wide-requires
 wide-requires c κs = search needs
 
+-- src/edits.rt: let start = start_of(tab, size, r);
 start-of-requires : tie.Need-start-of-requires
 start-of-requires c κs = new-inside (c .before .before .before .before .before .before .before .before .pre) _
     (omega (arith, c .before .before .before .before .before .before .before .before .pre .place))
 
+-- src/edits.rt: let next = start + size;
 add-next : tie.Need-add-next
 add-next c = search needs
 
+-- src/edits.rt: let end = start_of(tab, size, CellNumber(n));
 start-of-requires-2 : tie.Need-start-of-requires-2
 start-of-requires-2 c κs = new-inside (c .before .before .before .before .before .before .before .before .before
     .before .pre) _ (omega (arith, c .before .before .before .before .before .count .ensures .0))
 
+-- src/edits.rt: shift_up(&mut tab[start..end], size);
 sub-shift-up : tie.Need-sub-shift-up
 sub-shift-up c = omega (
   arith,
@@ -40,6 +48,7 @@ sub-shift-up c = omega (
       (c .before .before .start-of .ensures .0) (c .start-of2 .ensures .0),
 )
 
+-- src/edits.rt: shift_up(&mut tab[start..end], size);
 part-shift-up-start : tie.Need-part-shift-up-start
 part-shift-up-start c = omega (
   arith,
@@ -50,9 +59,11 @@ part-shift-up-start c = omega (
       (c .before .before .start-of .ensures .0) (c .start-of2 .ensures .0),
 )
 
+-- src/edits.rt: shift_up(&mut tab[start..end], size);
 part-shift-up-end : tie.Need-part-shift-up-end
 part-shift-up-end c = search needs
 
+-- src/edits.rt: shift_up(&mut tab[start..end], size);
 shift-up-requires : tie.Need-shift-up-requires
 shift-up-requires c κs = simp (length-take, length-drop)
     (omega (
@@ -64,12 +75,15 @@ shift-up-requires c κs = simp (length-take, length-drop)
           (c .before .before .before .start-of .ensures .0) (c .before .start-of2 .ensures .0),
     ))
 
+-- src/edits.rt: write_cell(&mut tab[start..next], t, &area[..long]);
 sub-write-cell : tie.Need-sub-write-cell
 sub-write-cell c = search needs
 
+-- src/edits.rt: write_cell(&mut tab[start..next], t, &area[..long]);
 part-write-cell-start : tie.Need-part-write-cell-start
 part-write-cell-start c = search needs
 
+-- src/edits.rt: write_cell(&mut tab[start..next], t, &area[..long]);
 part-write-cell-end : tie.Need-part-write-cell-end
 part-write-cell-end c = omega (
   arith,
@@ -83,6 +97,7 @@ part-write-cell-end c = omega (
       (c .before .before .before .before .start-of2 .ensures .0),
 )
 
+-- src/edits.rt: write_cell(&mut tab[start..next], t, &area[..long]);
 slice-aggregate-write-cell : tie.Need-slice-aggregate-write-cell
 slice-aggregate-write-cell c = simp length-take
     (omega (
@@ -94,6 +109,7 @@ slice-aggregate-write-cell c = simp length-take
           c .before .before .before .before .before .before .before .before .before .before .before .data-length .ensures),
     ))
 
+-- src/edits.rt: write_cell(&mut tab[start..next], t, &area[..long]);
 write-cell-requires : tie.Need-write-cell-requires
 write-cell-requires c κs = simp (length-take, length-drop)
     (omega (
@@ -114,12 +130,15 @@ write-cell-requires c κs = simp (length-take, length-drop)
       c .before .before .before .tab .given,
     ))
 
+-- src/edits.rt: set_count(tab, n);
 set-count-requires : tie.Need-set-count-requires
 set-count-requires c κs = search needs
 
+-- src/edits.rt: pub fn insert_cell_sound(
 same-length : tie.Need-same-length
 same-length c = search needs
 
+-- src/edits.rt: pub fn insert_cell_sound(
 returns : tie.Need-returns
 returns c =
     let ·pre = c .before .before .before .before .before .before .before .before .before .before .before .before .before

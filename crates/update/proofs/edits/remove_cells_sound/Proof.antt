@@ -7,12 +7,15 @@ use borrow.Author.Needs.{needs}
 use Rattle.update.proofs.edits.remove_cells_sound.Statement.{statement}
 use Rattle.update.proofs.edits.remove_cells_sound.Tie as tie
 
+-- src/edits.rt: let n = count(tab);
 count-requires : tie.Need-count-requires
 count-requires c κs = search needs
 
+-- src/edits.rt: let run = e.0 - c.0;
 sub-run : tie.Need-sub-run
 sub-run c = search needs
 
+-- src/edits.rt: let start = start_of(tab, size, c);
 start-of-requires : tie.Need-start-of-requires
 start-of-requires c κs = used-inside (c .before .before .before .before .before .before .before .pre .sound) _
     (omega (
@@ -21,11 +24,13 @@ start-of-requires c κs = used-inside (c .before .before .before .before .before
       c .before .before .before .before .before .before .before .pre .used,
     ))
 
+-- src/edits.rt: let gap = start_of(tab, size, e) - start;
 start-of-requires-2 : tie.Need-start-of-requires-2
 start-of-requires-2 c κs =
     let ·pre = c .before .before .before .before .before .before .before .before .before .pre in
     used-inside (·pre .sound) _ (·pre .used)
 
+-- src/edits.rt: let gap = start_of(tab, size, e) - start;
 sub-gap : tie.Need-sub-gap
 sub-gap c = omega (
   arith,
@@ -36,6 +41,7 @@ sub-gap c = omega (
       (c .start-of2 .ensures .0) refl,
 )
 
+-- src/edits.rt: let end = start_of(tab, size, CellNumber(n));
 start-of-requires-3 : tie.Need-start-of-requires-3
 start-of-requires-3 c κs = used-inside (c .before .before .before .before .before .before .before .before .before
     .before .before .pre .sound) _ (omega (
@@ -43,6 +49,7 @@ start-of-requires-3 c κs = used-inside (c .before .before .before .before .befo
       c .before .before .before .before .before .before .before .count .ensures .0,
     ))
 
+-- src/edits.rt: let freed = end - gap;
 sub-freed : tie.Need-sub-freed
 sub-freed c = omega (
   arith,
@@ -54,6 +61,7 @@ sub-freed c = omega (
       (c .start-of3 .ensures .0),
 )
 
+-- src/edits.rt: shift_down(&mut tab[start..end], gap);
 sub-shift-down : tie.Need-sub-shift-down
 sub-shift-down c = omega (
   arith,
@@ -66,6 +74,7 @@ sub-shift-down c = omega (
       (c .start-of3 .ensures .0),
 )
 
+-- src/edits.rt: shift_down(&mut tab[start..end], gap);
 part-shift-down-start : tie.Need-part-shift-down-start
 part-shift-down-start c = omega (
   arith,
@@ -78,9 +87,11 @@ part-shift-down-start c = omega (
       (c .start-of3 .ensures .0),
 )
 
+-- src/edits.rt: shift_down(&mut tab[start..end], gap);
 part-shift-down-end : tie.Need-part-shift-down-end
 part-shift-down-end c = search needs
 
+-- src/edits.rt: shift_down(&mut tab[start..end], gap);
 shift-down-requires : tie.Need-shift-down-requires
 shift-down-requires c κs = simp (length-take, length-drop)
     (omega (
@@ -93,27 +104,35 @@ shift-down-requires c κs = simp (length-take, length-drop)
           (c .before .before .before .start-of2 .ensures .0) (c .before .start-of3 .ensures .0),
     ))
 
+-- src/edits.rt: clear(&mut tab[freed..end]);
 sub-clear : tie.Need-sub-clear
 sub-clear c = search needs
 
+-- src/edits.rt: clear(&mut tab[freed..end]);
 part-clear-start : tie.Need-part-clear-start
 part-clear-start c = search needs
 
+-- src/edits.rt: clear(&mut tab[freed..end]);
 part-clear-end : tie.Need-part-clear-end
 part-clear-end c = search needs
 
+-- src/edits.rt: clear(&mut tab[freed..end]);
 clear-requires : tie.Need-clear-requires
 clear-requires c κs = search needs
 
+-- src/edits.rt: set_count(tab, n - run);
 sub-set-count : tie.Need-sub-set-count
 sub-set-count c = search needs
 
+-- src/edits.rt: set_count(tab, n - run);
 set-count-requires : tie.Need-set-count-requires
 set-count-requires c κs = search needs
 
+-- src/edits.rt: pub fn remove_cells_sound(cat: &[u8], tab: &mut [u8], size: usize, c: CellNumber, e: CellNumber)
 same-length : tie.Need-same-length
 same-length c = search needs
 
+-- src/edits.rt: pub fn remove_cells_sound(cat: &[u8], tab: &mut [u8], size: usize, c: CellNumber, e: CellNumber)
 returns : tie.Need-returns
 returns c =
     let ·pre = c .before .before .before .before .before .before .before .before .before .before .before .before .before

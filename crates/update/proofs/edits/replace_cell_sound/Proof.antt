@@ -7,31 +7,40 @@ use borrow.Author.Needs.{needs}
 use Rattle.update.proofs.edits.replace_cell_sound.Statement.{statement}
 use Rattle.update.proofs.edits.replace_cell_sound.Tie as tie
 
+-- src/edits.rt: let t = code_at(cat, tab, size, c);
 code-at-requires : tie.Need-code-at-requires
 code-at-requires c κs = search needs
 
+-- src/edits.rt: let long = wide(data_length(cat, t));
 data-length-requires : tie.Need-data-length-requires
 data-length-requires c κs = search needs
 
+-- src/edits.rt: let long = wide(data_length(cat, t));
 wide-requires : tie.Need-wide-requires
 wide-requires c κs = search needs
 
+-- src/edits.rt: let start = start_of(tab, size, c) + 1;
 start-of-requires : tie.Need-start-of-requires
 start-of-requires c κs = used-inside (c .before .before .before .before .before .before .before .before .pre .sound)
     _ (omega (arith, c .before .before .before .before .before .before .before .before .pre .used))
 
+-- src/edits.rt: let start = start_of(tab, size, c) + 1;
 add-start : tie.Need-add-start
 add-start c = search needs
 
+-- src/edits.rt: let end = start + long;
 add-end : tie.Need-add-end
 add-end c = search needs
 
+-- src/edits.rt: put(&mut tab[start..end], &area[..long]);
 sub-put : tie.Need-sub-put
 sub-put c = search needs
 
+-- src/edits.rt: put(&mut tab[start..end], &area[..long]);
 part-put-start : tie.Need-part-put-start
 part-put-start c = search needs
 
+-- src/edits.rt: put(&mut tab[start..end], &area[..long]);
 part-put-end : tie.Need-part-put-end
 part-put-end c = omega (
   arith,
@@ -42,6 +51,7 @@ part-put-end c = omega (
       (c .before .before .wide .ensures .0 ∙ c .before .before .before .data-length .ensures) (c .start-of .ensures .0),
 )
 
+-- src/edits.rt: put(&mut tab[start..end], &area[..long]);
 slice-aggregate-put : tie.Need-slice-aggregate-put
 slice-aggregate-put c = simp length-take (omega (
   arith,
@@ -53,6 +63,7 @@ slice-aggregate-put c = simp length-take (omega (
       c .before .before .before .before .before .data-length .ensures) (c .before .before .start-of .ensures .0),
 ))
 
+-- src/edits.rt: put(&mut tab[start..end], &area[..long]);
 put-requires : tie.Need-put-requires
 put-requires c κs = simp (length-take, length-drop)
     (omega (
@@ -65,9 +76,11 @@ put-requires c κs = simp (length-take, length-drop)
           c .before .before .before .before .before .data-length .ensures) (c .before .before .start-of .ensures .0),
     ))
 
+-- src/edits.rt: pub fn replace_cell_sound(cat: &[u8], tab: &mut [u8], size: usize, c: CellNumber, area: &[u8])
 same-length : tie.Need-same-length
 same-length c = search needs
 
+-- src/edits.rt: pub fn replace_cell_sound(cat: &[u8], tab: &mut [u8], size: usize, c: CellNumber, area: &[u8])
 returns : tie.Need-returns
 returns c =
     let ·pre = c .before .before .before .before .before .before .before .before .before .before .before .before .before
