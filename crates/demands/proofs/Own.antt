@@ -35,19 +35,8 @@ use Rattle.arguments.specs.Sound.{SoundList}
 use Rattle.arguments.proofs.Sound.{sound-down, list-empty, list-filled}
 use Rattle.report_loops.proofs.Asked.{last-type}
 use Rattle.report_loops.proofs.Matches.{levels-some, get-levels}
+use Rattle.model.proofs.Asked.{by-number}
 use Rattle.demands.specs.StatusTable.{firstGiven, isNothing, foundCell, isOn, ownRows, takenBeneath}
-
--- what holds of each of the nine calls holds of the call of a good number
-pub by-number : (P : ℕ → Type 0) → P 1 → P 2 → P 3 → P 4 → P 5 → P 6 → P 7 → P 8 → P 9 → (c : ℕ) → 1 ≤ c → c ≤ 9 → P c
-by-number P p1 p2 p3 p4 p5 p6 p7 p8 p9 c low high =
-    step 1 low p1 (λ l2. step 2 l2 p2 (λ l3. step 3 l3 p3 (λ l4. step 4 l4 p4 (λ l5. step 5 l5 p5 (λ l6. step 6 l6 p6 (λ l7. step 7 l7 p7 (λ l8.
-    step 8 l8 p8 (λ l9. step 9 l9 p9 (λ l. absurd (omega arith))))))))))
-  where
-    step : (k : ℕ) → k ≤ c → P k → (suc k ≤ c → P c) → P c
-    step k l p f = elim (is (eqb c k)) [
-      | on e ↦ subst P (sym (eqb-true c k e)) p
-      | off e ↦ f (let n : (c ≡ k) → ⊥ = eqb-false c k e in omega arith)
-    ]
 
 -- a list without fault has no argument, and completed no level, exactly when it has no byte
 module _ (cat : Bytes) where

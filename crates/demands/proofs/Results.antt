@@ -37,7 +37,7 @@ use Rattle.demands.specs.StatusTable.{numbers, get, isrt, dlet, new, hel
 use Rattle.demands.specs.Demand1.{Untouched}
 use Rattle.demands.specs.Demand2.{Tells}
 use Rattle.demands.proofs.Faults.{FaultOf, no-fault, type-fault, list-fault, field-fault, list-fault-of}
-use Rattle.demands.proofs.Own.{by-number}
+use Rattle.model.proofs.Asked.{by-number}
 
 -- a status that is blank or 10 and above
 abbrev Hard : Status → Type 0

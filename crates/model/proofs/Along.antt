@@ -25,10 +25,12 @@ use Rattle.rules.specs.Cells.{Segment, segment, levelAt, runAt, endAt}
 use Rattle.rules.specs.Position.{goodPlace}
 use Rattle.rules.specs.Arguments.{Level}
 use Rattle.rules.specs.Matching.{isImplied, agrees, pathTo, agree, matches, seek, firstMatch, keptOn, soughtBeneath, along}
-use Rattle.rules.specs.Tree.{Path, end, select, allPaths, lastImplied, dataPart, getDP, search, tryPath, searchAlong, evalAlong}
+use Rattle.rules.specs.Paths.{Path, end}
+use Rattle.rules.specs.Tree.{select, allPaths, lastImplied, dataPart, getDP, search, tryPath, searchAlong, evalAlong}
 use Rattle.rules.proofs.Search.{seek-none, seek-here, seek-next}
-use Rattle.rules.proofs.Tree.{search-select, paths-cells, end-path}
-use Rattle.model.proofs.Paths.{getD-map, take-map, drop-map, pathOf, path-front, path-level, paths-beneath}
+use Rattle.rules.proofs.Paths.{end-path}
+use Rattle.rules.proofs.Tree.{Heads, missing, leading, heads-by, search-select, paths-cells}
+use Rattle.model.proofs.Paths.{take-map, drop-map, pathOf, path-front, path-level, paths-beneath, placed, path-of}
 
 pub drop-range : (k i n : ℕ) → drop k (range i n) ≡ range (i + k) (n - k)
 drop-range zero i n = let y : i ≡ i + 0 = omega arith in let z : n ≡ n - 0 = omega arith in ap (λ (x : ℕ). range x n) y ∙ ap (range (i + 0)) z
@@ -82,18 +84,7 @@ select-map t u x h (p ∷ ps) = elim (is (u p)) [
   | off e ↦ ap (map (λ q. x ++ q)) (select-out u p ps e) ∙ select-map t u x h ps ∙ sym (select-out t (x ++ p) (map (λ q. x ++ q) ps) (h p ∙ e))
 ]
 
--- what is found is the end of the first of these paths: none of either, or a cell that matches the list and its path
-pub data Heads (cat : Bytes) (cs : List Segment) (ls : List Level) (ps : List Path) (f : Found) : Type 0 where
-  missing : ps ≡ [] → f ≡ Nothing → Heads cat cs ls ps f
-  leading : (i : ℕ) (qs : List Path) → i < length cs → matches cat cs ls i ≡ true → ps ≡ pathTo cat cs i ∷ qs → f ≡ At (cell i) → Heads cat cs ls ps f
-
 module _ (cat : Bytes) (cs : List Segment) where
-  heads-by : (ls : List Level) (ps qs : List Path) (f g : Found) → ps ≡ qs → f ≡ g → Heads cat cs ls qs g → Heads cat cs ls ps f
-  heads-by ls ps qs f g a b h = elim h [
-    | missing x y ↦ missing (a ∙ x) (b ∙ y)
-    | leading i rs l m x y ↦ leading i rs l m (a ∙ x) (b ∙ y)
-  ]
-
   abbrev cellPaths : ℕ → ℕ → List Path
   cellPaths i n = map (pathTo cat cs) (range i n)
 
@@ -106,7 +97,7 @@ module _ (cat : Bytes) (cs : List Segment) where
     | on e ↦ leading i (select t (cellPaths (suc i) n)) (omega arith) e (select-in t (pathTo cat cs i) (cellPaths (suc i) n) (says i ∙ e)) (seek-here cat cs ls i (suc n) (omega arith) e)
     | off e ↦
         let z : suc n - 1 ≡ n = omega arith in
-        heads-by ls (select t (cellPaths i (suc n))) (select t (cellPaths (suc i) n)) (seek cat cs ls i (suc n)) (seek cat cs ls (suc i) n)
+        heads-by cat cs ls (select t (cellPaths i (suc n))) (select t (cellPaths (suc i) n)) (seek cat cs ls i (suc n)) (seek cat cs ls (suc i) n)
         (select-out t (pathTo cat cs i) (cellPaths (suc i) n) (says i ∙ e)) (seek-next cat cs ls i (suc n) (omega arith) e ∙ ap (seek cat cs ls (suc i)) z)
         (heads-select ls t says (suc i) n (omega arith))
   ]
@@ -123,14 +114,14 @@ module _ (cat : Bytes) (cs : List Segment) where
   unfolding firstMatch
   heads-none =
       let z : length cs - 0 ≡ length cs = omega arith in
-      heads-by [] (allPaths (dataPart cat cs)) (select (λ p. true) (cellPaths 0 (length cs))) (seek cat cs [] 0 (length cs - 0)) (seek cat cs [] 0 (length cs))
+      heads-by cat cs [] (allPaths (dataPart cat cs)) (select (λ p. true) (cellPaths 0 (length cs))) (seek cat cs [] 0 (length cs - 0)) (seek cat cs [] 0 (length cs))
       (paths-cells cat cs ∙ sym (select-all (cellPaths 0 (length cs)))) (ap (seek cat cs [] 0) z) (heads-select [] (λ p. true) says-none 0 (length cs) (omega arith))
 
   heads-whole : (l : Level) (ls : List Level) → Heads cat cs (l ∷ ls) (search cat cs (l ∷ ls) (dataPart cat cs)) (firstMatch cat cs (l ∷ ls) 0 (length cs))
   unfolding firstMatch
   heads-whole l ls =
       let z : length cs - 0 ≡ length cs = omega arith in
-      heads-by (l ∷ ls) (search cat cs (l ∷ ls) (dataPart cat cs)) (select (agree cat cs (l ∷ ls)) (cellPaths 0 (length cs))) (seek cat cs (l ∷ ls) 0 (length cs - 0)) (seek cat cs (l ∷ ls) 0 (length cs))
+      heads-by cat cs (l ∷ ls) (search cat cs (l ∷ ls) (dataPart cat cs)) (select (agree cat cs (l ∷ ls)) (cellPaths 0 (length cs))) (seek cat cs (l ∷ ls) 0 (length cs - 0)) (seek cat cs (l ∷ ls) 0 (length cs))
       (search-select cat cs l ls (dataPart cat cs) ∙ ap (select (agree cat cs (l ∷ ls))) (paths-cells cat cs)) (ap (seek cat cs (l ∷ ls) 0) z)
       (heads-select (l ∷ ls) (agree cat cs (l ∷ ls)) (says-some l ls) 0 (length cs) (omega arith))
 
@@ -234,13 +225,6 @@ module _ (cat : Bytes) (cs : List Segment) where
   pub size-numbers : size (dataPart cat cs) ≡ length cs
   size-numbers = ap length cells-numbers ∙ length-range 0 (length cs)
 
-  path-of : (i : ℕ) → i < length cs → pathOf i (dataPart cat cs) ≡ pathTo cat cs i
-  path-of i l =
-      let z : 0 + i ≡ i = omega arith in
-      ap (λ (ps : List Path). getD ps i []) (paths-cells cat cs)
-      ∙ getD-map (pathTo cat cs) (range 0 (length cs)) i 0 [] (rw length-range l)
-      ∙ ap (pathTo cat cs) (getD-range 0 (length cs) i 0 l ∙ z)
-
   pub run-kids : (i : ℕ) → i < length cs → suc (size (kids i (dataPart cat cs))) ≡ runAt cat cs i
   unfolding dataPart runAt
   run-kids i l =
@@ -256,7 +240,7 @@ module _ (cat : Bytes) (cs : List Segment) where
       let m : i < size (dataPart cat cs) = omega arith in
       let f : i + n < size (dataPart cat cs) = kids-fit i (dataPart cat cs) m in
       let y : 0 + suc i ≡ suc i = omega arith in
-      ap (λ (x : Path). map (λ p. x ++ p) (allPaths (kids i (dataPart cat cs)))) (sym (path-of i l))
+      ap (λ (x : Path). map (λ p. x ++ p) (allPaths (kids i (dataPart cat cs)))) (sym (path-of cat cs i l))
       ∙ paths-beneath i (dataPart cat cs) m
       ∙ ap (λ (ps : List Path). take n (drop (suc i) ps)) (paths-cells cat cs)
       ∙ ap (take n) (drop-map (pathTo cat cs) (suc i) (range 0 (length cs)) ∙ ap (map (pathTo cat cs)) (drop-range (suc i) 0 (length cs) ∙ ap (λ (x : ℕ). range x (length cs - suc i)) y))
@@ -278,13 +262,13 @@ module _ (cat : Bytes) (cs : List Segment) where
 
   -- in a listing whose forest has its levels
   module _ (exact : Levelled (levelAt cat cs) 1 (dataPart cat cs)) where
-    path-deep : (i : ℕ) → i < length cs → length (pathTo cat cs i) ≡ levelAt cat cs i
+    pub path-deep : (i : ℕ) → i < length cs → length (pathTo cat cs i) ≡ levelAt cat cs i
     path-deep i l =
         let s : size (dataPart cat cs) ≡ length cs = size-numbers in
         let z : 0 + i ≡ i = omega arith in
         let e : getD (cellsOf (dataPart cat cs)) i 0 ≡ i = rw cells-numbers (getD-range 0 (length cs) i 0 l ∙ z) in
         let h : length (pathOf i (dataPart cat cs)) + 1 ≡ suc (levelAt cat cs (getD (cellsOf (dataPart cat cs)) i 0)) = path-level (levelAt cat cs) 1 i (dataPart cat cs) exact (omega arith) in
-        let g : length (pathTo cat cs i) + 1 ≡ suc (levelAt cat cs i) = rw (path-of i l, e) at h in
+        let g : length (pathTo cat cs i) + 1 ≡ suc (levelAt cat cs i) = rw (path-of cat cs i l, e) at h in
         omega arith
 
     module _ (l : Level) (ls : List Level) where
@@ -312,7 +296,7 @@ module _ (cat : Bytes) (cs : List Segment) where
           let r : suc (size K) ≡ runAt cat cs j = run-kids j b in
           let s : size (dataPart cat cs) ≡ length cs = size-numbers in
           let fit : j + size K < size (dataPart cat cs) = kids-fit j (dataPart cat cs) (omega arith) in
-          heads-by whole (map (λ p. pathTo cat cs j ++ p) (search cat cs (m ∷ ms) K)) (select (agree cat cs whole) (cellPaths (suc j) (size K)))
+          heads-by cat cs whole (map (λ p. pathTo cat cs j ++ p) (search cat cs (m ∷ ms) K)) (select (agree cat cs whole) (cellPaths (suc j) (size K)))
           (soughtBeneath cat cs whole (At (cell j))) (seek cat cs whole (suc j) (size K))
           (ap (map (λ p. pathTo cat cs j ++ p)) (search-select cat cs m ms K)
           ∙ select-map (agree cat cs whole) (agree cat cs (m ∷ ms)) (pathTo cat cs j) g (allPaths K)
@@ -328,15 +312,15 @@ module _ (cat : Bytes) (cs : List Segment) where
           let cur : Path = pathTo cat cs c in
           let s : size (dataPart cat cs) ≡ length cs = size-numbers in
           let t = try-le whole (pathTo cat cs c) in
-          let q : pathOf c (dataPart cat cs) ≡ pathTo cat cs c = path-of c b in
+          let q : pathOf c (dataPart cat cs) ≡ pathTo cat cs c = path-of cat cs c b in
           let r = path-front c n (dataPart cat cs) (omega arith) (rw q (omega (arith, t .0))) in
           let j : ℕ = r .0 in
           let b′ : j < length cs = omega (arith, r .1) in
-          let e : take (suc n) (pathTo cat cs c) ≡ pathTo cat cs j = sym (ap (take (suc n)) q) ∙ r .2 ∙ path-of j b′ in
+          let e : take (suc n) (pathTo cat cs c) ≡ pathTo cat cs j = sym (ap (take (suc n)) q) ∙ r .2 ∙ path-of cat cs j b′ in
           let w : length (take (suc n) (pathTo cat cs c)) ≡ suc n = length-take-le (suc n) (pathTo cat cs c) (omega (arith, t .0)) in
           let v : length (pathTo cat cs j) ≡ suc n = sym (ap length e) ∙ w in
           let u : length (pathTo cat cs j) ≡ levelAt cat cs j = path-deep j b′ in
-          heads-by whole (map (λ p. take (suc n) cur ++ p) (search cat cs (drop (suc n) whole) (getDP cat cs (take (suc n) cur)))) (map (λ p. pathTo cat cs j ++ p) (search cat cs (drop (suc n) whole) (kids j (dataPart cat cs))))
+          heads-by cat cs whole (map (λ p. take (suc n) cur ++ p) (search cat cs (drop (suc n) whole) (getDP cat cs (take (suc n) cur)))) (map (λ p. pathTo cat cs j ++ p) (search cat cs (drop (suc n) whole) (kids j (dataPart cat cs))))
           (soughtBeneath cat cs whole (At (cell (end (take (suc n) cur))))) (soughtBeneath cat cs whole (At (cell j)))
           (ap (λ (x : Path). map (λ p. x ++ p) (search cat cs (drop (suc n) whole) (getDP cat cs x))) e
           ∙ ap (λ (f : Forest ℕ). map (λ p. pathTo cat cs j ++ p) (search cat cs (drop (suc n) whole) f)) (beneath-path (pathTo cat cs j) (omega arith) ∙ ap (λ (x : ℕ). kids x (dataPart cat cs)) (end-path cat cs j)))
@@ -348,7 +332,7 @@ module _ (cat : Bytes) (cs : List Segment) where
           → Heads cat cs whole (map (λ p. take k (pathTo cat cs c) ++ p) (search cat cs (drop k whole) (getDP cat cs (take k (pathTo cat cs c)))))
           (soughtBeneath cat cs whole (keptAt k (pathTo cat cs c) Nothing))
       heads-kept c zero b h =
-          heads-by whole (map (λ p. p) (search cat cs whole (dataPart cat cs))) (search cat cs whole (dataPart cat cs)) (firstMatch cat cs whole 0 (length cs)) (firstMatch cat cs whole 0 (length cs))
+          heads-by cat cs whole (map (λ p. p) (search cat cs whole (dataPart cat cs))) (search cat cs whole (dataPart cat cs)) (firstMatch cat cs whole 0 (length cs)) (firstMatch cat cs whole 0 (length cs))
           (map-id (search cat cs whole (dataPart cat cs))) refl (heads-whole l ls)
       heads-kept c (suc n) b h = rw (kept-some n (pathTo cat cs c) Nothing) (heads-front c n b h)
 
@@ -357,18 +341,18 @@ module _ (cat : Bytes) (cs : List Segment) where
     kept-none p = refl
 
     -- LAW: the search along the position
-    pub along-heads : (ls : List Level) (q : Place) → goodPlace cat cs q ≡ true → Heads cat cs ls (evalAlong cat cs ls q) (along cat cs ls q)
+    pub along-heads : (ls : List Level) (q : Place) → goodPlace cat cs q ≡ true → Heads cat cs ls (evalAlong cat cs ls (placed cat cs q)) (along cat cs ls q)
     unfolding along searchAlong
     along-heads [] (Before c) g = heads-none
     along-heads [] (On c) g =
-        heads-by [] (allPaths (dataPart cat cs)) (allPaths (dataPart cat cs)) (soughtBeneath cat cs [] (keptOn cat cs [] (pathTo cat cs (c .0)) Nothing)) (firstMatch cat cs [] 0 (length cs))
+        heads-by cat cs [] (allPaths (dataPart cat cs)) (allPaths (dataPart cat cs)) (soughtBeneath cat cs [] (keptOn cat cs [] (pathTo cat cs (c .0)) Nothing)) (firstMatch cat cs [] 0 (length cs))
         refl (ap (soughtBeneath cat cs []) (kept-none (pathTo cat cs (c .0)))) heads-none
     along-heads (l ∷ ls) (Before c) g = heads-whole l ls
     along-heads (l ∷ ls) (On c) g =
         let b : c .0 < length cs = ltb-true (c .0) (length cs) g in
         let p : Path = pathTo cat cs (c .0) in
         let k : ℕ = keepLength (l ∷ ls) (pathTo cat cs (c .0)) in
-        heads-by (l ∷ ls) (searchAlong cat cs (l ∷ ls) (pathOf (c .0) (dataPart cat cs))) (searchAlong cat cs (l ∷ ls) p)
+        heads-by cat cs (l ∷ ls) (searchAlong cat cs (l ∷ ls) p) (searchAlong cat cs (l ∷ ls) p)
         (soughtBeneath cat cs (l ∷ ls) (keptOn cat cs (l ∷ ls) p Nothing)) (soughtBeneath cat cs (l ∷ ls) (keptAt k p Nothing))
-        (ap (searchAlong cat cs (l ∷ ls)) (path-of (c .0) b)) (ap (soughtBeneath cat cs (l ∷ ls)) (kept-length (l ∷ ls) p Nothing))
+        refl (ap (soughtBeneath cat cs (l ∷ ls)) (kept-length (l ∷ ls) p Nothing))
         (heads-kept l ls (c .0) k b (keep-le (l ∷ ls) p))

@@ -1,12 +1,12 @@
 -- What the refusals leave: the facts on which a call that is not refused may lean. Assumes nothing.
-use mathlib.Core.Path.{_≡_, refl, sym, _∙_}
+use mathlib.Core.Path.{_≡_, refl, sym, _∙_, subst}
 use mathlib.Core.Bool.{Bool, true, false, _&&_, _||_, not}
 use mathlib.Core.List.{List, [], _∷_}
 use Prim.Native.Nat.{ℕ, zero, suc, _+_, _-_, _<_, _≤_}
 use native.Mathlib.Omega.{arith}
 use lib.Dec.{ltb, leb, eqb}
 use lib.ListN.{length}
-use borrow.Author.Tests.{ltb-true, ltb-false, leb-true}
+use borrow.Author.Tests.{ltb-true, ltb-false, leb-true, eqb-true, eqb-false}
 use Rattle.terms.specs.declared.TypeCode.{TypeCode}
 use Rattle.terms.specs.declared.CellNumber.{CellNumber}
 use Rattle.terms.specs.declared.Place.{Place}
@@ -28,8 +28,11 @@ use Rattle.rules.specs.Cells.{Segment, endAt}
 use Rattle.rules.specs.Table.{cellSize, listing, goodTable}
 use Rattle.rules.specs.Position.{goodPlace, goodParentage, goodHold, goodPosition}
 use Rattle.rules.specs.Arguments.{goodNext, isFieldOf, argumentAt, argumentsFrom, listRead, lastArgument, isQualified}
+use Rattle.rules.specs.Matching.{pathTo}
+use Rattle.rules.specs.Paths.{currentPath}
 use Rattle.rules.specs.Outcome.{isBlank, isGnp, isIsrt, isDlet, isHeld, unsound, misused}
 use Rattle.rules.proofs.Cells.{row-run}
+use Rattle.model.proofs.Paths.{placed}
 use Rattle.model.proofs.Parents.{never}
 
 -- the same choice between answers that are the same
@@ -53,6 +56,18 @@ not-of false e = refl
 and-false : (a b : Bool) → (a && b) ≡ false → a ≡ true → b ≡ false
 and-false true b e h = e
 and-false false b e h = never false h refl
+
+-- what holds of each of the nine calls holds of the call of a good number
+pub by-number : (P : ℕ → Type 0) → P 1 → P 2 → P 3 → P 4 → P 5 → P 6 → P 7 → P 8 → P 9 → (c : ℕ) → 1 ≤ c → c ≤ 9 → P c
+by-number P p1 p2 p3 p4 p5 p6 p7 p8 p9 c low high =
+    step 1 low p1 (λ l2. step 2 l2 p2 (λ l3. step 3 l3 p3 (λ l4. step 4 l4 p4 (λ l5. step 5 l5 p5 (λ l6. step 6 l6 p6 (λ l7. step 7 l7 p7 (λ l8.
+    step 8 l8 p8 (λ l9. step 9 l9 p9 (λ l. absurd (omega arith))))))))))
+  where
+    step : (k : ℕ) → k ≤ c → P k → (suc k ≤ c → P c) → P c
+    step k l p f = elim (is (eqb c k)) [
+      | on e ↦ subst P (sym (eqb-true c k e)) p
+      | off e ↦ f (let n : (c ≡ k) → ⊥ = eqb-false c k e in omega arith)
+    ]
 
 -- 20, 21 and 22 not given
 pub record Sound (cat tab : Bytes) (pos : Position) : Type 0 where
@@ -205,3 +220,8 @@ module _ (cat : Bytes) (cs : List Segment) where
   pub held-on : (q : Place) (h : Bool) → goodPlace cat cs q ≡ true → goodHold cat cs q h ≡ true → h ≡ true → placeNumber q < length cs
   held-on (On c) h g e f = ltb-true (c .0) (length cs) g
   held-on (Before c) h g e f = never h f (not-of h e)
+
+  -- LAW: and the path to it is the current one
+  pub held-path : (q : Place) (h : Bool) → goodHold cat cs q h ≡ true → h ≡ true → currentPath (placed cat cs q) ≡ pathTo cat cs (placeNumber q)
+  held-path (On c) h e f = refl
+  held-path (Before c) h e f = never h f (not-of h e)

@@ -94,7 +94,7 @@ module _ (cat : Bytes) (g : goodCatalogue cat ≡ true) where
       top-good a c f =
           let t : Sits lev typeNumber (isChild cat) (siblings cat) x before F =
           sits-row cat cs pos area x new F F-fits
-          (free (keyTaken cat cs x 0 (length cs)) (hasKey cat cs pos area x F) f (taken-cells cat cs pos area x 0 (length cs) F a (omega arith) (F-cells ∙ sym (take-whole cs)))) in
+          (free (keyTaken cat cs x 0 (length cs)) (hasKey cat cs x F) f (taken-cells cat cs pos area x 0 (length cs) F a (omega arith) (F-cells ∙ sym (take-whole cs)))) in
           ap (goodListing cat) (sym (cells-top cat cs pos area x a ∙ placed-spot cat cs pos area x 0))
           ∙ formed-good (graft lev x before F) (wf-graft lev typeNumber (isChild cat) (siblings cat) x before 0 F c F-wf t)
         where
@@ -111,11 +111,11 @@ module _ (cat : Bytes) (g : goodCatalogue cat ≡ true) where
           let e : runAt cat cs p - 1 ≡ size (kids p F) = kids-run cat cs g good p l in
           let kc : cellsOf (kids p F) ≡ take (size (kids p F)) (drop (suc p) cs) = kids-cells cat cs pos area x p l exact deep in
           let kf : All (Fits cat) (cellsOf (kids p F)) = subst (All (Fits cat)) (sym kc) (all-take (Fits cat) (size (kids p F)) (drop (suc p) cs) (all-drop (Fits cat) (suc p) cs fits)) in
-          let had : hasKey cat cs pos area x (kids p F) ≡ keyTaken cat cs x (suc p) (runAt cat cs p - 1) =
+          let had : hasKey cat cs x (kids p F) ≡ keyTaken cat cs x (suc p) (runAt cat cs p - 1) =
           taken-cells cat cs pos area x (suc p) (runAt cat cs p - 1) (kids p F) (kids-levelled cat cs pos area x p l exact deep) (omega (arith, run-size cat cs pos area x p l exact deep .1))
           (kc ∙ ap (λ (k : ℕ). take k (drop (suc p) cs)) (sym e)) in
           let t : Sits lev typeNumber (isChild cat) (siblings cat) x before (kids p F) =
-          sits-row cat cs pos area x new (kids p F) kf (free (keyTaken cat cs x (suc p) (runAt cat cs p - 1)) (hasKey cat cs pos area x (kids p F)) f had) in
+          sits-row cat cs pos area x new (kids p F) kf (free (keyTaken cat cs x (suc p) (runAt cat cs p - 1)) (hasKey cat cs x (kids p F)) f had) in
           ap (goodListing cat) (sym (cells-insert lev x before blank 1 p cs l exact deep ∙ placed-spot cat cs pos area x (suc p)))
           ∙ formed-good (graftUnder lev x before p F)
           (wf-insert lev typeNumber (isChild cat) (siblings cat) x before blank p 0 F m F-wf (rw q c) t)

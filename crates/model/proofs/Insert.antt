@@ -1,19 +1,21 @@
 -- ISRT: the leaf put among the siblings of a forest is the cell put among the cells, at the same number, with the same twins. Assumes nothing.
 use mathlib.Core.Path.{_≡_, refl, ap, sym, _∙_}
-use mathlib.Core.Bool.{Bool, true, false, _&&_, _||_, not, or-false}
-use mathlib.Core.List.{List, [], _∷_, _++_, map, reverseAux, append-assoc, append-nil}
+use mathlib.Core.Bool.{Bool, true, false, _&&_, _||_, not}
+use mathlib.Core.Option.{none, some}
+use mathlib.Core.List.{List, [], _∷_, _++_, map, append-assoc, append-nil}
 use Prim.Native.Nat.{ℕ, suc, _+_, _-_, _<_, _≤_}
 use native.Mathlib.Omega.{arith}
 use lib.Dec.{eqb}
 use lib.ListN.{length, getD, take, drop, length-append, length-drop}
 use lib.Seq.{take-add, drop-drop, take-at}
 use borrow.Author.Tests.{lt-ltb, le-ltb, eq-eqb, ne-eqb, eqb-true}
+use Rattle.terms.specs.declared.Place.the-variants.{On}
 use Rattle.terms.specs.declared.Parentage.{Parentage}
 use Rattle.terms.specs.declared.Parentage.the-variants.{Absent, Of}
 use Rattle.terms.specs.declared.Position.{Position}
 use Rattle.terms.specs.declared.Status.the-variants.{II, FX}
 use Rattle.terms.specs.Choice.{pick}
-use Rattle.terms.specs.Names.{code, sameType}
+use Rattle.terms.specs.Names.{code, cell, sameType}
 use Rattle.terms.specs.Moves.{afterInsert}
 use Rattle.forest.specs.Forest.{Forest, void, node, cellsOf, forestOf, rest, cells-forest}
 use Rattle.forest.specs.Good.{on, off, is, both-left}
@@ -29,9 +31,12 @@ use Rattle.rules.specs.Matching.{pathTo}
 use Rattle.rules.specs.Change.{put}
 use Rattle.rules.specs.Calls.{After, refused, changed, isOneOf, keyTaken, inserted, insertAmong}
 use Rattle.terms.specs.Operators.{isEqual}
-use Rattle.rules.specs.Tree.{dataPart, segments, findPosition, hasKey, insertRec}
+use Rattle.rules.specs.Paths.{Path, adjustInsertion, afterPut, parentageOf, numbered}
+use Rattle.rules.specs.Tree.{dataPart, segments, findPosition, hasKey, putIn, insertRec}
+use Rattle.rules.proofs.Paths.{end-append, end-path, prefix-row, prefix-none}
 use Rattle.rules.proofs.Tree.{segments-cells}
-use Rattle.model.proofs.Paths.{take-map, drop-map, cells-map}
+use Rattle.model.proofs.Paths.{take-map, drop-map, cells-map, parented, paths}
+use Rattle.model.proofs.Standing.{numbered-paths}
 use Rattle.model.proofs.Along.{drop-range, take-range, cells-numbers}
 use Rattle.model.proofs.Parents.{never}
 
@@ -99,25 +104,7 @@ every-map f p (x ∷ xs) = elim (is (p (f x))) [
   | off h ↦ every-not p (f x) (map f xs) h ∙ sym (every-not (λ y. p (f y)) x xs h)
 ]
 
--- membership does not ask for the order
-pub in-reverse : (x : ℕ) (xs r : List ℕ) → isIn x (reverseAux xs r) ≡ (isIn x xs || isIn x r)
-in-reverse x [] r = refl
-in-reverse x (y ∷ xs) r = in-reverse x xs (y ∷ r) ∙ turn (eqb x y) (isIn x xs) (isIn x r)
-  where
-    turn : (a b c : Bool) → (b || (a || c)) ≡ ((a || b) || c)
-    turn true true c = refl
-    turn true false c = refl
-    turn false b c = refl
-
 module _ (cat : Bytes) (cs : List Segment) where
-  pub in-path : (p i : ℕ) → isIn p (pathTo cat cs i) ≡ isIn p (rowAt cat cs i)
-  unfolding pathTo
-  in-path p i = in-reverse p (rowAt cat cs i) [] ∙ or-false (isIn p (rowAt cat cs i))
-
-  one-of : (i : ℕ) (q : Parentage) → isOneOf (pathTo cat cs i) q ≡ isOneOf (rowAt cat cs i) q
-  one-of i Absent = refl
-  one-of i (Of p) = in-path (p .0) i
-
   cells-listing : cs ≡ map (segment cs) (range 0 (length cs))
   unfolding segments
   cells-listing =
@@ -139,7 +126,7 @@ module _ (cat : Bytes) (cs : List Segment) where
     stop s = goesBefore cat x s
 
     abbrev position : Forest Segment → ℕ
-    position f = findPosition cat cs pos area x f
+    position f = findPosition cat cs x f
 
     position-here : (c : Segment) (k s : Forest Segment) → stop c ≡ true → position (node c k s) ≡ 0
     unfolding findPosition
@@ -182,12 +169,12 @@ module _ (cat : Bytes) (cs : List Segment) where
       | off e ↦ every-some other c (cellsOf k ++ cellsOf s) (rw e) ∙ every-append other (cellsOf k) (cellsOf s) (others-deep (suc n) k (a .1) (omega arith)) ∙ others-deep n s (a .2) h
     ]
 
-    has-here : (c : Segment) (k s : Forest Segment) → hasKey cat cs pos area x (node c k s) ≡ (sameKey cat x c || hasKey cat cs pos area x s)
+    has-here : (c : Segment) (k s : Forest Segment) → hasKey cat cs x (node c k s) ≡ (sameKey cat x c || hasKey cat cs x s)
     unfolding hasKey
     has-here c k s = refl
 
     -- LAW: a twin's key among the siblings is one among all cells beneath the parent
-    has-key : (f : Forest Segment) → Levelled lev (lev x) f → hasKey cat cs pos area x f ≡ not (every other (cellsOf f))
+    has-key : (f : Forest Segment) → Levelled lev (lev x) f → hasKey cat cs x f ≡ not (every other (cellsOf f))
     unfolding hasKey every
     has-key void a = refl
     has-key (node c k s) a = elim (is (sameKey cat x c)) [
@@ -196,29 +183,61 @@ module _ (cat : Bytes) (cs : List Segment) where
           ∙ rw (e, every-some other c (cellsOf k ++ cellsOf s) (rw e), every-append other (cellsOf k) (cellsOf s) (others-deep (suc (lev x)) k (a .1) (omega arith))) (has-key s (a .2))
     ]
 
-    pub taken-cells : (i n : ℕ) (f : Forest Segment) → Levelled lev (lev x) f → i + n ≤ length cs → cellsOf f ≡ take n (drop i cs) → hasKey cat cs pos area x f ≡ keyTaken cat cs x i n
+    pub taken-cells : (i n : ℕ) (f : Forest Segment) → Levelled lev (lev x) f → i + n ≤ length cs → cellsOf f ≡ take n (drop i cs) → hasKey cat cs x f ≡ keyTaken cat cs x i n
     unfolding keyTaken
     taken-cells i n f a l e = has-key f a ∙ ap (λ (ys : List Segment). not (every other ys)) (e ∙ cells-between i n l) ∙ ap not (every-map (segment cs) other (range i n))
 
-    -- what an insert does with its answers
-    abbrev after : ℕ → Bool → Bool → ℕ → List Segment → After
-    after m one taken r new =
-        pick (eqb (keyKind cat (x .code)) 1 && taken) (refused II pos area)
-        (pick (eqb (length cs) m) (refused FX pos area)
-        (changed cat (afterInsert r one pos) x 0 (put r (x ∷ [])) new area))
+    -- "the parentage stays if the new cell is beneath it": the parent path is the front of the path to its parent
+    parentage-kept : (p : ℕ) (q : Parentage) → parentageOf (adjustInsertion (pathTo cat cs p) (parented cat cs q)) ≡ pick (isOneOf (rowAt cat cs p) q) q Absent
+    parentage-kept p Absent = refl
+    parentage-kept p (Of q) =
+        ap (λ (b : Bool). parentageOf (pick b (some (pathTo cat cs (q .0))) none)) (prefix-row cat cs (q .0) p) ∙ go (isIn (q .0) (rowAt cat cs p))
+      where
+        go : (b : Bool) → parentageOf (pick b (some (pathTo cat cs (q .0))) none) ≡ pick b (Of q) Absent
+        go true = ap (λ (i : ℕ). Of (cell i)) (end-path cat cs (q .0))
+        go false = refl
 
-    inserted-after : (m : ℕ) (above : List ℕ) (taken : Bool) (r : ℕ) (new : List Segment) → inserted cat cs pos area m x above taken r new ≡ after m (isOneOf above (pos .parentage)) taken r new
+    -- and the top is beneath none
+    parentage-top : (q : Parentage) → parentageOf (adjustInsertion [] (parented cat cs q)) ≡ pick (isOneOf [] q) q Absent
+    parentage-top Absent = refl
+    parentage-top (Of q) = ap (λ (b : Bool). parentageOf (pick b (some (pathTo cat cs (q .0))) none)) (prefix-none cat cs (q .0))
+
+    -- what an insert answers, by its position before and after
+    abbrev after : ℕ → Position → Position → Bool → ℕ → List Segment → After
+    after m before then taken r new =
+        pick (eqb (keyKind cat (x .code)) 1 && taken) (refused II before area)
+        (pick (eqb (length cs) m) (refused FX before area)
+        (changed cat then x 0 (put r (x ∷ [])) new area))
+
+    put-after : (m : ℕ) (inspos : Path) (taken : Bool) (r : ℕ) (new : List Segment)
+        → putIn cat cs (paths cat cs pos) area m x inspos taken r new ≡ after m (numbered (paths cat cs pos)) (numbered (afterPut inspos r (paths cat cs pos))) taken r new
+    unfolding putIn
+    put-after m inspos taken r new = refl
+
+    inserted-after : (m : ℕ) (above : List ℕ) (taken : Bool) (r : ℕ) (new : List Segment)
+        → inserted cat cs pos area m x above taken r new ≡ after m pos (afterInsert r (isOneOf above (pos .parentage)) pos) taken r new
     unfolding inserted
     inserted-after m above taken r new = refl
 
-    inserted-same : (m : ℕ) (above row : List ℕ) (taken had : Bool) (r k : ℕ) (new ds : List Segment)
-        → isOneOf above (pos .parentage) ≡ isOneOf row (pos .parentage) → taken ≡ had → r ≡ k → new ≡ ds
-        → inserted cat cs pos area m x above taken r new ≡ inserted cat cs pos area m x row had k ds
-    inserted-same m above row taken had r k new ds a b c d =
-        inserted-after m above taken r new
-        ∙ ap (λ (y : Bool). after m y taken r new) a ∙ ap (λ (y : Bool). after m (isOneOf row (pos .parentage)) y r new) b
-        ∙ ap (λ (y : ℕ). after m (isOneOf row (pos .parentage)) had y new) c ∙ ap (after m (isOneOf row (pos .parentage)) had k) d
-        ∙ sym (inserted-after m row had k ds)
+    moved-same : (inspos above : List ℕ) (r : ℕ)
+        → parentageOf (adjustInsertion inspos (parented cat cs (pos .parentage))) ≡ pick (isOneOf above (pos .parentage)) (pos .parentage) Absent
+        → numbered (afterPut inspos r (paths cat cs pos)) ≡ afterInsert r (isOneOf above (pos .parentage)) pos
+    moved-same inspos above r e =
+        ap (λ (i : ℕ). record { place = On (cell i); parentage = parentageOf (adjustInsertion inspos (parented cat cs (pos .parentage))); hold = false }) (end-append inspos r)
+        ∙ ap (λ (q : Parentage). record { place = On (cell r); parentage = q; hold = false }) e
+
+    inserted-same : (m : ℕ) (inspos above : List ℕ) (taken had : Bool) (r k : ℕ) (new ds : List Segment)
+        → parentageOf (adjustInsertion inspos (parented cat cs (pos .parentage))) ≡ pick (isOneOf above (pos .parentage)) (pos .parentage) Absent
+        → taken ≡ had → r ≡ k → new ≡ ds
+        → putIn cat cs (paths cat cs pos) area m x inspos taken r new ≡ inserted cat cs pos area m x above had k ds
+    inserted-same m inspos above taken had r k new ds a b c d =
+        put-after m inspos taken r new
+        ∙ ap (λ (p : Position). after m p (numbered (afterPut inspos r (paths cat cs pos))) taken r new) (numbered-paths cat cs pos)
+        ∙ ap (λ (p : Position). after m pos p taken r new) (moved-same inspos above r a)
+        ∙ ap (λ (y : Bool). after m pos (afterInsert r (isOneOf above (pos .parentage)) pos) y r new) b
+        ∙ ap (λ (y : ℕ). after m pos (afterInsert y (isOneOf above (pos .parentage)) pos) had y new) c
+        ∙ ap (after m pos (afterInsert k (isOneOf above (pos .parentage)) pos) had k) d
+        ∙ sym (inserted-after m above had k ds)
 
     pub placed-spot : (i : ℕ) → take i cs ++ place lev x stop (drop i cs)
         ≡ take (i + spot lev x stop (drop i cs)) cs ++ x ∷ drop (i + spot lev x stop (drop i cs)) cs
@@ -236,14 +255,14 @@ module _ (cat : Bytes) (cs : List Segment) where
           let F : Forest Segment = forestOf lev cs in
           sym (append-nil (cellsOf (graft lev x stop F))) ∙ cells-graft lev x stop F [] a tt ∙ ap (place lev x stop) (append-nil (cellsOf F) ∙ cells-forest lev cs)
 
-      pub top-agree : (m : ℕ) → insertRec cat cs pos area m x [] 0 (forestOf lev cs) (graft lev x stop (forestOf lev cs)) ≡ insertAmong cat cs pos area m x [] 0 (length cs)
+      pub top-agree : (m : ℕ) → insertRec cat cs (paths cat cs pos) area m x [] 0 (forestOf lev cs) (graft lev x stop (forestOf lev cs)) ≡ insertAmong cat cs pos area m x [] 0 (length cs)
       unfolding insertAmong
       top-agree m =
           let F : Forest Segment = forestOf lev cs in
           let e : cellsOf F ≡ cs = cells-forest lev cs in
-          inserted-same m [] [] (hasKey cat cs pos area x F) (keyTaken cat cs x 0 (length cs)) (0 + position F) (0 + spot lev x stop cs)
+          inserted-same m [] [] (hasKey cat cs x F) (keyTaken cat cs x 0 (length cs)) (0 + position F) (0 + spot lev x stop cs)
           (cellsOf (graft lev x stop F)) (take (0 + spot lev x stop cs) cs ++ x ∷ drop (0 + spot lev x stop cs) cs)
-          refl
+          (parentage-top (pos .parentage))
           (taken-cells 0 (length cs) F a (omega arith) (e ∙ sym (take-whole cs)))
           (ap (_+_ 0) (position-spot F [] a tt ∙ ap (spot lev x stop) (append-nil (cellsOf F) ∙ e)))
           (cells-top ∙ placed-spot 0)
@@ -275,13 +294,13 @@ module _ (cat : Bytes) (cs : List Segment) where
       kids-cells = sym (take-at (cellsOf K) (drop (p + runLen lev blank p cs) cs) (size K) refl) ∙ ap (take (size K)) (tail-split lev blank p cs l)
 
       pub under-agree : (m n : ℕ) → n ≡ size K
-          → insertRec cat cs pos area m x (pathTo cat cs p) (suc p) K (graftUnder lev x stop p (forestOf lev cs)) ≡ insertAmong cat cs pos area m x (rowAt cat cs p) (suc p) n
+          → insertRec cat cs (paths cat cs pos) area m x (pathTo cat cs p) (suc p) K (graftUnder lev x stop p (forestOf lev cs)) ≡ insertAmong cat cs pos area m x (rowAt cat cs p) (suc p) n
       unfolding insertAmong
       under-agree m n e =
           let r : ℕ = spot lev x stop (drop (suc p) cs) in
-          inserted-same m (pathTo cat cs p) (rowAt cat cs p) (hasKey cat cs pos area x K) (keyTaken cat cs x (suc p) n) (suc p + position K) (suc p + r)
+          inserted-same m (pathTo cat cs p) (rowAt cat cs p) (hasKey cat cs x K) (keyTaken cat cs x (suc p) n) (suc p + position K) (suc p + r)
           (cellsOf (graftUnder lev x stop p (forestOf lev cs))) (take (suc p + r) cs ++ x ∷ drop (suc p + r) cs)
-          (one-of p (pos .parentage))
+          (parentage-kept p (pos .parentage))
           (taken-cells (suc p) n K kids-levelled (omega (arith, run-size .1)) (kids-cells ∙ ap (λ (k : ℕ). take k (drop (suc p) cs)) (sym e)))
           (ap (_+_ (suc p)) (position-spot K (drop (p + runLen lev blank p cs) cs) kids-levelled (low-past lev x stop blank p cs (omega arith)) ∙ ap (spot lev x stop) (tail-split lev blank p cs l)))
           (cells-insert lev x stop blank 1 p cs l exact deep ∙ placed-spot (suc p))

@@ -49,13 +49,13 @@ use Rattle.encoding.proofs.Lists.{bytes-drop, bytes-append, all-take, all-drop,
 use Rattle.encoding.proofs.Bytes.{rowBytes, arriving-fits, table-room, table-count, table-listing, table-fits, table-head, row-first}
 use Rattle.encoding.proofs.Made.{made-count, made-room, made-listing, made-good, made-bytes}
 use Rattle.model.specs.Kept.{Kept, TablesStayGood}
-use Rattle.model.proofs.Along.{missing, leading, along-heads}
+use Rattle.rules.proofs.Tree.{missing, leading}
+use Rattle.model.proofs.Along.{along-heads}
 use Rattle.model.proofs.Parents.{never, level-child, level-root, root-parent, parent-type, listing-levelled, numbers-levelled, match-type}
-use Rattle.model.proofs.Asked.{not-true, Usable, usable-of, last-type, good-place, good-parentage, good-hold, parent-before, held-on}
+use Rattle.model.proofs.Asked.{not-true, by-number, Usable, usable-of, last-type, good-place, good-parentage, good-hold, parent-before, held-on}
 use Rattle.model.proofs.Twins.{same-bytes}
 use Rattle.model.proofs.Levels.{run-deep, end-from, end-le, end-some, in-row, row-in, level-front, level-new, levels-set, spot-le, spot-deep}
 use Rattle.model.proofs.Changed.{delete-good, replace-good, top-good, under-good}
-use Rattle.model.proofs.Model.{nine}
 
 -- a position is good by its three tests
 sits-of : (cat : Bytes) (cs : List Segment) (pos : Position) → goodPlace cat cs (pos .place) ≡ true → goodParentage cat cs (pos .place) (pos .parentage) ≡ true → goodHold cat cs (pos .place) (pos .hold) ≡ true
@@ -79,10 +79,6 @@ parentage-same cat cs ds e l (Before c) (Of p) =
 place-same : (cat : Bytes) (cs ds : List Segment) → length ds ≡ length cs → (q : Place) → goodPlace cat ds q ≡ goodPlace cat cs q
 place-same cat cs ds l (On c) = ap (ltb (c .0)) l
 place-same cat cs ds l (Before c) = ap (leb (c .0)) l
-
--- another call number
-other : (c k j : ℕ) → eqb c k ≡ true → (k ≡ j → ⊥) → eqb c j ≡ false
-other c k j e n = ne-eqb c j (λ z. n (sym (eqb-true c k e) ∙ z))
 
 -- a cell found from i on and before e
 abbrev Within : ℕ → ℕ → Found → Type 0
@@ -513,32 +509,17 @@ module _ (cat : Bytes) (cs : List Segment) (m : ℕ) (area : Bytes) where
         let ar : List Argument = listRead cat list .arguments in
         let ls : List Level = getLevels cat list ar in
         let held : pos .hold ≡ true → placeNumber (pos .place) < length cs = held-on cat cs (pos .place) (pos .hold) (good-place cat cs pos here) (good-hold cat cs pos here) in
-        choose (eqb c 1) _ _ (λ e. get 1 e (λ z. omega arith) _ (keeps-unique (leb 7 c) (u .long (other c 1 9 e (λ z. omega arith))) false ls))
-        (λ e1. choose (eqb c 2) _ _ (λ e. get 2 e (λ z. omega arith) _ (keeps-next (leb 7 c) (u .long (other c 2 9 e (λ z. omega arith))) false ls))
-        (λ e2. choose (eqb c 3) _ _ (λ e. get 3 e (λ z. omega arith) _ (keeps-within (leb 7 c) (u .long (other c 3 9 e (λ z. omega arith))) false ls))
-        (λ e3. choose (eqb c 4) _ _ (λ e. get 4 e (λ z. omega arith) _ (keeps-unique (leb 7 c) (u .long (other c 4 9 e (λ z. omega arith))) true ls))
-        (λ e4. choose (eqb c 5) _ _ (λ e. get 5 e (λ z. omega arith) _ (keeps-next (leb 7 c) (u .long (other c 5 9 e (λ z. omega arith))) true ls))
-        (λ e5. choose (eqb c 6) _ _ (λ e. get 6 e (λ z. omega arith) _ (keeps-within (leb 7 c) (u .long (other c 6 9 e (λ z. omega arith))) true ls))
-        (λ e6. choose (eqb c 7) _ _
-        (λ e. write 7 e (omega arith) true _ e
-        (keeps-insert (leb 7 c) (u .long (other c 7 9 e (λ z. omega arith))) (lastArgument ar .code) (last-type cat list (u .some e)) list ar))
-        (λ e7. choose (eqb c 8) _ _
-        (λ e. write 8 e (omega arith) false _ e7 (keeps-replace (leb 7 c) (u .long (other c 8 9 e (λ z. omega arith))) (held (u .held (rw e)))))
-        (λ e8.
-        let h : isHeld c ≡ true = nine c (u .first) (u .last) e1 e2 e3 e4 e5 e6 e7 e8 in
-        let n : eqb c 9 ≡ true = rw e8 at h in
-        write 9 n (omega arith) false _ e7 (keeps-dlet (u .held h))))))))))
-      where
-        choose : (b : Bool) (x y : After) → (b ≡ true → Keeps (isIsrt c) (leb 7 c) x) → (b ≡ false → Keeps (isIsrt c) (leb 7 c) y) → Keeps (isIsrt c) (leb 7 c) (pick b x y)
-        choose b x y f g = keeps-pick (isIsrt c) (leb 7 c) b x y f g
-
-        get : (k : ℕ) → eqb c k ≡ true → (k ≡ 7 → ⊥) → (a : After) → Keeps false (leb 7 c) a → Keeps (isIsrt c) (leb 7 c) a
-        get k e n a h = subst (λ (b : Bool). Keeps b (leb 7 c) a) (sym (other c k 7 e n)) h
-
-        write : (k : ℕ) → eqb c k ≡ true → 7 ≤ k → (isrt : Bool) (a : After) → eqb c 7 ≡ isrt → Keeps isrt true a → Keeps (isIsrt c) (leb 7 c) a
-        write k e l isrt a q h =
-            let z : c ≡ k = eqb-true c k e in
-            subst (λ (w : Bool). Keeps (isIsrt c) w a) (sym (le-leb 7 c (omega arith))) (subst (λ (b : Bool). Keeps b true a) (sym q) h)
+        by-number (λ (k : ℕ). Usable cat pos k list area → Keeps (isIsrt k) (leb 7 k) (called cat cs pos area m k list (listRead cat list .arguments)))
+        (λ v. keeps-unique false (v .long refl) false ls)
+        (λ v. keeps-next false (v .long refl) false ls)
+        (λ v. keeps-within false (v .long refl) false ls)
+        (λ v. keeps-unique false (v .long refl) true ls)
+        (λ v. keeps-next false (v .long refl) true ls)
+        (λ v. keeps-within false (v .long refl) true ls)
+        (λ v. keeps-insert true (v .long refl) (lastArgument ar .code) (last-type cat list (v .some refl)) list ar)
+        (λ v. keeps-replace true (v .long refl) (held (v .held refl)))
+        (λ v. keeps-dlet (v .held refl))
+        c (u .first) (u .last) u
 
 -- from the cells to the bytes
 module _ (cat tab area : Bytes) (g : goodCatalogue cat ≡ true) (bytes : IsBytes tab) (good : goodTable cat tab ≡ true) (c : ℕ) where

@@ -1,8 +1,11 @@
 pub mod Paths
 pub mod Along
 pub mod Parents
-pub mod Insert
 pub mod Asked
+pub mod Standing
+pub mod Insert
+pub mod Gets
+pub mod Held
 pub mod Model
 pub mod Twins
 pub mod Levels

@@ -22,10 +22,12 @@ use Rattle.rules.specs.Catalogue.{types, fields, parentOf, lengthOf, lineage, l
 use Rattle.rules.specs.Cells.{Segment, segment, typeNumber, isChild, siblings, segmentLevel, goodListing, levelAt}
 use Rattle.rules.specs.Arguments.{Level, askedOf, complete}
 use Rattle.rules.specs.Matching.{agrees, satisfies, agree, pathTo, matches}
-use Rattle.rules.specs.Tree.{Path, end, dataPart, segments}
+use Rattle.rules.specs.Paths.{Path, end}
+use Rattle.rules.specs.Tree.{dataPart, segments}
 use Rattle.rules.proofs.Every.{every-at}
 use Rattle.rules.proofs.Catalogue.{par, good-lower}
-use Rattle.rules.proofs.Tree.{segments-cells, end-path}
+use Rattle.rules.proofs.Paths.{end-path}
+use Rattle.rules.proofs.Tree.{segments-cells}
 use Rattle.encoding.proofs.Entries.{is-type, good-types}
 use Rattle.model.proofs.Paths.{levelled-map}
 use Rattle.model.proofs.Along.{agree-in}

@@ -1,17 +1,29 @@
 -- The paths of a forest: the path of an ancestor is the front of a path, a path is as long as its end is deep, and the paths beneath a segment stand behind
 -- its own. Assumes nothing.
 use mathlib.Core.Path.{_≡_, refl, ap, sym, _∙_}
+use mathlib.Core.Option.{Option, none, some}
 use mathlib.Core.List.{List, [], _∷_, _++_, map, map-map}
 use Prim.Native.Nat.{ℕ, zero, suc, _+_, _-_, _<_, _≤_}
 use native.Mathlib.Omega.{arith}
 use lib.ListN.{length, getD, take, drop, length-append, length-map, length-drop, List·getD-append}
 use lib.Seq.{take-append-le, drop-append-le, take-at}
+use Rattle.terms.specs.declared.Place.{Place}
+use Rattle.terms.specs.declared.Place.the-variants.{On, Before}
+use Rattle.terms.specs.declared.Parentage.{Parentage}
+use Rattle.terms.specs.declared.Parentage.the-variants.{Absent, Of}
+use Rattle.terms.specs.declared.Position.{Position}
 use Rattle.forest.specs.Forest.{Forest, void, node, cellsOf, inside, outside, side}
 use Rattle.forest.specs.Rows.{map-append, mapF}
 use Rattle.forest.specs.Shape.{Levelled}
 use Rattle.forest.specs.Edit.{size, kids, kids-in, kids-out, kids-fit, drop-past, getD-past}
 use Rattle.forest.specs.Runs.{size-node}
-use Rattle.rules.specs.Tree.{Path, allPaths}
+use Rattle.forest.specs.Numbers.{range, length-range, getD-range}
+use Rattle.rules.specs.Block.{Bytes}
+use Rattle.rules.specs.Cells.{Segment}
+use Rattle.rules.specs.Matching.{pathTo}
+use Rattle.rules.specs.Paths.{Path, Current, onPath, inGap, Standing}
+use Rattle.rules.specs.Tree.{allPaths, pathAt}
+use Rattle.rules.proofs.Tree.{paths-cells}
 
 pub getD-map : {A B : Type 0} (f : A → B) (xs : List A) (i : ℕ) (a : A) (b : B) → i < length xs → getD (map f xs) i b ≡ f (getD xs i a)
 getD-map f [] i a b l = absurd (omega arith)
@@ -143,3 +155,23 @@ kids-map g (suc i) (node c k s) =
       | inside m ↦ kids-in i (g c) (mapF g k) (mapF g s) (omega arith) ∙ kids-map g i k ∙ sym (ap (mapF g) (kids-in i c k s m))
       | outside m ↦ kids-out i (g c) (mapF g k) (mapF g s) (omega arith) ∙ ap (λ (n : ℕ). kids (i - n) (mapF g s)) e ∙ kids-map g (i - size k) s ∙ sym (ap (mapF g) (kids-out i c k s m))
     ]
+
+-- a position, as the paths of the cells
+module _ (cat : Bytes) (cs : List Segment) where
+  abbrev pub placed : Place → Current
+  placed (On c) = onPath (pathTo cat cs (c .0))
+  placed (Before c) = inGap (c .0)
+
+  abbrev pub parented : Parentage → Option Path
+  parented Absent = none
+  parented (Of c) = some (pathTo cat cs (c .0))
+
+  abbrev pub paths : Position → Standing
+  paths pos = record { current = placed (pos .place); parent = parented (pos .parentage); hold = pos .hold }
+
+  pub path-of : (i : ℕ) → i < length cs → pathAt cat cs i ≡ pathTo cat cs i
+  path-of i l =
+      let z : 0 + i ≡ i = omega arith in
+      ap (λ (ps : List Path). getD ps i []) (paths-cells cat cs)
+      ∙ getD-map (pathTo cat cs) (range 0 (length cs)) i 0 [] (rw length-range l)
+      ∙ ap (pathTo cat cs) (getD-range 0 (length cs) i 0 l ∙ z)

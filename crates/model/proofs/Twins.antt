@@ -225,12 +225,12 @@ module _ (cat : Bytes) where
       ])
 
   module _ (cs : List Segment) (pos : Position) (area : Bytes) (x : Segment) (fits : Fits cat x) where
-    has-none : (c : Segment) (k s : Forest Segment) → hasKey cat cs pos area x (node c k s) ≡ false → (sameKey cat x c ≡ false) × (hasKey cat cs pos area x s ≡ false)
+    has-none : (c : Segment) (k s : Forest Segment) → hasKey cat cs x (node c k s) ≡ false → (sameKey cat x c ≡ false) × (hasKey cat cs x s ≡ false)
     unfolding hasKey
-    has-none c k s e = (or-left (sameKey cat x c) (hasKey cat cs pos area x s) e, or-second (sameKey cat x c) (hasKey cat cs pos area x s) e)
+    has-none c k s e = (or-left (sameKey cat x c) (hasKey cat cs x s) e, or-second (sameKey cat x c) (hasKey cat cs x s) e)
 
     -- LAW: so a new segment sits among its siblings, if no twin has a unique key of the same value
-    pub sits-row : (f : Forest Segment) → All (Fits cat) (cellsOf f) → (eqb (keyKind cat (x .code)) 1 ≡ true → hasKey cat cs pos area x f ≡ false)
+    pub sits-row : (f : Forest Segment) → All (Fits cat) (cellsOf f) → (eqb (keyKind cat (x .code)) 1 ≡ true → hasKey cat cs x f ≡ false)
         → Sits (segmentLevel cat) typeNumber (isChild cat) (siblings cat) x (goesBefore cat x) f
     sits-row void a u = tt
     sits-row (node c k s) a u =

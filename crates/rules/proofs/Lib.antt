@@ -6,6 +6,7 @@ pub mod Catalogue
 pub mod Entries
 pub mod Cells
 pub mod Search
+pub mod Paths
 pub mod Tree
 pub mod Bench
 pub mod Change

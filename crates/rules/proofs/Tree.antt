@@ -1,5 +1,4 @@
--- Forest and cells: the search of document 000 finds exactly what document 01 calls a match, and GN, GNP, REPL and DLET over the forest are those
--- over the cells. Assumes nothing.
+-- Forest and cells: the search of document 000 finds exactly what document 01 calls a match. Assumes nothing.
 use mathlib.Core.Path.{_≡_, refl, ap, sym, _∙_}
 use mathlib.Core.Bool.{Bool, true, false, _&&_, _||_, and-true, or-false}
 use mathlib.Core.List.{List, [], _∷_, _++_, map, reverse, reverseAux, append-assoc, reverse-cons, map-map, map-id}
@@ -9,13 +8,8 @@ use lib.ListN.{length, getD, take, drop, length-drop}
 use lib.Seq.{getD-drop}
 use lib.Dec.{ltb, leb, eqb}
 use borrow.Author.Tests.{lt-ltb, le-ltb, le-leb, lt-leb}
-use Rattle.terms.specs.declared.CellNumber.{CellNumber}
-use Rattle.terms.specs.declared.Status.the-variants.{GE}
-use Rattle.terms.specs.declared.Parentage.{Parentage}
-use Rattle.terms.specs.declared.Place.{Place}
-use Rattle.terms.specs.declared.Parentage.the-variants.{Of}
-use Rattle.terms.specs.declared.Position.{Position}
-use Rattle.terms.specs.declared.Found.the-variants.{At}
+use Rattle.terms.specs.declared.Found.{Found}
+use Rattle.terms.specs.declared.Found.the-variants.{At, Nothing}
 use Rattle.forest.specs.Forest.{Forest, void, node, cellsOf, forestOf, inside, outside, side}
 use Rattle.forest.specs.Good.{on, off, is}
 use Rattle.forest.specs.Rows.{rows, map-append, forest-map}
@@ -25,13 +19,12 @@ use Rattle.forest.specs.Numbers.{range, isIn, ancestors, length-range, row-numb
 use Rattle.rules.specs.Block.{Bytes}
 use Rattle.rules.specs.Cells.{Segment, segment, blank, segmentLevel, levelAt, runAt, endAt, rowAt}
 use Rattle.terms.specs.Names.{cell}
-use Rattle.terms.specs.Moves.{placeNumber, afterPlace}
 use Rattle.rules.specs.Arguments.{Level}
 use Rattle.rules.specs.Matching.{agrees, agree, pathTo, matches, seek, firstMatch}
 use Rattle.rules.proofs.Cells.{row-run}
 use Rattle.rules.proofs.Search.{seek-none, seek-here, seek-next}
-use Rattle.rules.specs.Calls.{gotten, missStatus, levelStatus, parentEnd, getNext, getNextWithin, replaced, replacement, replace, deleted, delete}
-use Rattle.rules.specs.Tree.{Path, end, select, firstPath, follows, beneath, allPaths, dataPart, search, eval, segments, intGn, intGnp, intRepl, intDlet}
+use Rattle.rules.specs.Paths.{Path}
+use Rattle.rules.specs.Tree.{select, allPaths, dataPart, search, eval, segments}
 
 select-in : (t : Path → Bool) (p : Path) (ps : List Path) → t p ≡ true → select t (p ∷ ps) ≡ p ∷ select t ps
 unfolding select
@@ -173,6 +166,17 @@ rows-paths up (node i k s) =
     ∙ ap (λ (r : List Path). (reverse up ++ (i ∷ [])) ∷ (map (λ p. reverse up ++ p) (map (λ p. i ∷ p) (allPaths k)) ++ r)) (rows-paths up s)
     ∙ ap (_∷_ (reverse up ++ (i ∷ []))) (sym (map-append (λ p. reverse up ++ p) (map (λ p. i ∷ p) (allPaths k)) (allPaths s)))
 
+-- what is found is the end of the first of these paths: none of either, or a cell that matches the list and its path
+pub data Heads (cat : Bytes) (cs : List Segment) (ls : List Level) (ps : List Path) (f : Found) : Type 0 where
+  missing : ps ≡ [] → f ≡ Nothing → Heads cat cs ls ps f
+  leading : (i : ℕ) (qs : List Path) → i < length cs → matches cat cs ls i ≡ true → ps ≡ pathTo cat cs i ∷ qs → f ≡ At (cell i) → Heads cat cs ls ps f
+
+pub heads-by : (cat : Bytes) (cs : List Segment) (ls : List Level) (ps qs : List Path) (f g : Found) → ps ≡ qs → f ≡ g → Heads cat cs ls qs g → Heads cat cs ls ps f
+heads-by cat cs ls ps qs f g a b h = elim h [
+  | missing x y ↦ missing (a ∙ x) (b ∙ y)
+  | leading i rs l m x y ↦ leading i rs l m (a ∙ x) (b ∙ y)
+]
+
 -- a list is what each of its places holds
 list-ext : {A : Type 0} (f : ℕ → A) (d : A) (xs : List A) (i n : ℕ) → length xs ≡ n → ((k : ℕ) → k < n → getD xs k d ≡ f (i + k)) → xs ≡ map f (range i n)
 list-ext f d [] i zero e h = refl
@@ -198,15 +202,6 @@ module _ (cat : Bytes) (cs : List Segment) where
       sym (map-id (allPaths (dataPart cat cs))) ∙ sym (rows-paths [] (dataPart cat cs)) ∙ ap (map reverse) rows-at
       ∙ map-map reverse (rowAt cat cs) (range 0 (length cs))
 
-  end-append : (xs : Path) (i : ℕ) → end (xs ++ (i ∷ [])) ≡ i
-  end-append [] i = refl
-  end-append (x ∷ []) i = refl
-  end-append (x ∷ (y ∷ xs)) i = end-append (y ∷ xs) i
-
-  pub end-path : (i : ℕ) → end (pathTo cat cs i) ≡ i
-  unfolding pathTo rowAt
-  end-path i = ap end (reverse-cons i (ancestors (levelAt cat cs) i)) ∙ end-append (reverse (ancestors (levelAt cat cs) i)) i
-
   -- a path matches a list, which is empty or completed
   abbrev wanted : List Level → Path → Bool
   wanted [] p = true
@@ -229,7 +224,7 @@ module _ (cat : Bytes) (cs : List Segment) where
   eval-wanted [] = paths-cells ∙ sym (select-all (cellPaths 0 (length cs)))
   eval-wanted (l ∷ ls) = search-select cat cs l ls (dataPart cat cs) ∙ ap (select (wanted (l ∷ ls))) paths-cells
 
-  -- the first path of those that a test t takes, where t takes the cells from a on and before e
+  -- the paths of those cells that a test t takes, where t takes the cells from a on and before e
   module _ (ls : List Level) (t : Path → Bool) (a e : ℕ) (e-le : e ≤ length cs) (takes : (i : ℕ) → i < length cs → t (pathTo cat cs i) ≡ (leb a i && ltb i e)) where
     abbrev found : ℕ → ℕ → List Path
     found i n = select t (select (wanted ls) (cellPaths i n))
@@ -250,94 +245,53 @@ module _ (cat : Bytes) (cs : List Segment) where
       | off w ↦ found-skip i n w
     ]
 
-    no-cells : (i : ℕ) → length cs ≤ i → firstPath (found i 0) ≡ seek cat cs ls i (e - i)
-    no-cells i l = ap firstPath (none-found i) ∙ sym (seek-none cat cs ls i) ∙ (let z : 0 ≡ e - i = omega arith in ap (seek cat cs ls i) z)
+    nothing-sought : (i k : ℕ) → k ≡ 0 → seek cat cs ls i k ≡ Nothing
+    nothing-sought i k z = ap (seek cat cs ls i) z ∙ seek-none cat cs ls i
 
-    found-from : (i n : ℕ) → i + n ≡ length cs → a ≤ i → firstPath (found i n) ≡ seek cat cs ls i (e - i)
-    found-from i zero q l = no-cells i (omega arith)
+    -- from cell i on, with as many of the cells left before e
+    found-from : (i n : ℕ) → i + n ≡ length cs → a ≤ i → Heads cat cs ls (found i n) (seek cat cs ls i (e - i))
+    found-from i zero q l = missing (none-found i) (nothing-sought i (e - i) (omega arith))
     found-from i (suc n) q l = elim (side i e) [
       | inside m ↦
           let y : t (pathTo cat cs i) ≡ true = takes i (omega arith) ∙ rw (le-leb a i l, lt-ltb i e m) in
           elim (is (wanted ls (pathTo cat cs i))) [
-            | on w ↦ ap firstPath (found-take i n w ∙ select-in t (pathTo cat cs i) (select (wanted ls) (cellPaths (suc i) n)) y)
-                ∙ ap (λ (k : ℕ). At (cell k)) (end-path i)
-                ∙ sym (seek-here cat cs ls i (e - i) (omega arith) (sym (wanted-matches ls i) ∙ w))
-            | off w ↦ ap firstPath (found-skip i n w) ∙ found-from (suc i) n (omega arith) (omega arith)
-                ∙ (let z : e - suc i ≡ e - i - 1 = omega arith in ap (seek cat cs ls (suc i)) z)
-                ∙ sym (seek-next cat cs ls i (e - i) (omega arith) (sym (wanted-matches ls i) ∙ w))
+            | on w ↦
+                let h : matches cat cs ls i ≡ true = sym (wanted-matches ls i) ∙ w in
+                leading i (select t (select (wanted ls) (cellPaths (suc i) n))) (omega arith) h
+                (found-take i n w ∙ select-in t (pathTo cat cs i) (select (wanted ls) (cellPaths (suc i) n)) y)
+                (seek-here cat cs ls i (e - i) (omega arith) h)
+            | off w ↦
+                let z : e - i - 1 ≡ e - suc i = omega arith in
+                heads-by cat cs ls (found i (suc n)) (found (suc i) n) (seek cat cs ls i (e - i)) (seek cat cs ls (suc i) (e - suc i)) (found-skip i n w)
+                (seek-next cat cs ls i (e - i) (omega arith) (sym (wanted-matches ls i) ∙ w) ∙ ap (seek cat cs ls (suc i)) z)
+                (found-from (suc i) n (omega arith) (omega arith))
           ]
       | outside m ↦
           let y : t (pathTo cat cs i) ≡ false = takes i (omega arith) ∙ rw (le-leb a i l, le-ltb i e m) in
-          let z : e - suc i ≡ 0 = omega arith in
-          let x : 0 ≡ e - i = omega arith in
-          ap firstPath (found-past i n y) ∙ found-from (suc i) n (omega arith) (omega arith) ∙ ap (seek cat cs ls (suc i)) z
-          ∙ seek-none cat cs ls (suc i) ∙ sym (seek-none cat cs ls i) ∙ ap (seek cat cs ls i) x
+          heads-by cat cs ls (found i (suc n)) (found (suc i) n) (seek cat cs ls i (e - i)) (seek cat cs ls (suc i) (e - suc i)) (found-past i n y)
+          (nothing-sought i (e - i) (omega arith) ∙ sym (nothing-sought (suc i) (e - suc i) (omega arith)))
+          (found-from (suc i) n (omega arith) (omega arith))
     ]
 
-    found-to : (i n : ℕ) → i + n ≡ length cs → i ≤ a → firstPath (found i n) ≡ seek cat cs ls a (e - a)
-    found-to i zero q l = ap firstPath (none-found i) ∙ sym (seek-none cat cs ls a) ∙ (let z : 0 ≡ e - a = omega arith in ap (seek cat cs ls a) z)
+    found-to : (i n : ℕ) → i + n ≡ length cs → i ≤ a → Heads cat cs ls (found i n) (seek cat cs ls a (e - a))
+    found-to i zero q l = missing (none-found i) (nothing-sought a (e - a) (omega arith))
     found-to i (suc n) q l = elim (side i a) [
       | inside m ↦
           let y : t (pathTo cat cs i) ≡ false = takes i (omega arith) ∙ rw (lt-leb a i m) in
-          ap firstPath (found-past i n y) ∙ found-to (suc i) n (omega arith) (omega arith)
-      | outside m ↦ (let z : i ≡ a = omega arith in found-from i (suc n) q (omega arith) ∙ ap (λ (k : ℕ). seek cat cs ls k (e - k)) z)
+          heads-by cat cs ls (found i (suc n)) (found (suc i) n) (seek cat cs ls a (e - a)) (seek cat cs ls a (e - a)) (found-past i n y) refl
+          (found-to (suc i) n (omega arith) (omega arith))
+      | outside m ↦
+          let z : a ≡ i = omega arith in
+          heads-by cat cs ls (found i (suc n)) (found i (suc n)) (seek cat cs ls a (e - a)) (seek cat cs ls i (e - i)) refl
+          (ap (λ (k : ℕ). seek cat cs ls k (e - k)) z) (found-from i (suc n) q (omega arith))
     ]
 
-    pub first-found : firstPath (select t (eval cat cs ls)) ≡ firstMatch cat cs ls a e
+    -- LAW 31: what such a search finds first is the first match among those cells
+    pub first-found : Heads cat cs ls (select t (eval cat cs ls)) (firstMatch cat cs ls a e)
     unfolding firstMatch
-    first-found = ap (λ (r : List Path). firstPath (select t r)) (eval-wanted ls) ∙ found-to 0 (length cs) (omega arith) (omega arith)
-
-  next-takes : (q : Place) (i : ℕ) → i < length cs → follows q (pathTo cat cs i) ≡ (leb (afterPlace q) i && ltb i (length cs))
-  next-takes q i l = rw (end-path i, lt-ltb i (length cs) l) (sym (and-true (leb (afterPlace q) i)))
-
-  -- LAW 31: GN over the forest is GN over the cells
-  pub next-agree : (pos : Position) (area : Bytes) (hold : Bool) (ls : List Level) → intGn cat cs pos area hold ls ≡ getNext cat cs pos area hold ls
-  unfolding intGn getNext
-  next-agree pos area hold ls =
-      ap (gotten cat cs pos area (missStatus ls) (levelStatus cat cs ls (pos .place)) (λ i. Of (cell i)) hold)
-      (first-found ls (follows (pos .place)) (afterPlace (pos .place)) (length cs) (omega arith) (next-takes (pos .place)))
-
-  in-reverse : (x : ℕ) (xs r : List ℕ) → isIn x (reverseAux xs r) ≡ (isIn x xs || isIn x r)
-  in-reverse x [] r = refl
-  in-reverse x (y ∷ xs) r = in-reverse x xs (y ∷ r) ∙ turn (eqb x y) (isIn x xs) (isIn x r)
-    where
-      turn : (a b c : Bool) → (b || (a || c)) ≡ ((a || b) || c)
-      turn true true c = refl
-      turn true false c = refl
-      turn false b c = refl
-
-  in-path : (p i : ℕ) → isIn p (pathTo cat cs i) ≡ isIn p (rowAt cat cs i)
-  unfolding pathTo
-  in-path p i = in-reverse p (rowAt cat cs i) [] ∙ or-false (isIn p (rowAt cat cs i))
-
-  under-le : (lev : ℕ → ℕ) (m : ℕ) (xs : List ℕ) → under lev m xs ≤ length xs
-  unfolding under
-  under-le lev m [] = omega arith
-  under-le lev m (x ∷ xs) = elim (side m (lev x)) [
-    | inside l ↦ rw (under-in lev m x xs l) (omega (arith, under-le lev m xs))
-    | outside l ↦ rw (under-out lev m x xs l) (omega arith)
-  ]
-
-  end-le : (p : ℕ) → p < length cs → endAt cat cs p ≤ length cs
-  unfolding endAt runAt
-  end-le p l = omega (arith, under-le (levelAt cat cs) (levelAt cat cs p) (range (suc p) (length cs - suc p)), length-range (suc p) (length cs - suc p))
-
-  within-takes : (q : Place) (c : CellNumber) → c .0 < afterPlace q → (i : ℕ) → i < length cs
-      → (follows q (pathTo cat cs i) && beneath (Of c) (pathTo cat cs i)) ≡ (leb (afterPlace q) i && ltb i (endAt cat cs (c .0)))
-  within-takes q c h i l = elim (side i (afterPlace q)) [
-    | inside m ↦ rw (end-path i, lt-leb (afterPlace q) i m)
-    | outside m ↦ rw (end-path i, le-leb (afterPlace q) i m, in-path (c .0) i, row-run cat cs (c .0) i l, le-leb (c .0) i (omega arith), lt-ltb (c .0) i (omega arith)) (and-true (ltb i (endAt cat cs (c .0))))
-  ]
-
-  -- LAW 32: GNP over the forest is GNP over the cells, where the parentage lies before the place, as in a good position
-  pub within-agree : (pos : Position) (area : Bytes) (hold : Bool) (ls : List Level) (c : CellNumber) → pos .parentage ≡ Of c → c .0 < length cs → c .0 < afterPlace (pos .place)
-      → intGnp cat cs pos area hold ls ≡ getNextWithin cat cs pos area hold ls
-  unfolding intGnp getNextWithin
-  within-agree pos area hold ls c p l h =
-      ap (gotten cat cs pos area GE (levelStatus cat cs ls (pos .place)) (λ i. pos .parentage) hold)
-      (ap (λ (m : Parentage). firstPath (select (λ x. follows (pos .place) x && beneath m x) (eval cat cs ls))) p
-      ∙ first-found ls (λ x. follows (pos .place) x && beneath (Of c) x) (afterPlace (pos .place)) (endAt cat cs (c .0)) (end-le (c .0) l) (within-takes (pos .place) c h)
-      ∙ sym (ap (λ (m : Parentage). firstMatch cat cs ls (afterPlace (pos .place)) (parentEnd cat cs m)) p))
+    first-found =
+        heads-by cat cs ls (select t (eval cat cs ls)) (found 0 (length cs)) (seek cat cs ls a (e - a)) (seek cat cs ls a (e - a))
+        (ap (select t) (eval-wanted ls)) refl (found-to 0 (length cs) (omega arith) (omega arith))
 
 under-map : {A B : Type 0} (g : A → B) (lev : B → ℕ) (m : ℕ) (xs : List A) → under lev m (map g xs) ≡ under (λ x. lev (g x)) m xs
 unfolding under
@@ -359,29 +313,8 @@ module _ (cat : Bytes) (cs : List Segment) where
       sym (forest-map (segment cs) (segmentLevel cat) (range 0 (length cs)))
       ∙ ap (forestOf (segmentLevel cat)) (sym (cells-from 0 ∙ ap (λ (k : ℕ). map (segment cs) (range 0 k)) z))
 
-  run-cells : (i : ℕ) → runLen (segmentLevel cat) blank i cs ≡ runAt cat cs i
+  pub run-cells : (i : ℕ) → runLen (segmentLevel cat) blank i cs ≡ runAt cat cs i
   unfolding runAt levelAt
   run-cells i =
       ap (λ (r : List Segment). suc (under (segmentLevel cat) (segmentLevel cat (segment cs i)) r)) (cells-from (suc i))
       ∙ ap suc (under-map (segment cs) (segmentLevel cat) (segmentLevel cat (segment cs i)) (range (suc i) (length cs - suc i)))
-
-  module _ (pos : Position) (area : Bytes) (on-cell : placeNumber (pos .place) < length cs) where
-    abbrev held : ℕ
-    held = placeNumber (pos .place)
-
-    -- LAW 34: REPL over the forest is REPL over the cells
-    pub replace-agree : intRepl cat cs pos area ≡ replace cat cs pos area
-    unfolding intRepl replace
-    replace-agree =
-        ap (λ (f : Forest Segment). replaced cat cs pos area held (replacement cat cs pos area held) (cellsOf (swap (segmentLevel cat) (replacement cat cs pos area held) held f))) segments-cells
-        ∙ ap (replaced cat cs pos area held (replacement cat cs pos area held)) (cells-swap (segmentLevel cat) blank (replacement cat cs pos area held) held cs on-cell)
-
-    -- LAW 35: DLET over the forest is DLET over the cells
-    pub delete-agree : intDlet cat cs pos area ≡ delete cat cs pos area
-    unfolding intDlet delete endAt
-    delete-agree =
-        let r : runLen (segmentLevel cat) blank held cs ≡ runAt cat cs held = run-cells held in
-        ap (λ (f : Forest Segment). deleted cat cs pos area held (suc (size (kids held f))) (cellsOf (prune (segmentLevel cat) held f))) segments-cells
-        ∙ ap (λ (n : ℕ). deleted cat cs pos area held n (cellsOf (prune (segmentLevel cat) held (forestOf (segmentLevel cat) cs)))) (run-length (segmentLevel cat) blank held cs on-cell ∙ r)
-        ∙ ap (deleted cat cs pos area held (runAt cat cs held)) (cells-prune (segmentLevel cat) blank held cs on-cell)
-        ∙ ap (λ (n : ℕ). deleted cat cs pos area held (runAt cat cs held) (take held cs ++ drop (held + n) cs)) r

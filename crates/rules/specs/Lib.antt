@@ -10,6 +10,7 @@ pub mod Change
 pub mod Calls
 pub mod Outcome
 pub mod Listing
+pub mod Paths
 pub mod Tree
 pub mod Computed
 pub mod Bench

@@ -1,9 +1,10 @@
 -- The calls over the FOREST of the segments, in the terms of document 000, appendix I; the numbers in brackets are its formulas. Where document 01
--- differs it decides, and the line says so. What a call answers and makes of the position are the definitions that Calls has.
+-- differs it decides, and the line says so. What becomes of the position is said of paths (Paths), and not of cells.
 -- Assumes nothing: these are definitions.
-use mathlib.Core.Bool.{Bool, true, false, _&&_, _||_}
+use mathlib.Core.Bool.{Bool, true, false, _&&_, _||_, not}
+use mathlib.Core.Option.{Option, none, some}
 use mathlib.Core.List.{List, [], _∷_, _++_, map}
-use Prim.Native.Nat.{ℕ, suc, _+_}
+use Prim.Native.Nat.{ℕ, suc, _+_, _-_}
 use lib.Dec.{ltb, leb, eqb}
 use lib.ListN.{length, take, drop, getD}
 use Rattle.terms.specs.declared.TypeCode.{TypeCode}
@@ -13,52 +14,29 @@ use Rattle.terms.specs.declared.Parentage.{Parentage}
 use Rattle.terms.specs.declared.Parentage.the-variants.{Absent, Of}
 use Rattle.terms.specs.declared.Position.{Position}
 use Rattle.terms.specs.declared.Argument.{Argument}
-use Rattle.terms.specs.declared.Status.the-variants.{Blank, GE}
-use Rattle.terms.specs.declared.Found.{Found}
-use Rattle.terms.specs.declared.Found.the-variants.{At, Nothing}
+use Rattle.terms.specs.declared.Status.{Status}
+use Rattle.terms.specs.declared.Status.the-variants.{Blank, GA, GK, GE, DA, II, FX}
 use Rattle.terms.specs.Choice.{pick}
-use Rattle.terms.specs.Names.{cell}
-use Rattle.terms.specs.Moves.{placeNumber, afterPlace}
+use Rattle.terms.specs.Names.{sameType}
 use Rattle.forest.specs.Forest.{Forest, void, node, cellsOf, forestOf}
 use Rattle.forest.specs.Rows.{mapF}
 use Rattle.forest.specs.Edit.{size, kids}
-use Rattle.forest.specs.Runs.{prune, swap}
+use Rattle.forest.specs.Runs.{prune, swap as swapped}
 use Rattle.forest.specs.Insert.{graft, insertUnder as graftUnder}
-use Rattle.forest.specs.Numbers.{range, isIn}
-use Rattle.rules.specs.Block.{Bytes}
-use Rattle.rules.specs.Cells.{Segment, segment, arriving, sameKey, goesBefore, segmentLevel, levelAt}
+use Rattle.forest.specs.Numbers.{range}
+use Rattle.rules.specs.Block.{Bytes, sameBytes}
+use Rattle.rules.specs.Catalogue.{keyKind}
+use Rattle.rules.specs.Cells.{Segment, segment, arriving, shownBytes, key, sameKey, goesBefore, segmentLevel, levelAt}
+use Rattle.rules.specs.Change.{nothing, put, swap, cut}
 use Rattle.rules.specs.Arguments.{Level, lastArgument, getLevels, parentLevels}
 use Rattle.rules.specs.Matching.{agrees, isImplied}
-use Rattle.rules.specs.Calls.{After, missed, gotten, levelStatus, missStatus, inserted, replacement, replaced, deleted, byNumber}
+use Rattle.rules.specs.Paths.{Path, end, Current, onPath, inGap, Standing, currentPath, follows, beneath, movedTo, movedWithin, letGo, afterPut, afterCut, numbered}
+use Rattle.rules.specs.Calls.{After, bare, over, missStatus, answerOf, changed}
 use Rattle.rules.specs.Outcome.{Outcome, outcomeOf}
-
--- (14) A path: the segments from the root down to one. A segment is named by its number in hierarchic order, so that precedes (19) is <.
-abbrev pub Path : Type 0
-Path = List ℕ
-
--- the segment that a path denotes: its last
-abbrev pub end : Path → ℕ
-end [] = 0
-end (i ∷ []) = i
-end (i ∷ (j ∷ p)) = end (j ∷ p)
 
 unfoldable pub select : (Path → Bool) → List Path → List Path
 select t [] = []
 select t (p ∷ ps) = elim (t p) [ true ↦ p ∷ select t ps | false ↦ select t ps ]
-
--- (20) first-path: these paths stand in hierarchic order
-abbrev pub firstPath : List Path → Found
-firstPath [] = Nothing
-firstPath (p ∷ ps) = At (cell (end p))
-
--- (21) follows: what comes after the place, a gap too (01)
-abbrev pub follows : Place → Path → Bool
-follows q p = leb (afterPlace q) (end p)
-
--- (18) beneath: the parent stands on the path, before its end; "If the parent path is missing no segment can be below it."
-abbrev pub beneath : Parentage → Path → Bool
-beneath Absent p = false
-beneath (Of c) p = isIn (c .0) p && ltb (c .0) (end p)
 
 -- (15) all-paths, in hierarchic order, without the empty path
 unfoldable pub allPaths : Forest ℕ → List Path
@@ -107,49 +85,94 @@ module _ (cat : Bytes) (cs : List Segment) where
       map (λ p. take k cur ++ p) (search (drop k ls) (getDP (take k cur)))
 
   -- (36) eval-Ssa-list-P; "In a gap nothing is kept." (01)
-  abbrev pub evalAlong : List Level → Place → List Path
+  abbrev pub evalAlong : List Level → Current → List Path
   evalAlong [] q = allPaths dataPart
-  evalAlong (l ∷ ls) (On c) = searchAlong (l ∷ ls) (getD (allPaths dataPart) (c .0) [])
-  evalAlong (l ∷ ls) (Before c) = search (l ∷ ls) dataPart
+  evalAlong (l ∷ ls) (onPath p) = searchAlong (l ∷ ls) p
+  evalAlong (l ∷ ls) (inGap i) = search (l ∷ ls) dataPart
+
+  -- the path of the segment of this number
+  abbrev pub pathAt : ℕ → Path
+  pathAt i = getD (allPaths dataPart) i []
+
+  -- a position as paths
+  abbrev pub currentOf : Place → Current
+  currentOf (On c) = onPath (pathAt (c .0))
+  currentOf (Before c) = inGap (c .0)
+
+  abbrev pub parentPath : Parentage → Option Path
+  parentPath Absent = none
+  parentPath (Of c) = some (pathAt (c .0))
+
+  abbrev pub standing : Position → Standing
+  standing pos = record { current = currentOf (pos .place); parent = parentPath (pos .parentage); hold = pos .hold }
 
   -- (9) the same forest with the segments themselves
   unfoldable pub segments : Forest Segment
   segments = mapF (segment cs) dataPart
 
-  module _ (pos : Position) (area : Bytes) where
+  -- GA and GK (01): a path is as long as its segment is deep
+  abbrev pub stepStatus : List Level → Current → Path → Status
+  stepStatus [] (onPath q) p =
+      pick (ltb (length p) (length q)) GA
+      (pick (eqb (length p) (length q) && not (sameType (segment cs (end p) .code) (segment cs (end q) .code))) GK Blank)
+  stepStatus [] (inGap i) p = Blank
+  stepStatus (l ∷ ls) q p = Blank
+
+  -- (48) find-position: how many segments, with all beneath them, stand before x in a row of siblings; after equal keys, unkeyed last (01)
+  unfoldable pub findPosition : Segment → Forest Segment → ℕ
+  findPosition x void = 0
+  findPosition x (node c k s) = elim (goesBefore cat x c) [ true ↦ 0 | false ↦ suc (size k) + findPosition x s ]
+
+  -- (49) "if (∃ j ∈ ind segml)(s-Record(segml[j])(fid) = rec(fid))"
+  unfoldable pub hasKey : Segment → Forest Segment → Bool
+  hasKey x void = false
+  hasKey x (node c k s) = sameKey cat x c || hasKey x s
+
+  module _ (here : Standing) (area : Bytes) where
+    -- nothing but the position may change, and the answer tells a status alone
+    abbrev pub told : Status → Standing → After
+    told s now = record { answer = bare s (numbered now); change = nothing; cells = none; area = area }
+
+    -- (41) to (43) from the paths, which stand in hierarchic order, so that first-path (20) is the first: "p = nil → (pos, NOT-FOUND)"
+    abbrev pub retrieved : Status → (Path → Status) → (Path → Standing) → List Path → After
+    retrieved miss status moved [] = told miss (letGo here)
+    retrieved miss status moved (p ∷ ps) = record {
+      answer = answerOf cat (status p) (numbered (moved p)) (segment cs (end p)) 0;
+      change = nothing;
+      cells = none;
+      area = over (shownBytes cat (segment cs (end p))) area;
+    }
+
     -- (41)
     unfoldable pub intGu : Bool → List Level → After
-    intGu hold ls = gotten cat cs pos area GE (λ i. Blank) (λ i. Of (cell i)) hold (firstPath (evalAlong ls (pos .place)))
+    intGu hold ls = retrieved GE (λ p. Blank) (λ p. movedTo p hold) (evalAlong ls (here .current))
 
-    -- (42); GB apart from GE, GA and GK (01)
+    -- (42); GB apart from GE (01)
     unfoldable pub intGn : Bool → List Level → After
     intGn hold ls =
-        gotten cat cs pos area (missStatus ls) (levelStatus cat cs ls (pos .place)) (λ i. Of (cell i)) hold
-        (firstPath (select (follows (pos .place)) (eval ls)))
+        retrieved (missStatus ls) (stepStatus ls (here .current)) (λ p. movedTo p hold)
+        (select (follows (here .current)) (eval ls))
 
     -- (43)
     unfoldable pub intGnp : Bool → List Level → After
     intGnp hold ls =
-        gotten cat cs pos area GE (levelStatus cat cs ls (pos .place)) (λ i. pos .parentage) hold
-        (firstPath (select (λ p. follows (pos .place) p && beneath (pos .parentage) p) (eval ls)))
+        retrieved GE (stepStatus ls (here .current)) (λ p. movedWithin (here .parent) p hold)
+        (select (λ p. follows (here .current) p && beneath (here .parent) p) (eval ls))
 
-    -- (48) find-position: how many segments, with all beneath them, stand before x in a row of siblings; after equal keys, unkeyed last (01)
-    unfoldable pub findPosition : Segment → Forest Segment → ℕ
-    findPosition x void = 0
-    findPosition x (node c k s) = elim (goesBefore cat x c) [ true ↦ 0 | false ↦ suc (size k) + findPosition x s ]
+    -- (49) x as number r beneath inspos, in a row of siblings of which one has its key or none; dp′ is the whole afterwards
+    unfoldable pub putIn : ℕ → Segment → Path → Bool → ℕ → List Segment → After
+    putIn m x inspos taken r dp′ =
+        pick (eqb (keyKind cat (x .code)) 1 && taken) (told II here)
+        (pick (eqb (length cs) m) (told FX here)
+        (changed cat (numbered (afterPut inspos r here)) x 0 (put r (x ∷ [])) dp′ area))
 
-    -- (49) "if (∃ j ∈ ind segml)(s-Record(segml[j])(fid) = rec(fid))"
-    unfoldable pub hasKey : Segment → Forest Segment → Bool
-    hasKey x void = false
-    hasKey x (node c k s) = sameKey cat x c || hasKey x s
-
-    -- (49) insert-rec into the row of siblings subdp, whose first segment has number i; dp′ is the whole afterwards
+    -- (49) insert-rec into the row of siblings subdp, whose first segment has number i
     abbrev pub insertRec : ℕ → Segment → Path → ℕ → Forest Segment → Forest Segment → After
-    insertRec m x above i subdp dp′ = inserted cat cs pos area m x above (hasKey x subdp) (i + findPosition x subdp) (cellsOf dp′)
+    insertRec m x inspos i subdp dp′ = putIn m x inspos (hasKey x subdp) (i + findPosition x subdp) (cellsOf dp′)
 
     -- (47), (44) modify beneath the first path found
     abbrev pub insertAt : ℕ → Segment → List Path → After
-    insertAt m x [] = missed GE pos area
+    insertAt m x [] = told GE (letGo here)
     insertAt m x (p ∷ ps) =
         insertRec m x p (suc (end p)) (kids (end p) segments) (graftUnder (segmentLevel cat) x (goesBefore cat x) (end p) segments)
 
@@ -158,27 +181,44 @@ module _ (cat : Bytes) (cs : List Segment) where
     intIsrt m t ls =
         let x = arriving cat t area in
         pick (eqb (t .0) 1) (insertRec m x [] 0 segments (graft (segmentLevel cat) x (goesBefore cat x) segments))
-        (insertAt m x (evalAlong ls (pos .place)))
+        (insertAt m x (evalAlong ls (here .current)))
 
-    -- (54), (55) the held segment's record replaced
+    -- (54), (55) the current segment's record replaced by x, which must have its key
+    unfoldable pub exchanged : ℕ → Segment → List Segment → After
+    exchanged i x dp′ =
+        pick (not (sameBytes (key cat (segment cs i)) (key cat x))) (told DA here)
+        (changed cat (numbered (letGo here)) x 0 (swap i x) dp′ area)
+
     unfoldable pub intRepl : After
     intRepl =
-        let i = placeNumber (pos .place) in
-        let x = replacement cat cs pos area i in
-        replaced cat cs pos area i x (cellsOf (swap (segmentLevel cat) x i segments))
+        let i = end (currentPath (here .current)) in
+        let x = arriving cat (segment cs i .code) area in
+        exchanged i x (cellsOf (swapped (segmentLevel cat) x i segments))
 
-    -- (52), (57) the held segment removed with all beneath it; the place is the gap where its run began (01)
+    -- (52) the segment of a path removed, with all beneath it
+    unfoldable pub takenOut : Path → ℕ → List Segment → After
+    takenOut p n dp′ = changed cat (numbered (afterCut p here)) (segment cs (end p)) n (cut (end p) n) dp′ area
+
     unfoldable pub intDlet : After
     intDlet =
-        let i = placeNumber (pos .place) in
-        deleted cat cs pos area i (suc (size (kids i segments))) (cellsOf (prune (segmentLevel cat) i segments))
+        let p = currentPath (here .current) in
+        takenOut p (suc (size (kids (end p) segments))) (cellsOf (prune (segmentLevel cat) (end p) segments))
 
-    -- (26) the call of this number, on the arguments of a list
-    unfoldable pub interpreted : ℕ → ℕ → Bytes → List Argument → After
-    interpreted m c list ar =
+    -- (26) a get by its kind, and the call of a number: "1 GU, 2 GN, 3 GNP", their hold forms three later, "7 ISRT, 8 REPL, 9 DLET"
+    abbrev pub getOf : ℕ → Bool → List Level → After
+    getOf k hold ls = pick (eqb k 1) (intGu hold ls) (pick (eqb k 2) (intGn hold ls) (intGnp hold ls))
+
+    unfoldable pub callOf : ℕ → ℕ → Bytes → List Argument → After
+    callOf m c list ar =
         let ls = getLevels cat list ar in
-        byNumber c (λ hold. intGu hold ls) (λ hold. intGn hold ls) (λ hold. intGnp hold ls)
-        (intIsrt m (lastArgument ar .code) (parentLevels cat list ar)) intRepl intDlet
+        pick (leb c 3) (getOf c false ls)
+        (pick (leb c 6) (getOf (c - 3) true ls)
+        (pick (eqb c 7) (intIsrt m (lastArgument ar .code) (parentLevels cat list ar))
+        (pick (eqb c 8) intRepl intDlet)))
+
+  -- the call at a position
+  unfoldable pub interpreted : Position → Bytes → ℕ → ℕ → Bytes → List Argument → After
+  interpreted pos area m c list ar = callOf (standing pos) area m c list ar
 
 -- the promise again, by the forest
 unfoldable pub treeOutcome : Bytes → Bytes → Position → ℕ → Bytes → Bytes → Outcome
