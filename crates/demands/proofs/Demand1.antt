@@ -8,7 +8,7 @@ use Rattle.demands.proofs.Only.{only-own}
 use Rattle.demands.proofs.Results.{Says, number-known, says-outcome, untouched}
 
 -- THEOREM
-pub demand1 : Demand1
+pub demand1 : Demand1 outcome
 unfolding outcome outcomeOf
 demand1 cat tab pos c list area =
     let a : After = afterCall called cat tab pos c list area in

@@ -1,8 +1,11 @@
 pub mod Faults
 pub mod Own
+pub mod Spot
 pub mod Order
 pub mod Only
 pub mod Results
+pub mod Stands
 pub mod Demand1
 pub mod Demand2
 pub mod Demands
+pub mod Wrong

@@ -40,7 +40,7 @@ use Rattle.demands.proofs.Faults.{FaultOf, no-fault, type-fault, list-f
 use Rattle.model.proofs.Asked.{by-number}
 
 -- a status that is blank or 10 and above
-abbrev Hard : Status → Type 0
+abbrev pub Hard : Status → Type 0
 Hard s = isBlank s ≡ false → 10 ≤ number s
 
 hard-pick : (b : Bool) (s u : Status) → Hard s → Hard u → Hard (pick b s u)
@@ -56,14 +56,14 @@ hard-fault type-fault = λ e. omega arith
 hard-fault list-fault = λ e. omega arith
 hard-fault field-fault = λ e. omega arith
 
-hard-unsound : (cat tab : Bytes) (pos : Position) → Hard (unsound cat tab pos)
+pub hard-unsound : (cat tab : Bytes) (pos : Position) → Hard (unsound cat tab pos)
 unfolding unsound
 hard-unsound cat tab pos =
     hard-pick (not (goodCatalogue cat)) CX _ (λ e. omega arith)
     (hard-pick (not (goodTable cat tab)) TX _ (λ e. omega arith)
     (hard-pick (not (goodPosition cat (listing cat tab) pos)) PX Blank (λ e. omega arith) hard-blank))
 
-hard-misused : (cat : Bytes) (pos : Position) (c : ℕ) (list area : Bytes) → Hard (misused cat pos c list area)
+pub hard-misused : (cat : Bytes) (pos : Position) (c : ℕ) (list area : Bytes) → Hard (misused cat pos c list area)
 unfolding misused
 hard-misused cat pos c list area =
     let ar : List Argument = listRead cat list .arguments in
@@ -156,18 +156,18 @@ module _ (cat tab : Bytes) (pos : Position) (list area : Bytes) where
   pick-low true s u l m = l
   pick-low false s u l m = m
 
-  level-low : (ls : List Level) (q : Place) (i : ℕ) → number (levelStatus cat cs ls q i) < 10
+  pub level-low : (ls : List Level) (q : Place) (i : ℕ) → number (levelStatus cat cs ls q i) < 10
   level-low [] (On c) i =
       pick-low (ltb (levelAt cat cs i) (levelAt cat cs (c .0))) GA _ (omega arith)
       (pick-low (eqb (levelAt cat cs i) (levelAt cat cs (c .0)) && not (sameType (segment cs i .code) (segment cs (c .0) .code))) GK Blank (omega arith) (omega arith))
   level-low [] (Before c) i = omega arith
   level-low (l ∷ ls) q i = omega arith
 
-  miss-high : (ls : List Level) → 10 ≤ number (missStatus ls)
+  pub miss-high : (ls : List Level) → 10 ≤ number (missStatus ls)
   miss-high [] = omega arith
   miss-high (l ∷ ls) = omega arith
 
-  miss-low : (ls : List Level) → number (missStatus ls) < 20
+  pub miss-low : (ls : List Level) → number (missStatus ls) < 20
   miss-low [] = omega arith
   miss-low (l ∷ ls) = omega arith
 

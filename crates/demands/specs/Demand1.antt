@@ -16,7 +16,8 @@ use Rattle.terms.specs.Moves.{holdDropped}
 use Rattle.forest.specs.Numbers.{isIn}
 use Rattle.forest.specs.Good.{isNil}
 use Rattle.rules.specs.Block.{Bytes}
-use Rattle.rules.specs.Outcome.{Outcome, outcome}
+use Rattle.rules.specs.Outcome.{Outcome}
+use Rattle.model.specs.Model.{Store}
 use Rattle.demands.specs.StatusTable.{numbers, firstGiven, next, within, get, isrt, repl, dlet, statusTable}
 
 -- no byte of the table or the area has changed, the position is p, and "all four are 0"
@@ -64,5 +65,6 @@ pub record Answers (cat tab : Bytes) (pos : Position) (c : ℕ) (list area : Byt
   -- GB, GE and GP: 10, 11 and 12
   pub miss : 10 ≤ number (o .answer .status) → number (o .answer .status) < 20 → Untouched tab area (holdDropped pos) o
 
-abbrev pub Demand1 : Type 0
-Demand1 = (cat tab : Bytes) (pos : Position) (c : ℕ) (list area : Bytes) → Answers cat tab pos c list area (outcome cat tab pos c list area)
+-- asked of a store
+abbrev pub Demand1 : Store → Type 0
+Demand1 store = (cat tab : Bytes) (pos : Position) (c : ℕ) (list area : Bytes) → Answers cat tab pos c list area (store cat tab pos c list area)

@@ -585,7 +585,7 @@ module _ (cat tab area : Bytes) (g : goodCatalogue cat ≡ true) (bytes : IsByte
         (omega (arith, listing-length cat tab, table-count cat tab good)) full pos here c list (usable-of cat pos c list area f)))
 
 -- THEOREM: after every call the table and the position are good, and the count is right
-pub tables-stay-good : TablesStayGood
+pub tables-stay-good : TablesStayGood outcome
 unfolding outcome outcomeOf
 tables-stay-good cat tab pos c list area g bytes full good here =
     let a : After = afterCall called cat tab pos c list area in

@@ -158,7 +158,7 @@ module _ (cat : Bytes) (cs : List Segment) (g : goodCatalogue cat ≡ true) (goo
         ap (λ (s : Standing). callOf cat cs s area m c list ar) (standing-paths cat cs pos sits) ∙ calls-agree m list ar c a b p h l
 
 -- THEOREM: on every input the outcome by the forest is the outcome by the cells
-pub model-is-cells : ModelIsCells
+pub model-is-cells : ModelIsCells outcome
 unfolding treeOutcome outcome outcomeOf afterCall afterSound unless
 model-is-cells cat tab pos c list area =
     ap (landed cat tab)

@@ -29,7 +29,7 @@ module _ (cat tab : Bytes) (pos : Position) (g : goodCatalogue cat ≡ true) (go
       ap (λ (s : Status). landed cat tab (unless s pos area (afterSound called cat tab pos c list area))) sound-blank
 
 -- THEOREM: a session on good blocks is the session without the checks
-pub checked-once : CheckedOnce
+pub checked-once : CheckedOnce outcome
 unfolding session
 checked-once cat tab pos [] g bytes full good here = refl
 checked-once cat tab pos (k ∷ ks) g bytes full good here =

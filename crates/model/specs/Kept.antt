@@ -16,8 +16,9 @@ use Rattle.rules.specs.Block.{Bytes, part}
 use Rattle.rules.specs.Catalogue.{goodCatalogue}
 use Rattle.rules.specs.Table.{count, cellSize, room, listing, goodTable}
 use Rattle.rules.specs.Position.{goodPosition}
-use Rattle.rules.specs.Outcome.{Outcome, isBlank, isIsrt, outcome}
+use Rattle.rules.specs.Outcome.{Outcome, isBlank, isIsrt}
 use Rattle.encoding.specs.Determined.{IsBytes}
+use Rattle.model.specs.Model.{Store}
 
 -- the cells that a call inserts: one, exactly when it is an ISRT that is done
 abbrev pub inserts : ℕ → Status → ℕ
@@ -45,7 +46,8 @@ pub record Kept (cat tab area : Bytes) (c : ℕ) (o : Outcome) : Type 0 where
   pub long : length (o .area) ≡ length area
   pub filled : IsBytes (o .area)
 
-abbrev pub TablesStayGood : Type 0
-TablesStayGood =
+-- asked of a store
+abbrev pub TablesStayGood : Store → Type 0
+TablesStayGood store =
     (cat tab : Bytes) (pos : Position) (c : ℕ) (list area : Bytes) → goodCatalogue cat ≡ true → IsBytes tab → IsBytes area → goodTable cat tab ≡ true
-    → goodPosition cat (listing cat tab) pos ≡ true → Kept cat tab area c (outcome cat tab pos c list area)
+    → goodPosition cat (listing cat tab) pos ≡ true → Kept cat tab area c (store cat tab pos c list area)

@@ -7,8 +7,13 @@ use mathlib.Core.Path.{_≡_}
 use Prim.Native.Nat.{ℕ}
 use Rattle.terms.specs.declared.Position.{Position}
 use Rattle.rules.specs.Block.{Bytes}
-use Rattle.rules.specs.Outcome.{outcome}
+use Rattle.rules.specs.Outcome.{Outcome}
 use Rattle.rules.specs.Tree.{treeOutcome}
 
-abbrev pub ModelIsCells : Type 0
-ModelIsCells = (cat tab : Bytes) (pos : Position) (c : ℕ) (list area : Bytes) → treeOutcome cat tab pos c list area ≡ outcome cat tab pos c list area
+-- a store: what it leaves of a table and an area, and what it answers, to the call of a number at a position
+abbrev pub Store : Type 0
+Store = Bytes → Bytes → Position → ℕ → Bytes → Bytes → Outcome
+
+-- asked of a store; the promise is one (rules, outcome)
+abbrev pub ModelIsCells : Store → Type 0
+ModelIsCells store = (cat tab : Bytes) (pos : Position) (c : ℕ) (list area : Bytes) → treeOutcome cat tab pos c list area ≡ store cat tab pos c list area

@@ -10,8 +10,9 @@ use Rattle.rules.specs.Block.{Bytes}
 use Rattle.rules.specs.Catalogue.{goodCatalogue}
 use Rattle.rules.specs.Table.{listing, goodTable}
 use Rattle.rules.specs.Position.{goodPosition}
-use Rattle.rules.specs.Outcome.{Outcome, outcome, soundOutcome}
+use Rattle.rules.specs.Outcome.{Outcome, soundOutcome}
 use Rattle.encoding.specs.Determined.{IsBytes, All}
+use Rattle.model.specs.Model.{Store}
 
 -- what is asked: a call by its number, with a list and an area
 pub record Ask : Type 0 where
@@ -19,17 +20,14 @@ pub record Ask : Type 0 where
   pub list : Bytes
   pub area : Bytes
 
--- a call from bytes to bytes
-abbrev pub Step : Type 0
-Step = Bytes → Bytes → Position → ℕ → Bytes → Bytes → Outcome
+unfoldable pub session : Store → Bytes → Bytes → Position → List Ask → List Outcome
+session store cat tab pos [] = []
+session store cat tab pos (k ∷ ks) =
+    let o = store cat tab pos (k .call) (k .list) (k .area) in
+    o ∷ session store cat (o .table) (o .answer .position) ks
 
-unfoldable pub session : Step → Bytes → Bytes → Position → List Ask → List Outcome
-session step cat tab pos [] = []
-session step cat tab pos (k ∷ ks) =
-    let o = step cat tab pos (k .call) (k .list) (k .area) in
-    o ∷ session step cat (o .table) (o .answer .position) ks
-
-abbrev pub CheckedOnce : Type 0
-CheckedOnce =
+-- asked of a store that checks
+abbrev pub CheckedOnce : Store → Type 0
+CheckedOnce store =
     (cat tab : Bytes) (pos : Position) (ks : List Ask) → goodCatalogue cat ≡ true → IsBytes tab → All (λ (k : Ask). IsBytes (k .area)) ks
-    → goodTable cat tab ≡ true → goodPosition cat (listing cat tab) pos ≡ true → session outcome cat tab pos ks ≡ session soundOutcome cat tab pos ks
+    → goodTable cat tab ≡ true → goodPosition cat (listing cat tab) pos ≡ true → session store cat tab pos ks ≡ session soundOutcome cat tab pos ks

@@ -90,7 +90,7 @@ module _ (cat : Bytes) (cs : List Segment) where
         (i ∷ r .0, ap (_∷_ i) (r .1))
   ]
 
-  path-some : (c : ℕ) → 0 < length (pathTo cat cs c)
+  pub path-some : (c : ℕ) → 0 < length (pathTo cat cs c)
   unfolding pathTo rowAt
   path-some c = rw (reverse-cons c (ancestors (levelAt cat cs) c)) (long (reverse (ancestors (levelAt cat cs) c)))
     where

@@ -1,0 +1,62 @@
+-- Stores that must not get through ("How firm each call is"): each is refuted against a demand in proofs/Wrong.antt. Assumes nothing: these are definitions.
+use mathlib.Core.Bool.{Bool, true, false, _||_}
+use mathlib.Core.Option.{none}
+use Prim.Native.Nat.{ℕ, suc}
+use lib.ListN.{set}
+use Rattle.terms.specs.declared.Place.{Place}
+use Rattle.terms.specs.declared.Place.the-variants.{On, Before}
+use Rattle.terms.specs.declared.Parentage.the-variants.{Of}
+use Rattle.terms.specs.declared.Position.{Position}
+use Rattle.terms.specs.declared.Status.the-variants.{Blank, GE, CX}
+use Rattle.terms.specs.declared.Answer.{Answer}
+use Rattle.terms.specs.Choice.{pick}
+use Rattle.terms.specs.Names.{cell}
+use Rattle.rules.specs.Block.{Bytes, byte}
+use Rattle.rules.specs.Cells.{segment, shownBytes}
+use Rattle.rules.specs.Table.{listing}
+use Rattle.rules.specs.Calls.{bare, over, answerOf}
+use Rattle.rules.specs.Outcome.{Outcome, outcome}
+use Rattle.model.specs.Model.{Store}
+use Rattle.demands.specs.StatusTable.{isOn, get, isrt, dlet}
+
+-- refuses everything
+unfoldable pub refusesAll : Store
+refusesAll cat tab pos c list area = record { answer = bare CX pos; table = tab; area = area }
+
+-- a get always answers cell 0, and moves onto it
+unfoldable pub alwaysFirst : Store
+alwaysFirst cat tab pos c list area =
+    pick (get c)
+    (record {
+      answer = answerOf cat Blank (record { place = On (cell 0); parentage = Of (cell 0); hold = false }) (segment (listing cat tab) 0) 0;
+      table = tab;
+      area = over (shownBytes cat (segment (listing cat tab) 0)) area;
+    })
+    (outcome cat tab pos c list area)
+
+-- ISRT and DLET answer as they should, and do nothing
+unfoldable pub leavesTable : Store
+leavesTable cat tab pos c list area =
+    let o = outcome cat tab pos c list area in
+    record { answer = o .answer; table = pick (isrt c || dlet c) tab (o .table); area = o .area }
+
+-- gets the first segment, and then only answers GE
+unfoldable pub firstThenGE : Store
+firstThenGE cat tab pos c list area =
+    pick (isOn (pos .place)) (record { answer = bare GE (record { place = pos .place; parentage = pos .parentage; hold = false }); table = tab; area = area })
+    (outcome cat tab pos c list area)
+
+-- invents removed: tells one more than went
+abbrev oneMore : Answer → Answer
+oneMore a = record { status = a .status; position = a .position; code = a .code; level = a .level; length = a .length; removed = suc (a .removed) }
+
+unfoldable pub inventsRemoved : Store
+inventsRemoved cat tab pos c list area =
+    let o = outcome cat tab pos c list area in
+    record { answer = pick (dlet c) (oneMore (o .answer)) (o .answer); table = o .table; area = o .area }
+
+-- invents n: counts one more after every call
+unfoldable pub inventsCount : Store
+inventsCount cat tab pos c list area =
+    let o = outcome cat tab pos c list area in
+    record { answer = o .answer; table = set (o .table) 7 (suc (byte (o .table) 7)); area = o .area }
