@@ -17,14 +17,14 @@ use Rattle.forest.specs.Good.{on, off, is, both-left, both-right}
 use Rattle.rules.specs.Block.{Bytes, byte, every}
 use Rattle.rules.specs.Computed.{computed}
 use Rattle.rules.specs.Bench.{catalogue, table, area, onCell}
-use Rattle.rules.specs.Outcome.{Outcome}
+use Rattle.rules.specs.Outcome.{Store}
 use Rattle.encoding.specs.Determined.{IsBytes}
-use Rattle.model.specs.Model.{Store}
+use Rattle.report_loops.proofs.Wrong.{once}
 use Rattle.demands.specs.StatusTable.{firstGiven}
 use Rattle.demands.specs.PositionTable.{firstOf}
 use Rattle.demands.specs.Demand1.{Demand1}
 use Rattle.demands.specs.Demand2.{Demand2}
-use Rattle.demands.specs.WrongStores.{refusesAll, alwaysFirst, leavesTable, firstThenGE, inventsRemoved, inventsCount}
+use Rattle.demands.specs.WrongStores.{refusesAll, alwaysFirst, leavesTable, inventsRemoved, inventsCount}
 
 -- LAW: two outcomes that meet demand 2 for the same input are equal
 pub one-outcome : (store other : Store) → Demand2 store → Demand2 other → (cat tab : Bytes) (pos : Position) (c : ℕ) (list lent : Bytes)
@@ -69,9 +69,9 @@ not-leaves-table d =
     omega arith
 
 -- behind cell 0 there is a match
-pub not-first-then-ge : Demand1 firstThenGE → ⊥
-unfolding computed catalogue table firstGiven firstThenGE
-not-first-then-ge d = let z : _≡_ {A = ℕ} 11 0 = ap number (d catalogue table (onCell 0) 2 [] area .order) in omega arith
+pub not-once : Demand1 once → ⊥
+unfolding computed catalogue table firstGiven once
+not-once d = let z : _≡_ {A = ℕ} 11 0 = ap number (d catalogue table (onCell 0) 2 [] area .order) in omega arith
 
 -- on cell 3, with a hold: its run has three cells
 abbrev heldStep : Position

@@ -16,8 +16,7 @@ use Rattle.terms.specs.Moves.{holdDropped}
 use Rattle.forest.specs.Numbers.{isIn}
 use Rattle.forest.specs.Good.{isNil}
 use Rattle.rules.specs.Block.{Bytes}
-use Rattle.rules.specs.Outcome.{Outcome}
-use Rattle.model.specs.Model.{Store}
+use Rattle.rules.specs.Outcome.{Outcome, Store}
 use Rattle.demands.specs.StatusTable.{numbers, firstGiven, next, within, get, isrt, repl, dlet, statusTable}
 
 -- no byte of the table or the area has changed, the position is p, and "all four are 0"

@@ -18,9 +18,9 @@ use Rattle.rules.specs.Catalogue.{level, lengthOf}
 use Rattle.rules.specs.Cells.{Segment, segment, runAt}
 use Rattle.rules.specs.Table.{listing}
 use Rattle.rules.specs.Calls.{over}
-use Rattle.rules.specs.Outcome.{Outcome, isBlank}
+use Rattle.rules.specs.Outcome.{Outcome, Store, isBlank}
 use Rattle.encoding.specs.Determined.{TableToForest, ForestToTable}
-use Rattle.model.specs.Model.{Store, ModelIsCells}
+use Rattle.model.specs.Model.{ModelIsCells}
 use Rattle.model.specs.Kept.{TablesStayGood}
 use Rattle.model.specs.Session.{CheckedOnce}
 use Rattle.demands.specs.StatusTable.{get, isrt, dlet, new, held}

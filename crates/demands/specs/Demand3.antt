@@ -6,15 +6,9 @@
 -- one list, on input that no check refuses, answers GB or GE at the latest on call n + 1."
 --
 -- The loops are loops of outcomes: each call takes up what the call before it left. Assumes nothing: this is the statement; the proof is in proofs/.
-use Rattle.rules.specs.Block.{Bytes}
-use Rattle.model.specs.Model.{Store}
-use Rattle.report_loops.specs.Loops.{Store as LoopStore}
+use Rattle.rules.specs.Outcome.{Store}
 use Rattle.report_loops.specs.Demand3.{Demand3 as AskedOfLoops}
-
--- a store with its catalogue, on what one call hands to the next
-abbrev pub looped : Store → Bytes → LoopStore
-looped store cat c list s = store cat (s .table) (s .position) c list (s .area)
 
 -- asked of a store
 abbrev pub Demand3 : Store → Type 0
-Demand3 store = AskedOfLoops (looped store)
+Demand3 store = AskedOfLoops store

@@ -1,23 +1,20 @@
--- Stores that must not get through ("How firm each call is"): each is refuted against a demand in proofs/Wrong.antt. Assumes nothing: these are definitions.
-use mathlib.Core.Bool.{Bool, true, false, _||_}
-use mathlib.Core.Option.{none}
-use Prim.Native.Nat.{ℕ, suc}
+-- Stores that must not get through ("How firm each call is"): each is refuted against a demand in proofs/Wrong.antt, and so is `once` of report_loops,
+-- which gets the first segment and then only answers GE. Assumes nothing: these are definitions.
+use mathlib.Core.Bool.{false, _||_}
+use Prim.Native.Nat.{suc}
 use lib.ListN.{set}
-use Rattle.terms.specs.declared.Place.{Place}
-use Rattle.terms.specs.declared.Place.the-variants.{On, Before}
+use Rattle.terms.specs.declared.Place.the-variants.{On}
 use Rattle.terms.specs.declared.Parentage.the-variants.{Of}
-use Rattle.terms.specs.declared.Position.{Position}
-use Rattle.terms.specs.declared.Status.the-variants.{Blank, GE, CX}
+use Rattle.terms.specs.declared.Status.the-variants.{Blank, CX}
 use Rattle.terms.specs.declared.Answer.{Answer}
 use Rattle.terms.specs.Choice.{pick}
 use Rattle.terms.specs.Names.{cell}
-use Rattle.rules.specs.Block.{Bytes, byte}
+use Rattle.rules.specs.Block.{byte}
 use Rattle.rules.specs.Cells.{segment, shownBytes}
 use Rattle.rules.specs.Table.{listing}
 use Rattle.rules.specs.Calls.{bare, over, answerOf}
-use Rattle.rules.specs.Outcome.{Outcome, outcome}
-use Rattle.model.specs.Model.{Store}
-use Rattle.demands.specs.StatusTable.{isOn, get, isrt, dlet}
+use Rattle.rules.specs.Outcome.{Store, outcome}
+use Rattle.demands.specs.StatusTable.{get, isrt, dlet}
 
 -- refuses everything
 unfoldable pub refusesAll : Store
@@ -39,12 +36,6 @@ unfoldable pub leavesTable : Store
 leavesTable cat tab pos c list area =
     let o = outcome cat tab pos c list area in
     record { answer = o .answer; table = pick (isrt c || dlet c) tab (o .table); area = o .area }
-
--- gets the first segment, and then only answers GE
-unfoldable pub firstThenGE : Store
-firstThenGE cat tab pos c list area =
-    pick (isOn (pos .place)) (record { answer = bare GE (record { place = pos .place; parentage = pos .parentage; hold = false }); table = tab; area = area })
-    (outcome cat tab pos c list area)
 
 -- invents removed: tells one more than went
 abbrev oneMore : Answer → Answer

@@ -24,7 +24,7 @@ use Rattle.forest.specs.Edit.{size, kids}
 use Rattle.forest.specs.Runs.{under, runLen, run-length, tail-split, past-run, levelled-kids}
 use Rattle.forest.specs.Insert.{graft, insertUnder as graftUnder, passes, place, spot, place-spot, Low, cells-graft, cells-insert}
 use Rattle.forest.specs.Numbers.{range, isIn}
-use Rattle.rules.specs.Block.{Bytes, every}
+use Rattle.rules.specs.Block.{Bytes, every, anyOf}
 use Rattle.rules.specs.Catalogue.{keyKind, level}
 use Rattle.rules.specs.Cells.{Segment, segment, blank, segmentLevel, sameKey, keyOrder, goesBefore, rowAt}
 use Rattle.rules.specs.Matching.{pathTo}
@@ -32,7 +32,7 @@ use Rattle.rules.specs.Change.{put}
 use Rattle.rules.specs.Calls.{After, refused, changed, isOneOf, keyTaken, inserted, insertAmong}
 use Rattle.terms.specs.Operators.{isEqual}
 use Rattle.rules.specs.Paths.{Path, adjustInsertion, afterPut, parentageOf, numbered}
-use Rattle.rules.specs.Tree.{dataPart, segments, findPosition, hasKey, putIn, insertRec}
+use Rattle.rules.specs.Tree.{dataPart, segments, findPosition, hasKey, putUnder, insertRec}
 use Rattle.rules.proofs.Paths.{end-append, end-path, prefix-row, prefix-none}
 use Rattle.rules.proofs.Tree.{segments-cells}
 use Rattle.model.proofs.Paths.{take-map, drop-map, cells-map, parented, paths}
@@ -104,6 +104,19 @@ every-map f p (x ∷ xs) = elim (is (p (f x))) [
   | off h ↦ every-not p (f x) (map f xs) h ∙ sym (every-not (λ y. p (f y)) x xs h)
 ]
 
+pub any-append : {A : Type 0} (p : A → Bool) (xs ys : List A) → anyOf p xs ≡ false → anyOf p (xs ++ ys) ≡ anyOf p ys
+unfolding anyOf
+any-append p [] ys e = refl
+any-append p (x ∷ xs) ys e = elim (is (p x)) [
+  | on h ↦ absurd (let z : _≡_ {A = Bool} true false = rw h at e in let y : _≡_ {A = ℕ} 0 1 = cc in omega arith)
+  | off h ↦ rw h (any-append p xs ys (rw h at e))
+]
+
+pub any-map : {A B : Type 0} (f : A → B) (p : B → Bool) (xs : List A) → anyOf p (map f xs) ≡ anyOf (λ x. p (f x)) xs
+unfolding anyOf
+any-map f p [] = refl
+any-map f p (x ∷ xs) = ap (_||_ (p (f x))) (any-map f p xs)
+
 module _ (cat : Bytes) (cs : List Segment) where
   cells-listing : cs ≡ map (segment cs) (range 0 (length cs))
   unfolding segments
@@ -151,22 +164,18 @@ module _ (cat : Bytes) (cs : List Segment) where
           ∙ ap (λ (ys : List Segment). suc (spot lev x stop ys)) (append-assoc (cellsOf k) (cellsOf s) xs) ∙ omega arith)
     ]
 
-    -- no twin's key
-    abbrev other : Segment → Bool
-    other c = not (sameKey cat x c)
-
     same-level : (c : Segment) → sameKey cat x c ≡ true → lev x ≡ lev c
     unfolding sameKey
     same-level c e =
         let z : x .code .0 ≡ c .code .0 = eqb-true (x .code .0) (c .code .0) (both-left (sameType (x .code) (c .code)) (isEqual (keyOrder cat x c)) e) in
         ap (λ (t : ℕ). level cat (code t)) z
 
-    others-deep : (n : ℕ) (k : Forest Segment) → Levelled lev n k → lev x < n → every other (cellsOf k) ≡ true
-    unfolding every
-    others-deep n void a h = refl
-    others-deep n (node c k s) a h = elim (is (sameKey cat x c)) [
+    none-deep : (n : ℕ) (k : Forest Segment) → Levelled lev n k → lev x < n → anyOf (sameKey cat x) (cellsOf k) ≡ false
+    unfolding anyOf
+    none-deep n void a h = refl
+    none-deep n (node c k s) a h = elim (is (sameKey cat x c)) [
       | on e ↦ absurd (omega (arith, same-level c e, a .0))
-      | off e ↦ every-some other c (cellsOf k ++ cellsOf s) (rw e) ∙ every-append other (cellsOf k) (cellsOf s) (others-deep (suc n) k (a .1) (omega arith)) ∙ others-deep n s (a .2) h
+      | off e ↦ rw e (any-append (sameKey cat x) (cellsOf k) (cellsOf s) (none-deep (suc n) k (a .1) (omega arith)) ∙ none-deep n s (a .2) h)
     ]
 
     has-here : (c : Segment) (k s : Forest Segment) → hasKey cat cs x (node c k s) ≡ (sameKey cat x c || hasKey cat cs x s)
@@ -174,18 +183,16 @@ module _ (cat : Bytes) (cs : List Segment) where
     has-here c k s = refl
 
     -- LAW: a twin's key among the siblings is one among all cells beneath the parent
-    has-key : (f : Forest Segment) → Levelled lev (lev x) f → hasKey cat cs x f ≡ not (every other (cellsOf f))
-    unfolding hasKey every
+    has-key : (f : Forest Segment) → Levelled lev (lev x) f → hasKey cat cs x f ≡ anyOf (sameKey cat x) (cellsOf f)
+    unfolding hasKey anyOf
     has-key void a = refl
-    has-key (node c k s) a = elim (is (sameKey cat x c)) [
-      | on e ↦ has-here c k s ∙ rw (e, every-not other c (cellsOf k ++ cellsOf s) (rw e))
-      | off e ↦ has-here c k s
-          ∙ rw (e, every-some other c (cellsOf k ++ cellsOf s) (rw e), every-append other (cellsOf k) (cellsOf s) (others-deep (suc (lev x)) k (a .1) (omega arith))) (has-key s (a .2))
-    ]
+    has-key (node c k s) a =
+        has-here c k s
+        ∙ ap (_||_ (sameKey cat x c)) (has-key s (a .2) ∙ sym (any-append (sameKey cat x) (cellsOf k) (cellsOf s) (none-deep (suc (lev x)) k (a .1) (omega arith))))
 
     pub taken-cells : (i n : ℕ) (f : Forest Segment) → Levelled lev (lev x) f → i + n ≤ length cs → cellsOf f ≡ take n (drop i cs) → hasKey cat cs x f ≡ keyTaken cat cs x i n
     unfolding keyTaken
-    taken-cells i n f a l e = has-key f a ∙ ap (λ (ys : List Segment). not (every other ys)) (e ∙ cells-between i n l) ∙ ap not (every-map (segment cs) other (range i n))
+    taken-cells i n f a l e = has-key f a ∙ ap (anyOf (sameKey cat x)) (e ∙ cells-between i n l) ∙ any-map (segment cs) (sameKey cat x) (range i n)
 
     -- "the parentage stays if the new cell is beneath it": the parent path is the front of the path to its parent
     parentage-kept : (p : ℕ) (q : Parentage) → parentageOf (adjustInsertion (pathTo cat cs p) (parented cat cs q)) ≡ pick (isOneOf (rowAt cat cs p) q) q Absent
@@ -210,8 +217,8 @@ module _ (cat : Bytes) (cs : List Segment) where
         (changed cat then x 0 (put r (x ∷ [])) new area))
 
     put-after : (m : ℕ) (inspos : Path) (taken : Bool) (r : ℕ) (new : List Segment)
-        → putIn cat cs (paths cat cs pos) area m x inspos taken r new ≡ after m (numbered (paths cat cs pos)) (numbered (afterPut inspos r (paths cat cs pos))) taken r new
-    unfolding putIn
+        → putUnder cat cs (paths cat cs pos) area m x inspos taken r new ≡ after m (numbered (paths cat cs pos)) (numbered (afterPut inspos r (paths cat cs pos))) taken r new
+    unfolding putUnder
     put-after m inspos taken r new = refl
 
     inserted-after : (m : ℕ) (above : List ℕ) (taken : Bool) (r : ℕ) (new : List Segment)
@@ -229,7 +236,7 @@ module _ (cat : Bytes) (cs : List Segment) where
     inserted-same : (m : ℕ) (inspos above : List ℕ) (taken had : Bool) (r k : ℕ) (new ds : List Segment)
         → parentageOf (adjustInsertion inspos (parented cat cs (pos .parentage))) ≡ pick (isOneOf above (pos .parentage)) (pos .parentage) Absent
         → taken ≡ had → r ≡ k → new ≡ ds
-        → putIn cat cs (paths cat cs pos) area m x inspos taken r new ≡ inserted cat cs pos area m x above had k ds
+        → putUnder cat cs (paths cat cs pos) area m x inspos taken r new ≡ inserted cat cs pos area m x above had k ds
     inserted-same m inspos above taken had r k new ds a b c d =
         put-after m inspos taken r new
         ∙ ap (λ (p : Position). after m p (numbered (afterPut inspos r (paths cat cs pos))) taken r new) (numbered-paths cat cs pos)

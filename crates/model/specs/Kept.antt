@@ -16,9 +16,8 @@ use Rattle.rules.specs.Block.{Bytes, part}
 use Rattle.rules.specs.Catalogue.{goodCatalogue}
 use Rattle.rules.specs.Table.{count, cellSize, room, listing, goodTable}
 use Rattle.rules.specs.Position.{goodPosition}
-use Rattle.rules.specs.Outcome.{Outcome, isBlank, isIsrt}
+use Rattle.rules.specs.Outcome.{Outcome, Store, isBlank, isIsrt}
 use Rattle.encoding.specs.Determined.{IsBytes}
-use Rattle.model.specs.Model.{Store}
 
 -- the cells that a call inserts: one, exactly when it is an ISRT that is done
 abbrev pub inserts : ℕ → Status → ℕ

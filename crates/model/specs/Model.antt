@@ -7,12 +7,8 @@ use mathlib.Core.Path.{_≡_}
 use Prim.Native.Nat.{ℕ}
 use Rattle.terms.specs.declared.Position.{Position}
 use Rattle.rules.specs.Block.{Bytes}
-use Rattle.rules.specs.Outcome.{Outcome}
+use Rattle.rules.specs.Outcome.{Store}
 use Rattle.rules.specs.Tree.{treeOutcome}
-
--- a store: what it leaves of a table and an area, and what it answers, to the call of a number at a position
-abbrev pub Store : Type 0
-Store = Bytes → Bytes → Position → ℕ → Bytes → Bytes → Outcome
 
 -- asked of a store; the promise is one (rules, outcome)
 abbrev pub ModelIsCells : Store → Type 0

@@ -10,9 +10,8 @@ use Rattle.rules.specs.Block.{Bytes}
 use Rattle.rules.specs.Catalogue.{goodCatalogue}
 use Rattle.rules.specs.Table.{listing, goodTable}
 use Rattle.rules.specs.Position.{goodPosition}
-use Rattle.rules.specs.Outcome.{Outcome, soundOutcome}
+use Rattle.rules.specs.Outcome.{Outcome, Store, soundOutcome}
 use Rattle.encoding.specs.Determined.{IsBytes, All}
-use Rattle.model.specs.Model.{Store}
 
 -- what is asked: a call by its number, with a list and an area
 pub record Ask : Type 0 where

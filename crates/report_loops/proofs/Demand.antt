@@ -23,6 +23,7 @@ use Rattle.rules.specs.Calls.{missStatus}
 use Rattle.rules.proofs.Cells.{listing-length}
 use Rattle.arguments.specs.Sound.{SoundList, Downward}
 use Rattle.arguments.proofs.Sound.{sound-down, list-empty, list-filled}
+use Rattle.rules.specs.Outcome.{outcome}
 use Rattle.report_loops.specs.Loops.{State, promised, start, loop}
 use Rattle.report_loops.specs.Plain.{filter, meets, picked}
 use Rattle.report_loops.specs.Demand3.{single, nested, seenAt, Ascending, noMore, Accepted, Cut, Reports, Demand3}
@@ -133,7 +134,7 @@ unfolding picked
 picked-ascends cat tab list = ascending-range (meets cat list (listing cat tab) (listRead cat list .arguments)) (count tab) 0
 
 -- the promise meets DEMAND 3
-pub demand3 : Demand3 promised
+pub demand3 : Demand3 outcome
 demand3 = record {
   agree = λ cat tab one two area A C k l. let s = single-reports cat tab area (one ++ two) A k l in (
     nested-reports cat tab area one two A C k l,

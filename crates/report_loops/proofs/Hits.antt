@@ -8,7 +8,7 @@ use Rattle.forest.specs.Forest.{inside, outside, side}
 use Rattle.forest.specs.Good.{on, off, is}
 use Rattle.forest.specs.Numbers.{range}
 use Rattle.report_loops.specs.Plain.{filter}
-use Rattle.report_loops.specs.Demand3.{Above, Ascending}
+use Rattle.report_loops.specs.Demand3.{AllAbove, Ascending}
 
 pub clash : (b : Bool) → b ≡ true → b ≡ false → ⊥
 clash b x y = let z : _≡_ {A = ℕ} 0 1 = cc in omega arith
@@ -92,7 +92,7 @@ module _ (t : ℕ → Bool) where
   first i e = first-from (e - i) i e refl
 
   -- read from first to last, each number comes once
-  above-range : (k i j : ℕ) → j < i → Above j (filter t (range i k))
+  above-range : (k i j : ℕ) → j < i → AllAbove j (filter t (range i k))
   unfolding filter
   above-range zero i j l = tt
   above-range (suc k) i j l = elim (is (t i)) [

@@ -12,18 +12,18 @@ use Rattle.terms.specs.declared.Parentage.{Parentage}
 use Rattle.terms.specs.declared.Status.the-variants.{GE}
 use Rattle.rules.specs.Block.{Bytes}
 use Rattle.rules.specs.Calls.{missed}
-use Rattle.rules.specs.Outcome.{Outcome, landed}
+use Rattle.rules.specs.Outcome.{Outcome, Store, landed, outcome}
 use Rattle.rules.specs.Computed.{computed}
 use Rattle.rules.specs.Bench.{catalogue, table}
-use Rattle.report_loops.specs.Loops.{Store, promised, loop, nestedLoop}
+use Rattle.report_loops.specs.Loops.{loop, nestedLoop}
 use Rattle.report_loops.specs.Plain.{filter, picked}
 use Rattle.report_loops.specs.Demand3.{Accepted, Cut, Demand3}
 
 -- on a cell it answers GE, whatever the call
-unfoldable pub once : Bytes → Store
-once cat c list s = elim (s .position .place) [
-  | Before i ↦ promised cat c list s
-  | On i ↦ landed cat (s .table) (missed GE (s .position) (s .area))
+unfoldable pub once : Store
+once cat tab pos c list lent = elim (pos .place) [
+  | Before i ↦ outcome cat tab pos c list lent
+  | On i ↦ landed cat tab (missed GE pos lent)
 ]
 
 -- its GNP seeks as GN does, to the last cell, and leaves the parentage as it was
@@ -41,10 +41,10 @@ withParentage p o = record {
   area = o .area;
 }
 
-unfoldable pub runsOn : Bytes → Store
-runsOn cat c list s = elim (eqb c 3) [
-  | true ↦ withParentage (s .position .parentage) (promised cat 2 list s)
-  | false ↦ promised cat c list s
+unfoldable pub runsOn : Store
+runsOn cat tab pos c list lent = elim (eqb c 3) [
+  | true ↦ withParentage (pos .parentage) (outcome cat tab pos 2 list lent)
+  | false ↦ outcome cat tab pos c list lent
 ]
 
 -- the unit "07", and the steps

@@ -21,18 +21,19 @@ use Rattle.rules.specs.Cells.{segment, shownBytes}
 use Rattle.rules.specs.Table.{count, cellSize, listing, goodTable}
 use Rattle.rules.specs.Position.{goodPosition}
 use Rattle.rules.specs.Arguments.{listRead}
-use Rattle.report_loops.specs.Loops.{Store, start, Seen, Shown, loop, nestedLoop}
+use Rattle.rules.specs.Outcome.{Outcome, Store}
+use Rattle.report_loops.specs.Loops.{State, calling, start, Seen, Shown, loop, nestedLoop}
 use Rattle.report_loops.specs.Plain.{picked}
 
 -- the two reports of a store, from the fresh position: GN is call 2, GNP call 3
-module _ (store : Store) (tab area : Bytes) where
+module _ (call : ℕ → Bytes → State → Outcome) (tab area : Bytes) where
   -- get-next alone, in at most k calls
   abbrev pub single : ℕ → Bytes → Shown
-  single k list = loop (store 2 list) k (start tab area)
+  single k list = loop (call 2 list) k (start tab area)
 
   -- get-next, and get-next-within-parent under each cell found, in at most k calls each
   abbrev pub nested : ℕ → Bytes → Bytes → Shown
-  nested k list₁ list₂ = nestedLoop (store 2 list₁) (store 3 list₂) k k (start tab area)
+  nested k list₁ list₂ = nestedLoop (call 2 list₁) (call 3 list₂) k k (start tab area)
 
 -- what is shown of the plain reading
 module _ (cat tab : Bytes) where
@@ -46,13 +47,13 @@ module _ (cat tab : Bytes) where
     pub ends : shown .last ≡ some status
 
 -- each number is greater than those before it: none stands twice
-abbrev pub Above : ℕ → List ℕ → Type 0
-Above i [] = Unit {0}
-Above i (x ∷ xs) = (i < x) × Above i xs
+abbrev pub AllAbove : ℕ → List ℕ → Type 0
+AllAbove i [] = Unit {0}
+AllAbove i (x ∷ xs) = (i < x) × AllAbove i xs
 
 abbrev pub Ascending : List ℕ → Type 0
 Ascending [] = Unit {0}
-Ascending (x ∷ xs) = Above x xs × Ascending xs
+Ascending (x ∷ xs) = AllAbove x xs × Ascending xs
 
 -- GB: "GN or GHN, empty list, no cell left"; GE: "other get with no match"
 abbrev pub noMore : Bytes → Status
@@ -73,15 +74,15 @@ pub record Cut (cat list₁ list₂ : Bytes) : Type 0 where
   pub between : listRead cat list₁ .fault ≡ Blank
 
 -- what is asked of a store
-pub record Demand3 (store : Bytes → Store) : Type 0 where
+pub record Demand3 (store : Store) : Type 0 where
   -- the two reports and the plain reading are one, where each loop may make more calls than there are cells
   pub agree : (cat tab list₁ list₂ area : Bytes) → Accepted cat tab (list₁ ++ list₂) area → Cut cat list₁ list₂ → (k : ℕ) → count tab < k
-      → Reports cat tab (nested (store cat) tab area k list₁ list₂) (picked cat tab (list₁ ++ list₂)) GE
-      × Reports cat tab (single (store cat) tab area k (list₁ ++ list₂)) (picked cat tab (list₁ ++ list₂)) GE
+      → Reports cat tab (nested (calling store cat) tab area k list₁ list₂) (picked cat tab (list₁ ++ list₂)) GE
+      × Reports cat tab (single (calling store cat) tab area k (list₁ ++ list₂)) (picked cat tab (list₁ ++ list₂)) GE
       × Ascending (picked cat tab (list₁ ++ list₂))
   -- with any list, the empty one too, get-next alone shows what is picked with it
   pub read : (cat tab list area : Bytes) → Accepted cat tab list area → (k : ℕ) → count tab < k
-      → Reports cat tab (single (store cat) tab area k list) (picked cat tab list) (noMore list)
+      → Reports cat tab (single (calling store cat) tab area k list) (picked cat tab list) (noMore list)
   -- from any good position, call n + 1 is the last
   pub end : (cat tab list area : Bytes) (pos : Position) → Accepted cat tab list area → goodPosition cat (listing cat tab) pos ≡ true
-      → loop (store cat 2 list) (suc (count tab)) (record { table = tab; position = pos; area = area }) .last ≡ some (noMore list)
+      → loop (calling store cat 2 list) (suc (count tab)) (record { table = tab; position = pos; area = area }) .last ≡ some (noMore list)

@@ -11,7 +11,7 @@ use Rattle.terms.specs.declared.Status.the-variants.{GE}
 use Rattle.terms.specs.Statuses.{number}
 use Rattle.terms.specs.Moves.{fresh, placeNumber}
 use Rattle.rules.specs.Block.{Bytes}
-use Rattle.rules.specs.Outcome.{Outcome, outcome}
+use Rattle.rules.specs.Outcome.{Outcome, Store, outcome}
 
 -- what one call hands to the next
 pub record State : Type 0 where
@@ -19,13 +19,13 @@ pub record State : Type 0 where
   pub position : Position
   pub area : Bytes
 
--- a store with its catalogue: what it answers to a call number and a list
-abbrev pub Store : Type 0
-Store = ℕ → Bytes → State → Outcome
+-- a call of a store, by its number and list, on what the call before handed on
+abbrev pub calling : Store → Bytes → ℕ → Bytes → State → Outcome
+calling store cat c list s = store cat (s .table) (s .position) c list (s .area)
 
--- the promise is one
-abbrev pub promised : Bytes → Store
-promised cat c list s = outcome cat (s .table) (s .position) c list (s .area)
+-- of the promise
+abbrev pub promised : Bytes → ℕ → Bytes → State → Outcome
+promised cat c list s = calling outcome cat c list s
 
 -- before the first call
 abbrev pub start : Bytes → Bytes → State

@@ -1,5 +1,5 @@
 -- Blocks of bytes: "Bytes are counted from 0." Assumes nothing: these are definitions.
-use mathlib.Core.Bool.{Bool, true, false, _&&_}
+use mathlib.Core.Bool.{Bool, true, false, _&&_, _||_}
 use mathlib.Core.List.{List, [], _∷_}
 use Prim.Native.Nat.{ℕ, suc, _+_, _*_, _/_, _%_}
 use lib.Dec.{eqb}
@@ -27,6 +27,11 @@ part b i n = take n (drop i b)
 unfoldable pub every : {A : Type 0} → (A → Bool) → List A → Bool
 every p [] = true
 every p (x ∷ xs) = elim (p x) [ true ↦ every p xs | false ↦ false ]
+
+-- one of them does
+unfoldable pub anyOf : {A : Type 0} → (A → Bool) → List A → Bool
+anyOf p [] = false
+anyOf p (x ∷ xs) = p x || anyOf p xs
 
 unfoldable pub zeros : Bytes → Bool
 zeros b = every (λ x. eqb x 0) b

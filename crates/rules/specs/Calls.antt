@@ -23,7 +23,7 @@ use Rattle.terms.specs.Names.{code, cell, sameType}
 use Rattle.terms.specs.Moves.{placeNumber, afterPlace, movedOnto, holdDropped, afterInsert, afterDelete}
 use Rattle.forest.specs.Numbers.{range, isIn}
 use Rattle.forest.specs.Insert.{spot}
-use Rattle.rules.specs.Block.{Bytes, every, sameBytes}
+use Rattle.rules.specs.Block.{Bytes, anyOf, sameBytes}
 use Rattle.rules.specs.Catalogue.{keyKind, level}
 use Rattle.rules.specs.Cells.{Segment, segment, arriving, shownBytes, long, key, sameKey, goesBefore, segmentLevel, levelAt, runAt, endAt, rowAt}
 use Rattle.rules.specs.Change.{Change, nothing, put, swap, cut, applied}
@@ -98,7 +98,7 @@ module _ (cat : Bytes) where
 
     -- II: "unique key equal to a twin's", among the n cells from i on
     unfoldable pub keyTaken : Segment → ℕ → ℕ → Bool
-    keyTaken x i n = not (every (λ j. not (sameKey cat x (segment cs j))) (range i n))
+    keyTaken x i n = anyOf (λ j. sameKey cat x (segment cs j)) (range i n)
 
   module _ (cs : List Segment) (pos : Position) (area : Bytes) where
     -- a get, from what was found: the status where nothing was, the status of a cell, and the parentage after it

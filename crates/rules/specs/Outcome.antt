@@ -100,12 +100,16 @@ landed cat tab a = record { answer = a .answer; table = tableAfter cat tab (a .c
 unfoldable pub outcomeOf : Call → Bytes → Bytes → Position → ℕ → Bytes → Bytes → Outcome
 outcomeOf call cat tab pos c list area = landed cat tab (afterCall call cat tab pos c list area)
 
+-- a store: what it answers, and what it leaves of table and area, to a call of a number on a catalogue and a table, at a position, with a list and an area
+abbrev pub Store : Type 0
+Store = Bytes → Bytes → Position → ℕ → Bytes → Bytes → Outcome
+
 -- the promise
-unfoldable pub outcome : Bytes → Bytes → Position → ℕ → Bytes → Bytes → Outcome
+unfoldable pub outcome : Store
 outcome cat tab pos c list area = outcomeOf called cat tab pos c list area
 
 -- the promise to a caller whose blocks and position are sound
-unfoldable pub soundOutcome : Bytes → Bytes → Position → ℕ → Bytes → Bytes → Outcome
+unfoldable pub soundOutcome : Store
 soundOutcome cat tab pos c list area = landed cat tab (afterSound called cat tab pos c list area)
 
 -- the position's block afterwards, where the position is lent as one: "20 and above changes nothing"

@@ -32,7 +32,7 @@ use Rattle.rules.specs.Arguments.{Level, lastArgument, getLevels, parent
 use Rattle.rules.specs.Matching.{agrees, isImplied}
 use Rattle.rules.specs.Paths.{Path, end, Current, onPath, inGap, Standing, currentPath, follows, beneath, movedTo, movedWithin, letGo, afterPut, afterCut, numbered}
 use Rattle.rules.specs.Calls.{After, bare, over, missStatus, answerOf, changed}
-use Rattle.rules.specs.Outcome.{Outcome, outcomeOf}
+use Rattle.rules.specs.Outcome.{Store, outcomeOf}
 
 unfoldable pub select : (Path → Bool) → List Path → List Path
 select t [] = []
@@ -130,12 +130,12 @@ module _ (cat : Bytes) (cs : List Segment) where
 
   module _ (here : Standing) (area : Bytes) where
     -- nothing but the position may change, and the answer tells a status alone
-    abbrev pub told : Status → Standing → After
-    told s now = record { answer = bare s (numbered now); change = nothing; cells = none; area = area }
+    abbrev pub answered : Status → Standing → After
+    answered s now = record { answer = bare s (numbered now); change = nothing; cells = none; area = area }
 
     -- (41) to (43) from the paths, which stand in hierarchic order, so that first-path (20) is the first: "p = nil → (pos, NOT-FOUND)"
     abbrev pub retrieved : Status → (Path → Status) → (Path → Standing) → List Path → After
-    retrieved miss status moved [] = told miss (letGo here)
+    retrieved miss status moved [] = answered miss (letGo here)
     retrieved miss status moved (p ∷ ps) = record {
       answer = answerOf cat (status p) (numbered (moved p)) (segment cs (end p)) 0;
       change = nothing;
@@ -160,19 +160,19 @@ module _ (cat : Bytes) (cs : List Segment) where
         (select (λ p. follows (here .current) p && beneath (here .parent) p) (eval ls))
 
     -- (49) x as number r beneath inspos, in a row of siblings of which one has its key or none; dp′ is the whole afterwards
-    unfoldable pub putIn : ℕ → Segment → Path → Bool → ℕ → List Segment → After
-    putIn m x inspos taken r dp′ =
-        pick (eqb (keyKind cat (x .code)) 1 && taken) (told II here)
-        (pick (eqb (length cs) m) (told FX here)
+    unfoldable pub putUnder : ℕ → Segment → Path → Bool → ℕ → List Segment → After
+    putUnder m x inspos taken r dp′ =
+        pick (eqb (keyKind cat (x .code)) 1 && taken) (answered II here)
+        (pick (eqb (length cs) m) (answered FX here)
         (changed cat (numbered (afterPut inspos r here)) x 0 (put r (x ∷ [])) dp′ area))
 
     -- (49) insert-rec into the row of siblings subdp, whose first segment has number i
     abbrev pub insertRec : ℕ → Segment → Path → ℕ → Forest Segment → Forest Segment → After
-    insertRec m x inspos i subdp dp′ = putIn m x inspos (hasKey x subdp) (i + findPosition x subdp) (cellsOf dp′)
+    insertRec m x inspos i subdp dp′ = putUnder m x inspos (hasKey x subdp) (i + findPosition x subdp) (cellsOf dp′)
 
     -- (47), (44) modify beneath the first path found
     abbrev pub insertAt : ℕ → Segment → List Path → After
-    insertAt m x [] = told GE (letGo here)
+    insertAt m x [] = answered GE (letGo here)
     insertAt m x (p ∷ ps) =
         insertRec m x p (suc (end p)) (kids (end p) segments) (graftUnder (segmentLevel cat) x (goesBefore cat x) (end p) segments)
 
@@ -186,7 +186,7 @@ module _ (cat : Bytes) (cs : List Segment) where
     -- (54), (55) the current segment's record replaced by x, which must have its key
     unfoldable pub exchanged : ℕ → Segment → List Segment → After
     exchanged i x dp′ =
-        pick (not (sameBytes (key cat (segment cs i)) (key cat x))) (told DA here)
+        pick (not (sameBytes (key cat (segment cs i)) (key cat x))) (answered DA here)
         (changed cat (numbered (letGo here)) x 0 (swap i x) dp′ area)
 
     unfoldable pub intRepl : After
@@ -205,14 +205,14 @@ module _ (cat : Bytes) (cs : List Segment) where
         takenOut p (suc (size (kids (end p) segments))) (cellsOf (prune (segmentLevel cat) (end p) segments))
 
     -- (26) a get by its kind, and the call of a number: "1 GU, 2 GN, 3 GNP", their hold forms three later, "7 ISRT, 8 REPL, 9 DLET"
-    abbrev pub getOf : ℕ → Bool → List Level → After
-    getOf k hold ls = pick (eqb k 1) (intGu hold ls) (pick (eqb k 2) (intGn hold ls) (intGnp hold ls))
+    abbrev pub getByKind : ℕ → Bool → List Level → After
+    getByKind k hold ls = pick (eqb k 1) (intGu hold ls) (pick (eqb k 2) (intGn hold ls) (intGnp hold ls))
 
     unfoldable pub callOf : ℕ → ℕ → Bytes → List Argument → After
     callOf m c list ar =
         let ls = getLevels cat list ar in
-        pick (leb c 3) (getOf c false ls)
-        (pick (leb c 6) (getOf (c - 3) true ls)
+        pick (leb c 3) (getByKind c false ls)
+        (pick (leb c 6) (getByKind (c - 3) true ls)
         (pick (eqb c 7) (intIsrt m (lastArgument ar .code) (parentLevels cat list ar))
         (pick (eqb c 8) intRepl intDlet)))
 
@@ -221,5 +221,5 @@ module _ (cat : Bytes) (cs : List Segment) where
   interpreted pos area m c list ar = callOf (standing pos) area m c list ar
 
 -- the promise again, by the forest
-unfoldable pub treeOutcome : Bytes → Bytes → Position → ℕ → Bytes → Bytes → Outcome
+unfoldable pub treeOutcome : Store
 treeOutcome cat tab pos c list area = outcomeOf interpreted cat tab pos c list area

@@ -18,13 +18,12 @@ use Rattle.forest.specs.Insert.{Low}
 use Rattle.forest.specs.Good.{on, off, is, both-right, Wf, formed-wf, levelled}
 use Rattle.forest.specs.Numbers.{range}
 use Rattle.forest.specs.Types as Types
-use Rattle.rules.specs.Block.{Bytes, byte, every, zeros, marked}
+use Rattle.rules.specs.Block.{Bytes, byte, every, zeros, marked, anyOf}
 use Rattle.rules.specs.Catalogue.{types, parentOf, keyKind, lineage, level, isType, goodCatalogue}
 use Rattle.rules.specs.Cells.{Segment, segment, segmentOf, arriving, blank, typeNumber, isChild, siblings, sameKey, goesBefore, segmentLevel, goodListing, levelAt, runAt, endAt}
 use Rattle.rules.specs.Table.{count, cellSize, cellStart, room, listing, padded, goodRoom, goodTable}
 use Rattle.rules.specs.Calls.{keyTaken}
 use Rattle.rules.proofs.Catalogue.{par, good-lower}
-use Rattle.rules.proofs.Every.{every-in, every-out}
 use Rattle.rules.proofs.Cells.{listing-length}
 use Rattle.cells.proofs.Located.{end-within}
 use Rattle.catalogue.proofs.Hierarchy.{type-range, level-child, level-root}
@@ -143,15 +142,12 @@ module _ {cat tab : Bytes} {size : ℕ} {t : TypeCode} {area : Bytes} (n : New c
 -- II over the cells, one after the other
 module _ (cat : Bytes) (cs : List Segment) (x : Segment) where
   pub taken-none : (i : ℕ) → keyTaken cat cs x i 0 ≡ false
-  unfolding keyTaken every
+  unfolding keyTaken anyOf
   taken-none i = refl
 
   pub taken-next : (i n : ℕ) → keyTaken cat cs x i (suc n) ≡ (sameKey cat x (segment cs i) || keyTaken cat cs x (suc i) n)
-  unfolding keyTaken
-  taken-next i n = elim (is (sameKey cat x (segment cs i))) [
-    | on e ↦ rw e (ap not (every-out (λ j. not (sameKey cat x (segment cs j))) i (range (suc i) n) (ap not e)))
-    | off e ↦ rw e (ap not (every-in (λ j. not (sameKey cat x (segment cs j))) i (range (suc i) n) (ap not e)))
-  ]
+  unfolding keyTaken anyOf
+  taken-next i n = refl
 
   shifted : (i j : ℕ) → sameKey cat x (segment cs (i + suc j)) ≡ false → sameKey cat x (segment cs (suc i + j)) ≡ false
   shifted i j h = let z : i + suc j ≡ suc i + j = omega arith in rw z at h
