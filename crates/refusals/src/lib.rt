@@ -52,7 +52,7 @@ fn is_qualified(q: Qualification) -> bool
 }
 
 // Whether the call is GNP or GHNP.
-fn is_within(number: u8) -> bool
+fn is_gnp(number: u8) -> bool
     ensures { λ r. ⌜ r ≡ isGnp number ⌝ }
 {
     if number == 3 {
@@ -81,7 +81,7 @@ fn misused_get(size: usize, pos: Position, number: u8, area: &[u8]) -> Status
     if is_short(size, number, area) {
         return Status::AB;
     }
-    if !is_within(number) {
+    if !is_gnp(number) {
         return Status::Blank;
     }
     if is_absent(parentage) {

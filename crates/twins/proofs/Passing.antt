@@ -24,7 +24,7 @@ use Rattle.cells.specs.Lent.{InData}
 use Rattle.cells.proofs.Entries.{key-in}
 use Rattle.cells.proofs.Data.{part-front, key-data, key-part}
 use Rattle.twins.specs.declared.Spot.{Spot}
-use Rattle.twins.specs.Among.{New, Beneath, standing, passed, placed, spotAmong}
+use Rattle.twins.specs.Among.{New, Beneath, standsTo, passed, placed, spotAmong}
 use Rattle.twins.proofs.Rows.{spot-pass, spot-stop}
 use Rattle.twins.proofs.Twins.{stands-deep, stands-less, stands-more, stands-twin, passes-stands, key-stands}
 use Rattle.twins.proofs.Listing.{Row, row-new, row-level, row-end, row-taken, taken-none, taken-next}
@@ -115,7 +115,7 @@ module _ {cat tab : Bytes} {x : Segment} {from to : ℕ} (r : Row cat tab x from
       let z : i ≡ to = omega arith in
       onward-here cat (listing cat tab) x i b (ap (passed cat (listing cat tab) x) z ∙ row-end r)
 
-  module _ (l : i < to) {o : Order} (e : o ≡ standing cat x (segment (listing cat tab) i)) where
+  module _ (l : i < to) {o : Order} (e : o ≡ standsTo cat x (segment (listing cat tab) i)) where
     cells-left : drop i (listing cat tab) ≡ segment (listing cat tab) i ∷ drop (suc i) (listing cat tab)
     cells-left = drop-cons (listing cat tab) i blank (omega (arith, r .within, listing-length cat tab))
 
@@ -150,11 +150,11 @@ module _ (cat : Bytes) (t : TypeCode) (area : Bytes) (c : Segment) {u : TypeCode
   at-type : u .0 ≡ c .code .0
   at-type = ap (λ (v : TypeCode). v .0) e
 
-  pub new-more : u .0 < t .0 → Greater ≡ standing cat (arriving cat t area) c
+  pub new-more : u .0 < t .0 → Greater ≡ standsTo cat (arriving cat t area) c
   unfolding arriving segmentOf
   new-more l = stands-more cat (arriving cat t area) c (omega (arith, at-type))
 
-  pub new-twin : u .0 ≡ t .0 → keyOrder cat (arriving cat t area) c ≡ standing cat (arriving cat t area) c
+  pub new-twin : u .0 ≡ t .0 → keyOrder cat (arriving cat t area) c ≡ standsTo cat (arriving cat t area) c
   unfolding arriving segmentOf
   new-twin z = stands-twin cat (arriving cat t area) c (omega (arith, at-type))
 
@@ -163,11 +163,11 @@ module _ (cat : Bytes) (t : TypeCode) (area : Bytes) (c : Segment) {u : TypeCode
     at-level : here ≡ level cat (c .code)
     at-level = h ∙ ap (level cat) e
 
-    pub new-deep : depth < here → Greater ≡ standing cat (arriving cat t area) c
+    pub new-deep : depth < here → Greater ≡ standsTo cat (arriving cat t area) c
     unfolding arriving segmentOf
     new-deep l = stands-deep cat (arriving cat t area) c (omega (arith, at-type)) (omega (arith, at-level))
 
-    pub new-less : here ≤ depth → Smaller ≡ standing cat (arriving cat t area) c
+    pub new-less : here ≤ depth → Smaller ≡ standsTo cat (arriving cat t area) c
     unfolding arriving segmentOf
     new-less l = stands-less cat (arriving cat t area) c (omega (arith, at-type)) (omega (arith, at-level))
 

@@ -16,7 +16,7 @@ use Rattle.rules.specs.Order.{valueOrder}
 use Rattle.rules.specs.Catalogue.{keyKind, keyValue, level}
 use Rattle.rules.specs.Cells.{Segment, typeNumber, key, keyOrder, twinOrder, sameKey, siblings, goesBefore, segmentLevel}
 use Rattle.rules.proofs.Values.{value-transitive}
-use Rattle.twins.specs.Among.{standing}
+use Rattle.twins.specs.Among.{standsTo}
 use Rattle.twins.proofs.Rows.{pass-deep, pass-same}
 
 -- two numbers, by which is less
@@ -108,35 +108,35 @@ module _ (cat : Bytes) (x : Segment) where
   ]
 
   module _ (c : Segment) where
-    -- the cases of a standing
-    pub stands-more : typeNumber c < typeNumber x → Greater ≡ standing cat x c
-    unfolding standing
+    -- the cases of standsTo
+    pub stands-more : typeNumber c < typeNumber x → Greater ≡ standsTo cat x c
+    unfolding standsTo
     stands-more l = rw (lt-ltb (typeNumber c) (typeNumber x) l)
 
-    pub stands-twin : typeNumber x ≡ typeNumber c → keyOrder cat x c ≡ standing cat x c
-    unfolding standing
+    pub stands-twin : typeNumber x ≡ typeNumber c → keyOrder cat x c ≡ standsTo cat x c
+    unfolding standsTo
     stands-twin e = rw (le-ltb (typeNumber c) (typeNumber x) (omega arith), eq-eqb (typeNumber c) (typeNumber x) (sym e))
 
     module _ (l : typeNumber x < typeNumber c) where
-      pub stands-deep : segmentLevel cat x < segmentLevel cat c → Greater ≡ standing cat x c
-      unfolding standing
+      pub stands-deep : segmentLevel cat x < segmentLevel cat c → Greater ≡ standsTo cat x c
+      unfolding standsTo
       stands-deep h =
           rw (le-ltb (typeNumber c) (typeNumber x) (omega arith), ne-eqb (typeNumber c) (typeNumber x) (λ e. omega arith), lt-ltb (segmentLevel cat x) (segmentLevel cat c) h)
 
-      pub stands-less : segmentLevel cat c ≤ segmentLevel cat x → Smaller ≡ standing cat x c
-      unfolding standing
+      pub stands-less : segmentLevel cat c ≤ segmentLevel cat x → Smaller ≡ standsTo cat x c
+      unfolding standsTo
       stands-less h =
           rw (le-ltb (typeNumber c) (typeNumber x) (omega arith), ne-eqb (typeNumber c) (typeNumber x) (λ e. omega arith), le-ltb (segmentLevel cat x) (segmentLevel cat c) h)
 
     -- Smaller: x goes before it, or it is deeper
-    before-stands : segmentLevel cat c ≤ segmentLevel cat x → goesBefore cat x c ≡ isSmaller (standing cat x c)
+    before-stands : segmentLevel cat c ≤ segmentLevel cat x → goesBefore cat x c ≡ isSmaller (standsTo cat x c)
     before-stands h = elim (against (typeNumber x) (typeNumber c)) [
       | less l ↦ before-less c l ∙ ap isSmaller (stands-less l h)
       | same e ↦ before-same c e ∙ ap isSmaller (stands-twin e)
       | more l ↦ before-more c l ∙ ap isSmaller (stands-more l)
     ]
 
-    deep-stands : segmentLevel cat x < segmentLevel cat c → Greater ≡ standing cat x c
+    deep-stands : segmentLevel cat x < segmentLevel cat c → Greater ≡ standsTo cat x c
     deep-stands h = elim (against (typeNumber x) (typeNumber c)) [
       | less l ↦ stands-deep l h
       | same e ↦ absurd (omega (arith, same-level c e))
@@ -144,14 +144,14 @@ module _ (cat : Bytes) (x : Segment) where
     ]
 
     -- in a row no cell is less deep than x, and x passes those to which it does not stand Smaller
-    pub passes-stands : segmentLevel cat x ≤ segmentLevel cat c → passes (segmentLevel cat) x (goesBefore cat x) c ≡ not (isSmaller (standing cat x c))
+    pub passes-stands : segmentLevel cat x ≤ segmentLevel cat c → passes (segmentLevel cat) x (goesBefore cat x) c ≡ not (isSmaller (standsTo cat x c))
     passes-stands h = elim (side (segmentLevel cat x) (segmentLevel cat c)) [
       | inside l ↦ pass-deep (segmentLevel cat) x (goesBefore cat x) c l ∙ ap (λ (o : Order). not (isSmaller o)) (deep-stands l)
       | outside l ↦ pass-same (segmentLevel cat) x (goesBefore cat x) c (omega arith) ∙ ap not (before-stands l)
     ]
 
     -- Equal: c is a twin with its key
-    pub key-stands : sameKey cat x c ≡ isEqual (standing cat x c)
+    pub key-stands : sameKey cat x c ≡ isEqual (standsTo cat x c)
     key-stands = elim (against (typeNumber x) (typeNumber c)) [
       | less l ↦ key-other c (λ e. omega arith) ∙ elim (side (segmentLevel cat x) (segmentLevel cat c)) [
         | inside h ↦ ap isEqual (stands-deep l h)

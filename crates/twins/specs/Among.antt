@@ -32,8 +32,8 @@ pub data Beneath (cat tab : Bytes) (t : TypeCode) (from to : ℕ) : Type 0 where
 module _ (cat : Bytes) where
   -- how a new segment x stands to a cell c beneath its parent: Greater, it passes c, one of an earlier group or deeper than x; Smaller, it goes
   -- before c; Equal, c is a twin with its key
-  unfoldable pub standing : Segment → Segment → Order
-  standing x c =
+  unfoldable pub standsTo : Segment → Segment → Order
+  standsTo x c =
       pick (ltb (typeNumber c) (typeNumber x)) Greater
       (pick (eqb (typeNumber c) (typeNumber x)) (keyOrder cat x c)
       (pick (ltb (segmentLevel cat x) (segmentLevel cat c)) Greater Smaller))

@@ -18,7 +18,7 @@ ghost use Prim.Native.Nat.{_<_};
 ghost use Rattle.rules.specs.Catalogue.{level};
 ghost use Rattle.rules.specs.Cells.{segment, arriving, keyOrder};
 ghost use Rattle.rules.specs.Table.{count, listing};
-ghost use Rattle.twins.specs.Among.{New, Beneath, standing, placed, spotAmong};
+ghost use Rattle.twins.specs.Among.{New, Beneath, standsTo, placed, spotAmong};
 
 // The cell that the new segment becomes, and whether it has a unique key that a twin has already.
 pub struct Spot {
@@ -62,7 +62,7 @@ fn stands_to(
     c: CellNumber,
 ) -> Order
     requires { ⌜ New (now cat) (now tab) size t (now area) × (c .0 < count (now tab)) × (depth ≡ level (now cat) t) ⌝ }
-    ensures { λ r. ⌜ r ≡ standing (now (cat .entry)) (arriving (now (cat .entry)) t (now (area .entry)))
+    ensures { λ r. ⌜ r ≡ standsTo (now (cat .entry)) (arriving (now (cat .entry)) t (now (area .entry)))
         (segment (listing (now (cat .entry)) (now (tab .entry))) (c .0)) ⌝ }
 {
     let u = code_at(cat, tab, size, c);

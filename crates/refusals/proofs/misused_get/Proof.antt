@@ -15,15 +15,15 @@ returns : tie.Need-returns
 unfolding misusedGet
 returns c = simp (sym (c .before .is-short .ensures) ∙ c .if1 .taken)
 
--- src/lib.rt: if !is_within(number) {
-is-within-requires : tie.Need-is-within-requires
-is-within-requires c κs = search needs
+-- src/lib.rt: if !is_gnp(number) {
+is-gnp-requires : tie.Need-is-gnp-requires
+is-gnp-requires c κs = search needs
 
 -- src/lib.rt: return Status::Blank;
 returns-2 : tie.Need-returns-2
 unfolding misusedGet
 returns-2 c = let ·is-short = c .before .before .before .is-short in let ·if1 = c .before .before .if1 in
-    simp (sym (·is-short .ensures) ∙ ·if1 .left, sym (c .before .is-within .ensures) ∙ not-true _ (c .if2 .taken))
+    simp (sym (·is-short .ensures) ∙ ·if1 .left, sym (c .before .is-gnp .ensures) ∙ not-true _ (c .if2 .taken))
 
 -- src/lib.rt: if is_absent(parentage) {
 is-absent-requires : tie.Need-is-absent-requires
@@ -33,11 +33,11 @@ is-absent-requires c κs = search needs
 returns-3 : tie.Need-returns-3
 unfolding misusedGet
 returns-3 c = let ·is-short = c .before .before .before .before .before .is-short in
-    let ·if1 = c .before .before .before .before .if1 in let ·is-within = c .before .before .before .is-within in
+    let ·if1 = c .before .before .before .before .if1 in let ·is-gnp = c .before .before .before .is-gnp in
     let ·if2 = c .before .before .if2 in
     simp (
       sym (·is-short .ensures) ∙ ·if1 .left,
-      sym (·is-within .ensures) ∙ not-false _ (·if2 .left),
+      sym (·is-gnp .ensures) ∙ not-false _ (·if2 .left),
       sym
           (c .before .is-absent .ensures) ∙ c .if3 .taken,
     )
@@ -46,11 +46,11 @@ returns-3 c = let ·is-short = c .before .before .before .before .before .is-sho
 returns-4 : tie.Need-returns-4
 unfolding misusedGet
 returns-4 c = let ·is-short = c .before .before .before .before .before .is-short in
-    let ·if1 = c .before .before .before .before .if1 in let ·is-within = c .before .before .before .is-within in
+    let ·if1 = c .before .before .before .before .if1 in let ·is-gnp = c .before .before .before .is-gnp in
     let ·if2 = c .before .before .if2 in
     simp (
       sym (·is-short .ensures) ∙ ·if1 .left,
-      sym (·is-within .ensures) ∙ not-false _ (·if2 .left),
+      sym (·is-gnp .ensures) ∙ not-false _ (·if2 .left),
       sym
           (c .before .is-absent .ensures) ∙ c .if3 .left,
     )
@@ -61,7 +61,7 @@ misused-get-spec =
     (tie.spec
     is-short-requires
     returns
-    is-within-requires
+    is-gnp-requires
     returns-2
     is-absent-requires
     returns-3
