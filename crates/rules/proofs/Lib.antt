@@ -9,3 +9,4 @@ pub mod Search
 pub mod Tree
 pub mod Bench
 pub mod Change
+pub mod Block
