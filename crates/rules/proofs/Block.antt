@@ -130,7 +130,9 @@ record Eight (b : Bytes) : Type 0 where
 eight-of : (b : Bytes) → goodBlock b ≡ true → Eight b
 unfolding goodBlock
 eight-of b e =
-    let p = six (eqb (length b) 8) (leb (byte b 0) 1) (leb (byte b 3) 1) (leb (byte b 6) 1) (eqb (byte b 7) 0) (pick (eqb (byte b 3) 1) true (eqb (word b 4) 0)) e in
+    let p =
+    six (eqb (length b) 8) (leb (byte b 0) 1) (leb (byte b 3) 1) (leb (byte b 6) 1) (eqb (byte b 7) 0)
+    (pick (eqb (byte b 3) 1) true (eqb (word b 4) 0)) e in
     record {
       long = eqb-true (length b) 8 (p .0);
       kind = leb-true (byte b 0) 1 (p .1);

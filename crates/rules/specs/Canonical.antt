@@ -1,5 +1,6 @@
--- A position and its block of 8 bytes say the same. Every position is read back from its block; every block that is one is the block of the position that is read
--- from it, byte by byte; no other block stands for a position that is good in any table. Assumes nothing: these are definitions, and the proof is in proofs/.
+-- A position and its block of 8 bytes say the same. Every position is read back from its block; every block that is one is the block of the position that is
+-- read from it, byte by byte; no other block stands for a position that is good in any table. Assumes nothing: these are definitions, and the proof is in
+-- proofs/.
 use mathlib.Core.Path.{_≡_}
 use mathlib.Core.Bool.{true}
 use mathlib.Core.List.{List}

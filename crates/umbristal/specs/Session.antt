@@ -1,6 +1,6 @@
--- Checked once, sound for good, for a caller who holds the position as 8 bytes. A session is a row of calls, each on the table and the block that the one before
--- left. Where catalogue, table and the block's position are good at its start, `umbristal_call_sound` leaves at every call what `umbristal_call` leaves: the
--- result, the table, the block and the area, to the byte. Assumes nothing: these are definitions, and the proof is in proofs/.
+-- Checked once, sound for good, for a caller who holds the position as 8 bytes. A session is a row of calls, each on the table and the block that the one
+-- before left. Where catalogue, table and the block's position are good at its start, `umbristal_call_sound` leaves at every call what `umbristal_call`
+-- leaves: the result, the table, the block and the area, to the byte. Assumes nothing: these are definitions, and the proof is in proofs/.
 use mathlib.Core.Path.{_≡_}
 use mathlib.Core.Bool.{true}
 use mathlib.Core.List.{List, [], _∷_}
