@@ -6,7 +6,9 @@ use blocks::is_marked;
 use blocks::wide;
 use catalogue::entry_bytes::fields;
 use catalogue::entry_bytes::types;
+use terms::FieldNumber;
 use terms::Status;
+use terms::TypeCode;
 ghost use mathlib.Core.Path.{_≡_};
 ghost use mathlib.Core.Bool.{_&&_};
 ghost use lib.Dec.{leb};
@@ -56,7 +58,7 @@ fn good_types(cat: &[u8]) -> bool
     let mut k: u8 = 0;
     while k < top {
         k += 1;
-        if !good_type(cat, k) {
+        if !good_type(cat, TypeCode(k)) {
             return false;
         }
     }
@@ -70,7 +72,7 @@ fn good_fields(cat: &[u8]) -> bool
     let mut f: u8 = 0;
     while f < last {
         f += 1;
-        if !good_field(cat, f) {
+        if !good_field(cat, FieldNumber(f)) {
             return false;
         }
     }

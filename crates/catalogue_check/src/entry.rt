@@ -55,17 +55,17 @@ fn good_key(cat: &[u8], t: TypeCode) -> bool
 }
 
 // "Type 1 has parent 0 and no other has. The parent of type k > 1 is k - 1 or an ancestor of k - 1."
-fn good_parent(cat: &[u8], k: u8) -> bool
-    ensures { λ r. ⌜ r ≡ goodParent (now (cat .entry)) k ⌝ }
+fn good_parent(cat: &[u8], t: TypeCode) -> bool
+    ensures { λ r. ⌜ r ≡ goodParent (now (cat .entry)) (t .0) ⌝ }
 {
-    let above = parent(cat, TypeCode(k));
-    if k == 0 {
+    let above = parent(cat, t);
+    if t.0 == 0 {
         return false;
     }
-    if k == 1 {
+    if t.0 == 1 {
         return above.0 == 0;
     }
-    is_above(cat, above, TypeCode(k - 1))
+    is_above(cat, above, TypeCode(t.0 - 1))
 }
 
 // "data length L, 1 to 120"
@@ -92,36 +92,36 @@ fn ends_in_zeros(cat: &[u8], t: TypeCode) -> bool
     type_byte(cat, t, 7) == 0
 }
 
-pub fn good_type(cat: &[u8], k: u8) -> bool
-    ensures { λ r. ⌜ r ≡ goodType (now (cat .entry)) k ⌝ }
+pub fn good_type(cat: &[u8], t: TypeCode) -> bool
+    ensures { λ r. ⌜ r ≡ goodType (now (cat .entry)) (t .0) ⌝ }
 {
-    if !good_parent(cat, k) {
+    if !good_parent(cat, t) {
         return false;
     }
-    if !good_length(cat, TypeCode(k)) {
+    if !good_length(cat, t) {
         return false;
     }
-    if !good_key(cat, TypeCode(k)) {
+    if !good_key(cat, t) {
         return false;
     }
-    if !ends_in_zeros(cat, TypeCode(k)) {
+    if !ends_in_zeros(cat, t) {
         return false;
     }
-    level(cat, TypeCode(k)) <= 15
+    level(cat, t) <= 15
 }
 
 // "type code from 1 to T, start, length (same rule against that type's L), zero byte"
-pub fn good_field(cat: &[u8], f: u8) -> bool
-    ensures { λ r. ⌜ r ≡ goodField (now (cat .entry)) f ⌝ }
+pub fn good_field(cat: &[u8], f: FieldNumber) -> bool
+    ensures { λ r. ⌜ r ≡ goodField (now (cat .entry)) (f .0) ⌝ }
 {
-    let t = field_type(cat, FieldNumber(f));
+    let t = field_type(cat, f);
     if !is_type(cat, t) {
         return false;
     }
-    let start = field_start(cat, FieldNumber(f));
-    let long = field_length(cat, FieldNumber(f));
+    let start = field_start(cat, f);
+    let long = field_length(cat, f);
     if !good_span(start, long, data_length(cat, t)) {
         return false;
     }
-    field_byte(cat, FieldNumber(f), 3) == 0
+    field_byte(cat, f, 3) == 0
 }

@@ -10,3 +10,4 @@ pub mod Paths
 pub mod Tree
 pub mod Bench
 pub mod Change
+pub mod Block

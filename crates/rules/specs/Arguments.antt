@@ -7,7 +7,6 @@ use lib.ListN.{length}
 use Rattle.terms.specs.declared.TypeCode.{TypeCode}
 use Rattle.terms.specs.declared.FieldNumber.{FieldNumber}
 use Rattle.terms.specs.declared.Operator.{Operator}
-use Rattle.terms.specs.declared.Operator.the-variants.{Eq, Ne, Lt, Le, Gt, Ge}
 use Rattle.terms.specs.declared.Qualification.{Qualification}
 use Rattle.terms.specs.declared.Qualification.the-variants.{None, Test}
 use Rattle.terms.specs.declared.Argument.{Argument}
@@ -19,10 +18,8 @@ use Rattle.terms.specs.Choice.{pick}
 use Rattle.terms.specs.Names.{code, field, sameType}
 use Rattle.rules.specs.Block.{Bytes, byte, part}
 use Rattle.rules.specs.Catalogue.{fields, fieldType, fieldLength, isType, parentOf, typeBeneath, lineage}
-
 -- "operator (0 none, 1 =, 2 ≠, 3 <, 4 ≤, 5 >, 6 ≥)"
-unfoldable pub operatorOf : ℕ → Operator
-operatorOf b = pick (eqb b 1) Eq (pick (eqb b 2) Ne (pick (eqb b 3) Lt (pick (eqb b 4) Le (pick (eqb b 5) Gt Ge))))
+unfoldable pub use Rattle.terms.specs.Operators.{operatorOf}
 
 -- the list as far as it was read, and its fault: Blank, if it has none
 pub record ListRead : Type 0 where

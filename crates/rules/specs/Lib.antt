@@ -4,6 +4,7 @@ pub mod Catalogue
 pub mod Cells
 pub mod Table
 pub mod Position
+pub mod Canonical
 pub mod Arguments
 pub mod Matching
 pub mod Change

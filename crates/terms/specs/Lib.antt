@@ -1,5 +1,9 @@
 pub mod Choice
 pub mod Names
+pub mod Text
 pub mod Statuses
 pub mod Operators
 pub mod Moves
+pub mod Paper
+pub mod Printed
+pub mod Moved

@@ -43,6 +43,7 @@ impl Position {
         ensures { λ r. ⌜ r ≡ afterInsert (c .0) beneath self ⌝ }
     {
         let kept = self.parentage;
+        let none = Parentage::Absent;
         if beneath {
             Position {
                 place: Place::On(c),
@@ -52,7 +53,7 @@ impl Position {
         } else {
             Position {
                 place: Place::On(c),
-                parentage: Parentage::Absent,
+                parentage: none,
                 hold: false,
             }
         }

@@ -23,16 +23,16 @@ use Rattle.rules.specs.Block.{Bytes}
 use Rattle.rules.specs.Catalogue.{goodCatalogue}
 use Rattle.rules.specs.Cells.{Segment}
 use Rattle.rules.specs.Table.{listing, goodTable}
-use Rattle.rules.specs.Position.{goodPlace, goodParentage, goodPosition, goodBlock, positionOf, nowhere}
+use Rattle.rules.specs.Position.{goodPlace, goodParentage, goodPosition, goodBlock, positionOf}
 use Rattle.rules.specs.Outcome.{Outcome, isBlank, isIsrt, unsound, outcome, soundOutcome, blockAfter}
 use Rattle.rules.proofs.Cells.{listing-length}
+use Rattle.rules.proofs.Block.{canonical}
 use Rattle.encoding.specs.Determined.{IsBytes}
 use Rattle.encoding.proofs.Bytes.{table-room, table-count}
 use Rattle.model.specs.Kept.{Kept}
-use Rattle.model.proofs.Asked.{sound-of, good-place, good-parentage, good-hold, parent-before}
+use Rattle.model.proofs.Asked.{sound-of, good-place, good-parentage, parent-before}
 use Rattle.model.proofs.Kept.{tables-stay-good}
 use Rattle.position.specs.Block.{parentageNumber}
-use Rattle.position.proofs.Parts.{position-bad}
 use Rattle.answers.specs.Told.{stoppedAnswer}
 use Rattle.answers.specs.Ready.{SoundFor, made}
 use Rattle.dli.proofs.Calls.{call-stopped, call-on}
@@ -47,16 +47,6 @@ module _ (cat : Bytes) (cs : List Segment) where
   parent-near : (q : Place) (r : Parentage) → goodPlace cat cs q ≡ true → goodParentage cat cs q r ≡ true → parentageNumber r ≤ length cs
   parent-near q Absent g e = omega arith
   parent-near q (Of p) g e = omega (arith, parent-before cat cs q p g e .0)
-
-  -- a block that is none is good in no table
-  nowhere-bad : goodPosition cat cs nowhere ≡ true → ⊥
-  nowhere-bad e = true≢false (sym (good-hold cat cs nowhere e))
-
-  block-good : (b : Bytes) → goodPosition cat cs (positionOf b) ≡ true → goodBlock b ≡ true
-  block-good b e = elim (is (goodBlock b)) [
-    | on h ↦ h
-    | off h ↦ absurd (nowhere-bad (subst (λ (p : Position). goodPosition cat cs p ≡ true) (sym (position-bad b h)) e))
-  ]
 
 block-long : (b : Bytes) → goodBlock b ≡ true → length b ≡ 8
 unfolding goodBlock
@@ -105,7 +95,7 @@ module _ (cat tab block : Bytes) (c : ℕ) (list area : Bytes) where
       record {
         removed = omega (arith, k .counted, table-count cat tab good, table-room cat tab good, one-at-most (isIsrt c && isBlank (o .answer .status)));
         position = λ l. record {
-          long = block-long block (block-good cat (listing cat tab) block here);
+          long = block-long block (canonical .only cat (listing cat tab) block here);
           place = omega (arith, m, place-near cat cs (p .place) q);
           parent = omega (arith, m, parent-near cat cs (p .place) (p .parentage) q (good-parentage cat cs p (k .position)));
         };

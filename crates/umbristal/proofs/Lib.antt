@@ -2,3 +2,4 @@ pub mod Left
 pub mod Fitting
 pub mod Reports
 pub mod EmptyList
+pub mod Session

@@ -34,7 +34,7 @@ loop-holds c = (
 add-f : tie.Need-add-f Inv-loop μ-loop
 add-f c = omega arith
 
--- src/check.rt: if !good_field(cat, f) {
+-- src/check.rt: if !good_field(cat, FieldNumber(f)) {
 good-field-requires : tie.Need-good-field-requires Inv-loop μ-loop
 good-field-requires c κs = search needs
 

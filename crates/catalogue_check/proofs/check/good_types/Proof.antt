@@ -34,7 +34,7 @@ loop-holds c = (
 add-k : tie.Need-add-k Inv-loop μ-loop
 add-k c = omega arith
 
--- src/check.rt: if !good_type(cat, k) {
+-- src/check.rt: if !good_type(cat, TypeCode(k)) {
 good-type-requires : tie.Need-good-type-requires Inv-loop μ-loop
 good-type-requires c κs = search needs
 

@@ -1,11 +1,10 @@
-use mathlib.Core.Path.{sym}
-use Rattle.rules.specs.Catalogue.{goodField}
 use Rattle.blocks.proofs.Negated.{told-no, told-yes}
+use Rattle.catalogue_check.proofs.EntryTests.{field-no-type, field-no-span, field-last}
 use borrow.Author.Needs.{needs}
 use Rattle.catalogue_check.proofs.entry.good_field.Statement.{statement}
 use Rattle.catalogue_check.proofs.entry.good_field.Tie as tie
 
--- src/entry.rt: let t = field_type(cat, FieldNumber(f));
+-- src/entry.rt: let t = field_type(cat, f);
 field-type-requires : tie.Need-field-type-requires
 field-type-requires c κs = search needs
 
@@ -15,15 +14,16 @@ is-type-requires c κs = search needs
 
 -- src/entry.rt: return false;
 returns : tie.Need-returns
-unfolding goodField
-returns c = let ·field-type = c .before .before .field-type in
-    simp (sym (·field-type .ensures), told-no (c .before .is-type .ensures) (c .if1 .taken))
+returns c = let ·args = c .before .before .before .before .args in
+    let ·field-type = c .before .before .field-type in
+    field-no-type (·args .cat .now) (·args .f .0) (·field-type .result) (·field-type .ensures)
+    (told-no (c .before .is-type .ensures) (c .if1 .taken))
 
--- src/entry.rt: let start = field_start(cat, FieldNumber(f));
+-- src/entry.rt: let start = field_start(cat, f);
 field-start-requires : tie.Need-field-start-requires
 field-start-requires c κs = search needs
 
--- src/entry.rt: let long = field_length(cat, FieldNumber(f));
+-- src/entry.rt: let long = field_length(cat, f);
 field-length-requires : tie.Need-field-length-requires
 field-length-requires c κs = search needs
 
@@ -37,45 +37,34 @@ good-span-requires c κs = search needs
 
 -- src/entry.rt: return false;
 returns-2 : tie.Need-returns-2
-unfolding goodField
-returns-2 c = let ·field-type = c .before .before .before .before .before .before .before .field-type in
+returns-2 c = let ·args = c .before .before .before .before .before .before .before .before .before .args in
+    let ·field-type = c .before .before .before .before .before .before .before .field-type in
     let ·is-type = c .before .before .before .before .before .before .is-type in
     let ·if1 = c .before .before .before .before .before .if1 in
     let ·field-start = c .before .before .before .before .field-start in
     let ·field-length = c .before .before .before .field-length in let ·data-length = c .before .before .data-length in
-    simp (
-      sym (·field-type .ensures),
-      told-yes (·is-type .ensures) (·if1 .left),
-      sym (·field-start .ensures),
-      sym
-          (·field-length .ensures),
-      sym (·data-length .ensures),
-      told-no (c .before .good-span .ensures) (c .if2 .taken),
-    )
+    field-no-span (·args .cat .now) (·args .f .0) (·field-type .result) (·field-type .ensures)
+    (told-yes (·is-type .ensures) (·if1 .left)) (·field-start .result) (·field-length .result) (·data-length .result)
+    (·field-start .ensures) (·field-length .ensures) (·data-length .ensures)
+    (told-no (c .before .good-span .ensures) (c .if2 .taken))
 
--- src/entry.rt: field_byte(cat, FieldNumber(f), 3) == 0
+-- src/entry.rt: field_byte(cat, f, 3) == 0
 field-byte-requires : tie.Need-field-byte-requires
 field-byte-requires c κs = search needs
 
--- src/entry.rt: pub fn good_field(cat: &[u8], f: u8) -> bool
+-- src/entry.rt: pub fn good_field(cat: &[u8], f: FieldNumber) -> bool
 returns-3 : tie.Need-returns-3
-unfolding goodField
-returns-3 c = let ·field-type = c .before .before .before .before .before .before .before .before .field-type in
+returns-3 c = let ·args = c .before .before .before .before .before .before .before .before .before .before .args in
+    let ·field-type = c .before .before .before .before .before .before .before .before .field-type in
     let ·is-type = c .before .before .before .before .before .before .before .is-type in
     let ·if1 = c .before .before .before .before .before .before .if1 in
     let ·field-start = c .before .before .before .before .before .field-start in
     let ·field-length = c .before .before .before .before .field-length in
     let ·data-length = c .before .before .before .data-length in let ·good-span = c .before .before .good-span in
-    simp (
-      sym (·field-type .ensures),
-      told-yes (·is-type .ensures) (·if1 .left),
-      sym (·field-start .ensures),
-      sym
-          (·field-length .ensures),
-      sym (·data-length .ensures),
-      told-yes (·good-span .ensures) (c .before .if2 .left),
-      c .field-byte .ensures,
-    )
+    field-last (·args .cat .now) (·args .f .0) (·field-type .result) (·field-type .ensures)
+    (told-yes (·is-type .ensures) (·if1 .left)) (·field-start .result) (·field-length .result) (·data-length .result)
+    (·field-start .ensures) (·field-length .ensures) (·data-length .ensures)
+    (told-yes (·good-span .ensures) (c .before .if2 .left)) (c .field-byte .result) (c .field-byte .ensures)
 
 pub good-field-spec : {M : Type 1} → statement M
 good-field-spec =

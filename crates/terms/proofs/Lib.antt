@@ -1,0 +1,4 @@
+pub mod Rows
+pub mod StatusTable
+pub mod Signs
+pub mod Moved
