@@ -54,7 +54,7 @@ area-bytes = are-bytes area refl
 -- GN on the bench table is done, and is not refused
 pub not-refuses-all : Demand1 refusesAll → ⊥
 unfolding computed catalogue table firstGiven refusesAll
-not-refuses-all d = let z : _≡_ {A = ℕ} 20 0 = ap number (d catalogue table fresh 2 [] area .order) in omega arith
+not-refuses-all d = let z : _≡_ {A = ℕ} 20 0 = ap number (d .answers catalogue table fresh 2 [] area .order) in omega arith
 
 -- after cell 0 comes cell 1
 pub not-always-first : Demand2 alwaysFirst → ⊥
@@ -71,7 +71,7 @@ not-leaves-table d =
 -- behind cell 0 there is a match
 pub not-once : Demand1 once → ⊥
 unfolding computed catalogue table firstGiven once
-not-once d = let z : _≡_ {A = ℕ} 11 0 = ap number (d catalogue table (onCell 0) 2 [] area .order) in omega arith
+not-once d = let z : _≡_ {A = ℕ} 11 0 = ap number (d .answers catalogue table (onCell 0) 2 [] area .order) in omega arith
 
 -- on cell 3, with a hold: its run has three cells
 abbrev heldStep : Position

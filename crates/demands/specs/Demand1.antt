@@ -1,13 +1,14 @@
 -- DEMAND 1.
 --
 -- Every call on every input ends with a status of the table. Bad input is refused in a fixed order. A refusal of 20 or more changes no byte and no part of the
--- position; GB, GE and GP drop only the hold.
+-- position; GB, GE and GP drop only the hold. So it is with the position's block of 8 bytes, where a caller lends one.
 --
 -- Assumes nothing: this is the statement, for all inputs, good or not; the proof is in proofs/.
 use mathlib.Core.Path.{_≡_}
 use mathlib.Core.Bool.{Bool, true, _&&_, _||_, not}
 use Prim.Native.Nat.{ℕ, _<_, _≤_}
 use lib.Dec.{leb}
+use lib.ListN.{set}
 use Rattle.terms.specs.declared.Position.{Position}
 use Rattle.terms.specs.declared.Status.{Status}
 use Rattle.terms.specs.declared.Status.the-variants.{Blank, GA, GK, GB, GE, GP, CX, TX, PX, AD, AC, AJ, AK, AH, AB, DJ, DA, II, FX}
@@ -16,7 +17,9 @@ use Rattle.terms.specs.Moves.{holdDropped}
 use Rattle.forest.specs.Numbers.{isIn}
 use Rattle.forest.specs.Good.{isNil}
 use Rattle.rules.specs.Block.{Bytes}
-use Rattle.rules.specs.Outcome.{Outcome, Store}
+use Rattle.rules.specs.Position.{positionOf}
+use Rattle.rules.specs.Outcome.{Outcome, Store, blockAfter}
+use Rattle.encoding.specs.Determined.{IsBytes}
 use Rattle.demands.specs.StatusTable.{numbers, firstGiven, next, within, get, isrt, repl, dlet, statusTable}
 
 -- no byte of the table or the area has changed, the position is p, and "all four are 0"
@@ -64,6 +67,14 @@ pub record Answers (cat tab : Bytes) (pos : Position) (c : ℕ) (list area : Byt
   -- GB, GE and GP: 10, 11 and 12
   pub miss : 10 ≤ number (o .answer .status) → number (o .answer .status) < 20 → Untouched tab area (holdDropped pos) o
 
+-- what is asked of the block of 8 bytes, for a caller who lends the position as one: the bytes afterwards are blockAfter
+pub record AnswersBlock (block : Bytes) (o : Outcome) : Type 0 where
+  -- 20 and above: not one byte changes
+  pub refusal : 20 ≤ number (o .answer .status) → blockAfter block (o .answer) ≡ block
+  -- 10 to 12: byte 6, the hold, is 0, and no other changes
+  pub miss : 10 ≤ number (o .answer .status) → number (o .answer .status) < 20 → blockAfter block (o .answer) ≡ set block 6 0
+
 -- asked of a store
-abbrev pub Demand1 : Store → Type 0
-Demand1 store = (cat tab : Bytes) (pos : Position) (c : ℕ) (list area : Bytes) → Answers cat tab pos c list area (store cat tab pos c list area)
+pub record Demand1 (store : Store) : Type 0 where
+  pub answers : (cat tab : Bytes) (pos : Position) (c : ℕ) (list area : Bytes) → Answers cat tab pos c list area (store cat tab pos c list area)
+  pub blocks : (cat tab block : Bytes) (c : ℕ) (list area : Bytes) → IsBytes block → AnswersBlock block (store cat tab (positionOf block) c list area)

@@ -6,7 +6,7 @@ use mathlib.Core.Option.{Option, none, some}
 use Prim.Native.Nat.{ℕ, zero, suc, _+_}
 use native.Mathlib.Omega.{arith}
 use lib.Dec.{T, eqb, eqb→eq}
-use Rattle.terms.specs.Paper.{rowAt}
+use Rattle.terms.specs.Paper.{printedRow}
 
 both : (a b : Bool) → T (a && b) → T a × T b
 both true b h = (tt, h)
@@ -18,7 +18,7 @@ module _ {A : Type 0} (line : A → ℕ) where
   inLine k [] = true
   inLine k (r ∷ rs) = eqb (line r) k && inLine (suc k) rs
 
-  in-line : (k : ℕ) (rs : List A) → T (inLine k rs) → (i : ℕ) (r : A) → rowAt rs i ≡ some r → k + i ≡ line r
+  in-line : (k : ℕ) (rs : List A) → T (inLine k rs) → (i : ℕ) (r : A) → printedRow rs i ≡ some r → k + i ≡ line r
   in-line k [] h i r e = cc
   in-line k (q ∷ rs) h zero r e =
       let same : q ≡ r = cc in
@@ -30,5 +30,5 @@ module _ {A : Type 0} (line : A → ℕ) where
       omega arith
 
   -- LAW: where the rows name lines 0, 1 and so on, a row stands in the line that it names, and in no other
-  pub own-line : (rs : List A) → T (inLine 0 rs) → (i : ℕ) (r : A) → rowAt rs i ≡ some r → i ≡ line r
+  pub own-line : (rs : List A) → T (inLine 0 rs) → (i : ℕ) (r : A) → printedRow rs i ≡ some r → i ≡ line r
   own-line rs h i r e = let at : 0 + i ≡ line r = in-line 0 rs h i r e in omega arith

@@ -8,7 +8,7 @@ use Rattle.terms.specs.declared.Order.the-variants.{Smaller, Equal, Grea
 use Rattle.terms.specs.declared.Operator.{Operator}
 use Rattle.terms.specs.declared.Operator.the-variants.{Eq, Ne, Lt, Le, Gt, Ge}
 use Rattle.terms.specs.Operators.{holds, operatorOf, operatorNumber}
-use Rattle.terms.specs.Paper.{rowAt, OperatorRow, signed, operatorTable, says, truthTable}
+use Rattle.terms.specs.Paper.{printedRow, OperatorRow, signed, printedOperators, says, printedTruth}
 use Rattle.terms.specs.Printed.{OperatorsPrinted, OperatorsRead}
 use Rattle.terms.proofs.Rows.{own-line}
 
@@ -26,8 +26,8 @@ sign Gt = ">"
 sign Ge = "≥"
 
 -- CLAIM: the row of an operator's number is the operator's
-operator-rows : (o : Operator) → rowAt operatorTable (operatorNumber o) ≡ some (signed (operatorNumber o) (sign o) (some o))
-unfolding operatorTable
+operator-rows : (o : Operator) → printedRow printedOperators (operatorNumber o) ≡ some (signed (operatorNumber o) (sign o) (some o))
+unfolding printedOperators
 operator-rows Eq = refl
 operator-rows Ne = refl
 operator-rows Lt = refl
@@ -35,9 +35,9 @@ operator-rows Le = refl
 operator-rows Gt = refl
 operator-rows Ge = refl
 
-operator-once : (o : Operator) (i : ℕ) (r : OperatorRow) → rowAt operatorTable i ≡ some r → r .operator ≡ some o → i ≡ operatorNumber o
-unfolding operatorTable
-operator-once o i r there same = own-line (λ (q : OperatorRow). line (q .operator)) operatorTable tt i r there ∙ ap line same
+operator-once : (o : Operator) (i : ℕ) (r : OperatorRow) → printedRow printedOperators i ≡ some r → r .operator ≡ some o → i ≡ operatorNumber o
+unfolding printedOperators
+operator-once o i r there same = own-line (λ (q : OperatorRow). line (q .operator)) printedOperators tt i r there ∙ ap line same
 
 -- where the truth of a sign stands
 abbrev truthLine : Operator → ℕ
@@ -49,8 +49,8 @@ truthLine Gt = 4
 truthLine Ge = 5
 
 -- CLAIM: what holds is what the sign says
-truth-rows : (o : Operator) → rowAt truthTable (truthLine o) ≡ some (says (sign o) (holds o Smaller) (holds o Equal) (holds o Greater))
-unfolding truthTable
+truth-rows : (o : Operator) → printedRow printedTruth (truthLine o) ≡ some (says (sign o) (holds o Smaller) (holds o Equal) (holds o Greater))
+unfolding printedTruth
 truth-rows Eq = refl
 truth-rows Ne = refl
 truth-rows Lt = refl

@@ -9,7 +9,7 @@ use Rattle.terms.specs.declared.Status.{Status}
 use Rattle.terms.specs.declared.Status.the-variants.{Blank, GA, GK, GB, GE, GP, CX, TX, PX, AD, AC, AJ, AK, AH, AB, DJ, DA, II, FX}
 use Rattle.terms.specs.Choice.{pick}
 use Rattle.terms.specs.Statuses.{number, letters}
-use Rattle.terms.specs.Paper.{rowAt, StatusRow, statusTable}
+use Rattle.terms.specs.Paper.{printedRow, StatusRow, printedStatuses}
 use Rattle.terms.specs.Printed.{StatusesPrinted, NumbersApart, LettersApart}
 use Rattle.terms.proofs.Rows.{own-line}
 
@@ -36,8 +36,8 @@ line II = 17
 line FX = 18
 
 -- CLAIM: the row there holds its number and its letters
-status-rows : (s : Status) → rowAt statusTable (line s) ≡ some (record { status = s; number = number s; letters = letters s })
-unfolding statusTable
+status-rows : (s : Status) → printedRow printedStatuses (line s) ≡ some (record { status = s; number = number s; letters = letters s })
+unfolding printedStatuses
 status-rows Blank = refl
 status-rows GA = refl
 status-rows GK = refl
@@ -60,11 +60,11 @@ status-rows FX = refl
 
 -- THEOREM: the status table is as printed
 pub statuses-printed : StatusesPrinted
-unfolding statusTable
+unfolding printedStatuses
 statuses-printed s = record {
   line = line s;
   row = status-rows s;
-  once = λ i r there same. own-line (λ (q : StatusRow). line (q .status)) statusTable tt i r there ∙ ap line same;
+  once = λ i r there same. own-line (λ (q : StatusRow). line (q .status)) printedStatuses tt i r there ∙ ap line same;
 }
 
 -- the status of a number and of two letters, looked up in the table
@@ -79,8 +79,8 @@ abbrev byLetters : List ℕ → List StatusRow → Status
 byLetters l [] = Blank
 byLetters l (r ∷ rs) = pick (eqb (joined l) (joined (r .letters))) (r .status) (byLetters l rs)
 
-number-told : (s : Status) → byNumber (number s) statusTable ≡ s
-unfolding statusTable
+number-told : (s : Status) → byNumber (number s) printedStatuses ≡ s
+unfolding printedStatuses
 number-told Blank = refl
 number-told GA = refl
 number-told GK = refl
@@ -101,8 +101,8 @@ number-told DA = refl
 number-told II = refl
 number-told FX = refl
 
-letters-told : (s : Status) → byLetters (letters s) statusTable ≡ s
-unfolding statusTable
+letters-told : (s : Status) → byLetters (letters s) printedStatuses ≡ s
+unfolding printedStatuses
 letters-told Blank = refl
 letters-told GA = refl
 letters-told GK = refl
@@ -125,8 +125,8 @@ letters-told FX = refl
 
 -- THEOREM: no two statuses share a number
 pub numbers-apart : NumbersApart
-numbers-apart s t same = sym (number-told s) ∙ ap (λ (n : ℕ). byNumber n statusTable) same ∙ number-told t
+numbers-apart s t same = sym (number-told s) ∙ ap (λ (n : ℕ). byNumber n printedStatuses) same ∙ number-told t
 
 -- THEOREM: no two statuses share letters
 pub letters-apart : LettersApart
-letters-apart s t same = sym (letters-told s) ∙ ap (λ (l : List ℕ). byLetters l statusTable) same ∙ letters-told t
+letters-apart s t same = sym (letters-told s) ∙ ap (λ (l : List ℕ). byLetters l printedStatuses) same ∙ letters-told t

@@ -12,10 +12,10 @@ use Rattle.terms.specs.declared.Operator.the-variants.{Eq, Ne, Lt, Le, G
 use Rattle.terms.specs.Text.{bytesOf}
 
 -- row i of a table, counted from 0
-abbrev pub rowAt : {A : Type 0} → List A → ℕ → Option A
-rowAt [] i = none
-rowAt (r ∷ rs) zero = some r
-rowAt (r ∷ rs) (suc i) = rowAt rs i
+abbrev pub printedRow : {A : Type 0} → List A → ℕ → Option A
+printedRow [] i = none
+printedRow (r ∷ rs) zero = some r
+printedRow (r ∷ rs) (suc i) = printedRow rs i
 
 pub record StatusRow : Type 0 where
   pub status : Status
@@ -26,8 +26,8 @@ abbrev pub given : Status → ℕ → String → StatusRow
 given s n printed = record { status = s; number = n; letters = bytesOf printed }
 
 -- "| No. | Letters |", and "-- for blank"
-unfoldable pub statusTable : List StatusRow
-statusTable =
+unfoldable pub printedStatuses : List StatusRow
+printedStatuses =
     given Blank 0 "--"
     ∷ given GA 1 "GA"
     ∷ given GK 2 "GK"
@@ -58,8 +58,8 @@ abbrev pub signed : ℕ → String → Option Operator → OperatorRow
 signed n sign o = record { number = n; sign = sign; operator = o }
 
 -- "operator (0 none, 1 =, 2 ≠, 3 <, 4 ≤, 5 >, 6 ≥)"
-unfoldable pub operatorTable : List OperatorRow
-operatorTable =
+unfoldable pub printedOperators : List OperatorRow
+printedOperators =
     signed 0 "none" none
     ∷ signed 1 "=" (some Eq)
     ∷ signed 2 "≠" (some Ne)
@@ -79,8 +79,8 @@ pub record TruthRow : Type 0 where
 abbrev pub says : String → Bool → Bool → Bool → TruthRow
 says sign smaller equal greater = record { sign = sign; smaller = smaller; equal = equal; greater = greater }
 
-unfoldable pub truthTable : List TruthRow
-truthTable =
+unfoldable pub printedTruth : List TruthRow
+printedTruth =
     says "=" false true false
     ∷ says "≠" true false true
     ∷ says "<" true false false

@@ -9,13 +9,13 @@ use Rattle.terms.specs.declared.Order.the-variants.{Smaller, Equal, Grea
 use Rattle.terms.specs.declared.Operator.{Operator}
 use Rattle.terms.specs.Statuses.{number, letters}
 use Rattle.terms.specs.Operators.{holds, operatorOf, operatorNumber}
-use Rattle.terms.specs.Paper.{rowAt, StatusRow, statusTable, OperatorRow, operatorTable, signed, truthTable, says}
+use Rattle.terms.specs.Paper.{printedRow, StatusRow, printedStatuses, OperatorRow, printedOperators, signed, printedTruth, says}
 
 -- the row of a status holds its number and its letters, and no other row is of this status
 pub record StatusPrinted (s : Status) : Type 0 where
   pub line : ℕ
-  pub row : rowAt statusTable line ≡ some (record { status = s; number = number s; letters = letters s })
-  pub once : (i : ℕ) (r : StatusRow) → rowAt statusTable i ≡ some r → r .status ≡ s → i ≡ line
+  pub row : printedRow printedStatuses line ≡ some (record { status = s; number = number s; letters = letters s })
+  pub once : (i : ℕ) (r : StatusRow) → printedRow printedStatuses i ≡ some r → r .status ≡ s → i ≡ line
 
 abbrev pub StatusesPrinted : Type 0
 StatusesPrinted = (s : Status) → StatusPrinted s
@@ -30,10 +30,10 @@ LettersApart = (s t : Status) → letters s ≡ letters t → s ≡ t
 -- the row of an operator's number is the operator's, and no other is; what its sign says is what holds
 pub record OperatorPrinted (o : Operator) : Type 0 where
   pub sign : String
-  pub row : rowAt operatorTable (operatorNumber o) ≡ some (signed (operatorNumber o) sign (some o))
-  pub once : (i : ℕ) (r : OperatorRow) → rowAt operatorTable i ≡ some r → r .operator ≡ some o → i ≡ operatorNumber o
+  pub row : printedRow printedOperators (operatorNumber o) ≡ some (signed (operatorNumber o) sign (some o))
+  pub once : (i : ℕ) (r : OperatorRow) → printedRow printedOperators i ≡ some r → r .operator ≡ some o → i ≡ operatorNumber o
   pub line : ℕ
-  pub truth : rowAt truthTable line ≡ some (says sign (holds o Smaller) (holds o Equal) (holds o Greater))
+  pub truth : printedRow printedTruth line ≡ some (says sign (holds o Smaller) (holds o Equal) (holds o Greater))
 
 abbrev pub OperatorsPrinted : Type 0
 OperatorsPrinted = (o : Operator) → OperatorPrinted o

@@ -25,7 +25,7 @@ face-checked-once cat tab block (k ∷ ks) g bytes full good here =
     let kept : Kept cat tab (k .area) (k .call) o = tables-stay-good cat tab pos (k .call) (k .list) (k .area) g bytes (full .0) good here in
     let next : Bytes = blockAfter block (o .answer) in
     let read : positionOf next ≡ o .answer .position =
-    block-read block (o .answer) (λ h. demand1 cat tab pos (k .call) (k .list) (k .area) .refusal h .position) in
+    block-read block (o .answer) (λ h. demand1 .answers cat tab pos (k .call) (k .list) (k .area) .refusal h .position) in
     let there : goodPosition cat (listing cat (o .table)) (positionOf next) ≡ true =
     subst (λ (p : Position). goodPosition cat (listing cat (o .table)) p ≡ true) (sym read) (kept .position) in
     ap (_∷_ (leftOf block o)) (face-checked-once cat (o .table) next ks g (kept .bytes) (full .1) (kept .table) there)
