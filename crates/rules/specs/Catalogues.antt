@@ -6,7 +6,8 @@ use lib.ListN.{set}
 use Rattle.terms.specs.declared.Status.the-variants.{Blank, CX}
 use Rattle.rules.specs.Block.{Bytes}
 use Rattle.rules.specs.Bench.{catalogue}
-use Rattle.rules.specs.Further.{Further, catalogueIs, deepCatalogue}
+use Rattle.rules.specs.Cases.{Case, catalogueIs}
+use Rattle.rules.specs.Further.{deepCatalogue}
 
 -- the bench catalogue with v for byte i: type k begins at byte 8k, field f at byte 36 + 4f
 abbrev pub withByte : ℕ → ℕ → Bytes
@@ -28,7 +29,7 @@ firstBytes (suc n) = 1 ∷ 1 ∷ 1 ∷ 0 ∷ firstBytes n
 abbrev pub fieldCatalogue : ℕ → Bytes
 fieldCatalogue n = 0x48 ∷ 0x44 ∷ 0x43 ∷ 0 ∷ 1 ∷ 1 ∷ n ∷ 0 ∷ 0 ∷ 1 ∷ 0 ∷ 0 ∷ 0 ∷ 0 ∷ 0 ∷ 0 ∷ firstBytes n
 
-unfoldable pub ruled : List Further
+unfoldable pub ruled : List Case
 ruled =
     -- mark, version
     catalogueIs (withByte 0 0x68) CX

@@ -12,6 +12,7 @@ pub mod Outcome
 pub mod Listing
 pub mod Tree
 pub mod Computed
+pub mod Cases
 pub mod Bench
 pub mod Further
 pub mod Catalogues
