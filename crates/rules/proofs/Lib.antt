@@ -8,4 +8,5 @@ pub mod Cells
 pub mod Search
 pub mod Tree
 pub mod Bench
+pub mod Cases
 pub mod Change

@@ -1,7 +1,7 @@
 -- What a case says of a call, a check, the maker, the listing, and the test of a case. None of these is a rule: the tables of cases say what 01 says, each
 -- in a file of its own, and the claims stand in proofs/. Assumes nothing: these are definitions.
 use mathlib.Core.Bool.{Bool, true, false, _&&_, not}
-use mathlib.Core.List.{List, [], _∷_}
+use mathlib.Core.List.{List, [], _∷_, _++_}
 use Prim.Native.Nat.{ℕ}
 use Prim.Native.Char.{code as charCode}
 use Prim.Native.String as Text
@@ -20,7 +20,7 @@ use Rattle.rules.specs.Block.{Bytes}
 use Rattle.rules.specs.Table.{count, segmentAt}
 use Rattle.rules.specs.Position.{positionBytes, positionOf}
 use Rattle.rules.specs.Outcome.{Outcome, outcome, blockAfter, checkCatalogue, checkTable, makeStatus, madeTable}
-use Rattle.rules.specs.Listing.{listingText}
+use Rattle.rules.specs.Listing.{decimal, listingText}
 
 -- the bytes of a text
 abbrev pub ascii : Text.String → Bytes
@@ -67,7 +67,7 @@ pub record Step : Type 0 where
   pub says : List Says
 
 -- the listing's whole output on a catalogue and a table; calls one after the other, from a position or from its block; what the checks answer; what the
--- maker answers, and every byte that it leaves
+-- maker answers, and every byte that it leaves; the block of a position, and back; a number of the listing
 pub data Case : Type 0 where
   lists : Bytes → Bytes → Bytes → Case
   calls : Bytes → Bytes → Position → List Step → Case
@@ -75,6 +75,8 @@ pub data Case : Type 0 where
   catalogueIs : Bytes → Status → Case
   tableIs : Bytes → Bytes → Status → Case
   makes : Bytes → Bytes → Status → Bytes → Case
+  blockIs : Position → Bytes → Case
+  writes : ℕ → Bytes → Case
 
 -- each one passes the test
 abbrev pub all : {A : Type 0} → (A → Bool) → List A → Bool
@@ -149,10 +151,16 @@ right (lends cat tab lent steps) = runs cat tab lent (positionOf lent) steps
 right (catalogueIs cat s) = sameStatus (checkCatalogue cat) s
 right (tableIs cat tab s) = sameStatus (checkTable cat tab) s
 right (makes cat tab s made) = sameStatus (makeStatus cat tab) s && same (madeTable cat tab) made
+right (blockIs p b) = same (positionBytes p) b && samePosition p (positionOf b)
+right (writes n b) = same (decimal n) b
 
 -- what is told where nothing was got or changed: "For status 10 and above all four are 0."
 abbrev pub nothingTold : Says
 nothingTold = tells 0 0 0
+
+-- a table of cell size C with these n and cells
+abbrev pub tableOf : ℕ → ℕ → Bytes → Bytes
+tableOf c n cells = ascii "HDT" ++ (0 ∷ 1 ∷ c ∷ 0 ∷ n ∷ cells)
 
 -- an area longer than any L of the cases
 abbrev pub dots : Bytes

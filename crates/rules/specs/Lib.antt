@@ -16,3 +16,7 @@ pub mod Cases
 pub mod Bench
 pub mod Further
 pub mod Catalogues
+pub mod Positions
+pub mod Lists
+pub mod Compared
+pub mod Tables
