@@ -7,6 +7,8 @@ pub mod Entries
 pub mod Cells
 pub mod Search
 pub mod Tree
+pub mod Listing
+pub mod Outcome
 pub mod Bench
 pub mod Cases
 pub mod Change

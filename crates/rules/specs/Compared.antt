@@ -48,8 +48,8 @@ found list is = calls apart fiveKeys fresh (walk list is)
 abbrev replaces : Bytes → List Step
 replaces area = repl area (gives Blank ∷ contains 2 1 area ∷ []) ∷ []
 
-unfoldable pub comparisons : List Case
-comparisons =
+unfoldable pub comparisonCases : List Case
+comparisonCases =
     catalogueIs apart Blank
     ∷ catalogueIs several Blank
     -- 1 =, 2 ≠, 3 <, 4 ≤, 5 >, 6 ≥
@@ -92,5 +92,6 @@ comparisons =
     isrt (named 1) (ascii "0a0") (gives Blank ∷ place (upon 1) ∷ bytes (tableOf 4 3 (ascii "\u{1}2a2\u{1}0a0\u{1}1b1")) ∷ []) ∷ [])
     ∷ calls several (twoOf (ascii "2a2") (ascii "1b1")) fresh (isrt (named 1) (ascii "2b2") (gives Blank ∷ place (upon 2) ∷ []) ∷ [])
     ∷ calls several (twoOf (ascii "2a2") (ascii "1b1")) (position (upon 0) (parent 0) true) (repl (ascii "2b2") (gives DA ∷ []) ∷ [])
-    ∷ calls several (twoOf (ascii "2a2") (ascii "1b1")) (position (upon 0) (parent 0) true) (repl (ascii "3a3") (gives Blank ∷ contains 0 1 (ascii "3a3") ∷ []) ∷ [])
+    ∷ calls several (twoOf (ascii "2a2") (ascii "1b1")) (position (upon 0) (parent 0) true) (
+    repl (ascii "3a3") (gives Blank ∷ contains 0 1 (ascii "3a3") ∷ []) ∷ [])
     ∷ []

@@ -20,3 +20,9 @@ pub mod Positions
 pub mod Lists
 pub mod Compared
 pub mod Tables
+pub mod Gets
+pub mod Along
+pub mod Changes
+pub mod Refusals
+pub mod Listings
+pub mod Untrue

@@ -17,17 +17,17 @@ fault s list = calls catalogue table (position (upon 3) (parent 0) true) (
     gu list (gives s ∷ stands (position (upon 3) (parent 0) true) ∷ nothingTold ∷ []) ∷ [])
 
 -- GU with this list, from fresh, finds this cell
-abbrev finds : ℕ → Bytes → Case
-finds i list = calls catalogue table fresh (gu list (gives Blank ∷ place (upon i) ∷ []) ∷ [])
+abbrev reaches : ℕ → Bytes → Case
+reaches i list = calls catalogue table fresh (gu list (gives Blank ∷ place (upon i) ∷ []) ∷ [])
 
-unfoldable pub argumentLists : List Case
-argumentLists =
+unfoldable pub listCases : List Case
+listCases =
     -- "type not in 1..T": AC
     fault AC (named 0)
     ∷ fault AC (named 5)
     ∷ fault AC (named 255)
-    ∷ finds 0 (named 1)
-    ∷ finds 6 (named 4)
+    ∷ reaches 0 (named 1)
+    ∷ reaches 6 (named 4)
     -- "or not beneath the type before it": AC; a type is not beneath itself, nor beneath its child, its sibling or a sibling's child
     ∷ fault AC (named 2 ++ named 2)
     ∷ fault AC (named 2 ++ named 1)
@@ -39,17 +39,17 @@ argumentLists =
     ∷ fault AC (named 1 ++ named 2 ++ named 4)
     ∷ fault AC (named 1 ++ named 3 ++ named 2)
     -- a child and a grandchild lie beneath; the first argument may be any type
-    ∷ finds 2 (named 1 ++ named 2 ++ named 3)
-    ∷ finds 2 (named 1 ++ named 3)
-    ∷ finds 6 (named 1 ++ named 4)
-    ∷ finds 2 (named 2 ++ named 3)
-    ∷ finds 2 (named 3)
+    ∷ reaches 2 (named 1 ++ named 2 ++ named 3)
+    ∷ reaches 2 (named 1 ++ named 3)
+    ∷ reaches 6 (named 1 ++ named 4)
+    ∷ reaches 2 (named 2 ++ named 3)
+    ∷ reaches 2 (named 3)
     -- "operator missing or above 6": AJ, with a field and a value that would do for another
     ∷ fault AJ (1 ∷ [])
     ∷ fault AJ (named 1 ++ (2 ∷ []))
     ∷ fault AJ (1 ∷ 7 ∷ 1 ∷ ascii "07")
     ∷ fault AJ (1 ∷ 255 ∷ 1 ∷ ascii "07")
-    ∷ finds 0 (1 ∷ 6 ∷ 1 ∷ ascii "07")
+    ∷ reaches 0 (1 ∷ 6 ∷ 1 ∷ ascii "07")
     -- "field number missing": AJ
     ∷ fault AJ (1 ∷ 1 ∷ [])
     ∷ fault AJ (1 ∷ 6 ∷ [])
@@ -60,15 +60,15 @@ argumentLists =
     ∷ fault AK (1 ∷ 1 ∷ 2 ∷ ascii "07")
     ∷ fault AK (2 ∷ 1 ∷ 1 ∷ ascii "14")
     ∷ fault AK (4 ∷ 1 ∷ 3 ∷ ascii "n")
-    ∷ finds 1 (2 ∷ 1 ∷ 4 ∷ ascii "P")
+    ∷ reaches 1 (2 ∷ 1 ∷ 4 ∷ ascii "P")
     -- a catalogue without fields
     ∷ calls (fieldCatalogue 0) (tableOf 2 0 []) fresh (gu (1 ∷ 1 ∷ 1 ∷ ascii "a") (gives AK ∷ []) ∷ [])
     -- "value cut short": AJ; "as many value bytes as that field has"
     ∷ fault AJ (1 ∷ 1 ∷ 1 ∷ [])
     ∷ fault AJ (1 ∷ 1 ∷ 1 ∷ ascii "0")
     ∷ fault AJ (3 ∷ 1 ∷ 3 ∷ [])
-    ∷ finds 0 unit07
-    ∷ finds 2 (3 ∷ 1 ∷ 3 ∷ ascii "P")
+    ∷ reaches 0 unit07
+    ∷ reaches 2 (3 ∷ 1 ∷ 3 ∷ ascii "P")
     -- inside one argument: type, operator, field number, value, though what follows it is faulty too or not there
     ∷ fault AC (5 ∷ [])
     ∷ fault AC (5 ∷ 7 ∷ [])
@@ -91,13 +91,13 @@ argumentLists =
     ∷ fault AJ (unit07 ++ (2 ∷ 9 ∷ []))
     ∷ fault AK (unit07 ++ (2 ∷ 1 ∷ 1 ∷ ascii "14"))
     ∷ fault AJ (unit07 ++ (2 ∷ 1 ∷ 2 ∷ ascii "1"))
-    ∷ finds 3 (unit07 ++ step14)
+    ∷ reaches 3 (unit07 ++ step14)
     -- the next argument begins behind the value: a value byte is no type
-    ∷ finds 4 (2 ∷ 1 ∷ 2 ∷ ascii "14" ++ named 3)
+    ∷ reaches 4 (2 ∷ 1 ∷ 2 ∷ ascii "14" ++ named 3)
     ∷ calls catalogue table fresh (gu (2 ∷ 1 ∷ 2 ∷ 3 ∷ 0 ∷ []) (gives GE ∷ []) ∷ [])
     -- "it and its ancestors satisfy every argument for their type"
-    ∷ finds 5 (unit07 ++ step14 ++ (3 ∷ 1 ∷ 3 ∷ ascii "P"))
-    ∷ finds 8 (1 ∷ 1 ∷ 1 ∷ ascii "09" ++ step14)
+    ∷ reaches 5 (unit07 ++ step14 ++ (3 ∷ 1 ∷ 3 ∷ ascii "P"))
+    ∷ reaches 8 (1 ∷ 1 ∷ 1 ∷ ascii "09" ++ step14)
     ∷ calls catalogue table fresh (gu (1 ∷ 1 ∷ 1 ∷ ascii "09" ++ named 3) (gives GE ∷ []) ∷ [])
     ∷ calls catalogue table fresh (gu (1 ∷ 1 ∷ 1 ∷ ascii "09" ++ named 4) (gives GE ∷ []) ∷ [])
     ∷ []

@@ -10,69 +10,69 @@ use Rattle.rules.specs.Cases.{Case, calls, lends, blockIs, gives, remove
 use Rattle.rules.specs.Bench.{catalogue, table, empty}
 
 -- in the bench table: PX, and nothing changed; or the call is done
-abbrev bad : Position → Case
-bad p = calls catalogue table p (gu [] (gives PX ∷ stands p ∷ nothingTold ∷ removes 0 ∷ []) ∷ [])
+abbrev badFrom : Position → Case
+badFrom p = calls catalogue table p (gu [] (gives PX ∷ stands p ∷ nothingTold ∷ removes 0 ∷ []) ∷ [])
 
-abbrev good : Position → Case
-good p = calls catalogue table p (gu [] (gives Blank ∷ []) ∷ [])
+abbrev goodFrom : Position → Case
+goodFrom p = calls catalogue table p (gu [] (gives Blank ∷ []) ∷ [])
 
 -- a block that is none: PX, and it stays as it is
 abbrev badBlock : Bytes → Case
 badBlock b = lends catalogue table b (gu [] (gives PX ∷ block b ∷ []) ∷ [])
 
-unfoldable pub positions : List Case
-positions =
+unfoldable pub positionCases : List Case
+positionCases =
     -- "The place is either on a cell i < n or in the gap before cell i, i ≤ n." n = 9
-    good (position (upon 0) Absent false)
-    ∷ good (position (upon 8) Absent false)
-    ∷ bad (position (upon 9) Absent false)
-    ∷ bad (position (upon 12) Absent false)
-    ∷ good (position (gap 0) Absent false)
-    ∷ good (position (gap 9) Absent false)
-    ∷ bad (position (gap 10) Absent false)
+    goodFrom (position (upon 0) Absent false)
+    ∷ goodFrom (position (upon 8) Absent false)
+    ∷ badFrom (position (upon 9) Absent false)
+    ∷ badFrom (position (upon 12) Absent false)
+    ∷ goodFrom (position (gap 0) Absent false)
+    ∷ goodFrom (position (gap 9) Absent false)
+    ∷ badFrom (position (gap 10) Absent false)
     -- in a table of no cells
     ∷ calls catalogue empty (position (gap 0) Absent false) (gn [] (gives GB ∷ []) ∷ [])
     ∷ calls catalogue empty (position (upon 0) Absent false) (gn [] (gives PX ∷ []) ∷ [])
     ∷ calls catalogue empty (position (gap 1) Absent false) (gn [] (gives PX ∷ []) ∷ [])
     -- "On cell i, p is i or an ancestor of it": cell 5 lies beneath 3 and 0; 4 is its twin, 1 its parent's twin, 6 and 7 come later
-    ∷ good (position (upon 5) (parent 5) false)
-    ∷ good (position (upon 5) (parent 3) false)
-    ∷ good (position (upon 5) (parent 0) false)
-    ∷ bad (position (upon 5) (parent 4) false)
-    ∷ bad (position (upon 5) (parent 1) false)
-    ∷ bad (position (upon 5) (parent 2) false)
-    ∷ bad (position (upon 5) (parent 6) false)
-    ∷ bad (position (upon 5) (parent 7) false)
-    ∷ bad (position (upon 5) (parent 9) false)
+    ∷ goodFrom (position (upon 5) (parent 5) false)
+    ∷ goodFrom (position (upon 5) (parent 3) false)
+    ∷ goodFrom (position (upon 5) (parent 0) false)
+    ∷ badFrom (position (upon 5) (parent 4) false)
+    ∷ badFrom (position (upon 5) (parent 1) false)
+    ∷ badFrom (position (upon 5) (parent 2) false)
+    ∷ badFrom (position (upon 5) (parent 6) false)
+    ∷ badFrom (position (upon 5) (parent 7) false)
+    ∷ badFrom (position (upon 5) (parent 9) false)
     -- a cell beneath it is no ancestor, nor is an earlier root
-    ∷ bad (position (upon 3) (parent 4) false)
-    ∷ bad (position (upon 0) (parent 1) false)
-    ∷ bad (position (upon 8) (parent 0) false)
-    ∷ good (position (upon 8) (parent 7) false)
+    ∷ badFrom (position (upon 3) (parent 4) false)
+    ∷ badFrom (position (upon 0) (parent 1) false)
+    ∷ badFrom (position (upon 8) (parent 0) false)
+    ∷ goodFrom (position (upon 8) (parent 7) false)
     -- "In gap i, p < i"
-    ∷ bad (position (gap 0) (parent 0) false)
-    ∷ bad (position (gap 3) (parent 3) false)
-    ∷ bad (position (gap 3) (parent 5) false)
-    ∷ bad (position (gap 9) (parent 9) false)
-    ∷ good (position (gap 1) (parent 0) false)
-    ∷ good (position (gap 2) (parent 1) false)
+    ∷ badFrom (position (gap 0) (parent 0) false)
+    ∷ badFrom (position (gap 3) (parent 3) false)
+    ∷ badFrom (position (gap 3) (parent 5) false)
+    ∷ badFrom (position (gap 9) (parent 9) false)
+    ∷ goodFrom (position (gap 1) (parent 0) false)
+    ∷ goodFrom (position (gap 2) (parent 1) false)
     -- "and i is at most the end of p's run": the run of 1 ends at 3, of 3 at 6, of 0 at 7, of 7 and 8 at n
-    ∷ good (position (gap 3) (parent 1) false)
-    ∷ bad (position (gap 4) (parent 1) false)
-    ∷ good (position (gap 6) (parent 3) false)
-    ∷ bad (position (gap 7) (parent 3) false)
-    ∷ good (position (gap 7) (parent 0) false)
-    ∷ bad (position (gap 8) (parent 0) false)
-    ∷ good (position (gap 9) (parent 7) false)
-    ∷ good (position (gap 9) (parent 8) false)
-    ∷ bad (position (gap 9) (parent 0) false)
+    ∷ goodFrom (position (gap 3) (parent 1) false)
+    ∷ badFrom (position (gap 4) (parent 1) false)
+    ∷ goodFrom (position (gap 6) (parent 3) false)
+    ∷ badFrom (position (gap 7) (parent 3) false)
+    ∷ goodFrom (position (gap 7) (parent 0) false)
+    ∷ badFrom (position (gap 8) (parent 0) false)
+    ∷ goodFrom (position (gap 9) (parent 7) false)
+    ∷ goodFrom (position (gap 9) (parent 8) false)
+    ∷ badFrom (position (gap 9) (parent 0) false)
     -- "a hold, which needs a place on a cell", with a parentage or without
-    ∷ good (position (upon 3) (parent 3) true)
-    ∷ good (position (upon 3) (parent 0) true)
-    ∷ good (position (upon 3) Absent true)
-    ∷ bad (position (gap 3) Absent true)
-    ∷ bad (position (gap 3) (parent 1) true)
-    ∷ bad (position (gap 9) Absent true)
+    ∷ goodFrom (position (upon 3) (parent 3) true)
+    ∷ goodFrom (position (upon 3) (parent 0) true)
+    ∷ goodFrom (position (upon 3) Absent true)
+    ∷ badFrom (position (gap 3) Absent true)
+    ∷ badFrom (position (gap 3) (parent 1) true)
+    ∷ badFrom (position (gap 9) Absent true)
     -- the block: place kind, cell number, high byte first, parentage, its cell number, hold, zero
     ∷ blockIs (position (gap 0) Absent false) (0 ∷ 0 ∷ 0 ∷ 0 ∷ 0 ∷ 0 ∷ 0 ∷ 0 ∷ [])
     ∷ blockIs (position (upon 300) (parent 258) true) (1 ∷ 1 ∷ 44 ∷ 1 ∷ 1 ∷ 2 ∷ 1 ∷ 0 ∷ [])
@@ -84,7 +84,7 @@ positions =
     dlet (gives Blank ∷ block (0 ∷ 0 ∷ 3 ∷ 1 ∷ 0 ∷ 0 ∷ 0 ∷ 0 ∷ []) ∷ [])
     ∷ ghnp [] (gives Blank ∷ block (1 ∷ 0 ∷ 3 ∷ 1 ∷ 0 ∷ 0 ∷ 1 ∷ 0 ∷ []) ∷ []) ∷ [])
     ∷ lends catalogue table (1 ∷ 0 ∷ 8 ∷ 0 ∷ 0 ∷ 0 ∷ 1 ∷ 0 ∷ []) (gn [] (gives GB ∷ block (1 ∷ 0 ∷ 8 ∷ 0 ∷ 0 ∷ 0 ∷ 0 ∷ 0 ∷ []) ∷ []) ∷ [])
-    -- "Anything else is a bad position": no 8 bytes, another kind, a number without a parentage, a last byte
+    -- "Anything else is a badFrom position": no 8 bytes, another kind, a number without a parentage, a last byte
     ∷ badBlock []
     ∷ badBlock (0 ∷ 0 ∷ 0 ∷ 0 ∷ 0 ∷ 0 ∷ 0 ∷ [])
     ∷ badBlock (0 ∷ 0 ∷ 0 ∷ 0 ∷ 0 ∷ 0 ∷ 0 ∷ 0 ∷ 0 ∷ [])

@@ -35,11 +35,11 @@ free = 0 ∷ 0 ∷ 0 ∷ 0 ∷ []
 abbrev pub benchOf : ℕ → Bytes → Bytes
 benchOf n cells = tableOf 4 n cells
 
-abbrev bad : Bytes → Case
-bad tab = tableIs catalogue tab TX
+abbrev badTab : Bytes → Case
+badTab tab = tableIs catalogue tab TX
 
-abbrev good : Bytes → Case
-good tab = tableIs catalogue tab Blank
+abbrev goodTab : Bytes → Case
+goodTab tab = tableIs catalogue tab Blank
 
 -- three types of 2, 4 and 3 bytes, one beneath the other: C = 5
 unfoldable pub threeLengths : Bytes
@@ -51,33 +51,33 @@ threeLengths =
 abbrev refusedTable : List Says
 refusedTable = gives TX ∷ nothingTold ∷ stands (position (upon 0) (parent 0) true) ∷ []
 
-unfoldable pub tables : List Case
-tables =
+unfoldable pub tableCases : List Case
+tableCases =
     -- "Mark "HDT", 16-bit version 1, byte 5 the cell size C"
-    good table
-    ∷ bad (set table 0 0x68)
-    ∷ bad (set table 1 0x45)
-    ∷ bad (set table 2 0x43)
-    ∷ bad (set table 3 1)
-    ∷ bad (set table 4 0)
-    ∷ bad (set table 4 2)
-    ∷ bad (set table 5 3)
-    ∷ bad (set table 5 5)
+    goodTab table
+    ∷ badTab (set table 0 0x68)
+    ∷ badTab (set table 1 0x45)
+    ∷ badTab (set table 2 0x43)
+    ∷ badTab (set table 3 1)
+    ∷ badTab (set table 4 0)
+    ∷ badTab (set table 4 2)
+    ∷ badTab (set table 5 3)
+    ∷ badTab (set table 5 5)
     -- "bytes 6 and 7 the count n, high byte first", "n is at most M": 13, 256 and 9 + 256 are above 12
-    ∷ bad (set table 7 13)
-    ∷ bad (set (set table 6 1) 7 0)
-    ∷ bad (set table 6 1)
-    ∷ good (benchOf 2 (unit "07A" ++ step "13P"))
-    ∷ bad (benchOf 3 (unit "07A" ++ step "13P"))
+    ∷ badTab (set table 7 13)
+    ∷ badTab (set (set table 6 1) 7 0)
+    ∷ badTab (set table 6 1)
+    ∷ goodTab (benchOf 2 (unit "07A" ++ step "13P"))
+    ∷ badTab (benchOf 3 (unit "07A" ++ step "13P"))
     -- "the slice is exactly 8 + M·C bytes"
-    ∷ bad []
-    ∷ bad (take 7 table)
-    ∷ good (benchOf 0 [])
-    ∷ bad (benchOf 0 (0 ∷ []))
-    ∷ bad (table ++ (0 ∷ []))
-    ∷ bad (table ++ (0 ∷ 0 ∷ 0 ∷ []))
-    ∷ good (table ++ free)
-    ∷ bad (take 55 table)
+    ∷ badTab []
+    ∷ badTab (take 7 table)
+    ∷ goodTab (benchOf 0 [])
+    ∷ badTab (benchOf 0 (0 ∷ []))
+    ∷ badTab (table ++ (0 ∷ []))
+    ∷ badTab (table ++ (0 ∷ 0 ∷ 0 ∷ []))
+    ∷ goodTab (table ++ free)
+    ∷ badTab (take 55 table)
     -- "C is 1 plus the largest L", wherever it stands, and whether or not that type has a segment
     ∷ tableIs threeLengths (tableOf 5 0 []) Blank
     ∷ tableIs threeLengths (tableOf 3 0 []) TX
@@ -92,38 +92,38 @@ tables =
     ∷ tableIs threeLengths (tableOf 5 2 (1 ∷ ascii "ab" ++ (0 ∷ 0 ∷ []) ++ (1 ∷ ascii "ab" ++ (1 ∷ 0 ∷ [])))) TX
     ∷ tableIs threeLengths (tableOf 5 2 (1 ∷ ascii "ab" ++ (1 ∷ 0 ∷ []) ++ (1 ∷ ascii "ab" ++ (0 ∷ 0 ∷ [])))) TX
     -- a type that is none: 0, or above T (the bytes of an entry 5 would be those of field 1, a child of type 1)
-    ∷ bad (benchOf 2 (unit "07A" ++ free))
-    ∷ bad (benchOf 2 (unit "07A" ++ (5 ∷ ascii "n" ++ (0 ∷ 0 ∷ []))))
-    ∷ bad (benchOf 1 free)
+    ∷ badTab (benchOf 2 (unit "07A" ++ free))
+    ∷ badTab (benchOf 2 (unit "07A" ++ (5 ∷ ascii "n" ++ (0 ∷ 0 ∷ []))))
+    ∷ badTab (benchOf 1 free)
     -- "Cells n and above are all zero": the first byte after the cells and the last of all
-    ∷ bad (benchOf 1 (unit "07A" ++ unit "08A"))
-    ∷ bad (benchOf 1 (unit "07A" ++ (1 ∷ 0 ∷ 0 ∷ 0 ∷ []) ++ free))
-    ∷ bad (benchOf 1 (unit "07A" ++ free ++ (0 ∷ 0 ∷ 0 ∷ 1 ∷ [])))
-    ∷ bad (benchOf 0 (0 ∷ 0 ∷ 0 ∷ 1 ∷ []))
+    ∷ badTab (benchOf 1 (unit "07A" ++ unit "08A"))
+    ∷ badTab (benchOf 1 (unit "07A" ++ (1 ∷ 0 ∷ 0 ∷ 0 ∷ []) ++ free))
+    ∷ badTab (benchOf 1 (unit "07A" ++ free ++ (0 ∷ 0 ∷ 0 ∷ 1 ∷ [])))
+    ∷ badTab (benchOf 0 (0 ∷ 0 ∷ 0 ∷ 1 ∷ []))
     -- "The top is one group of type 1"
-    ∷ bad (benchOf 1 (step "13P"))
-    ∷ bad (benchOf 1 (note "n"))
-    ∷ bad (benchOf 2 (step "13P" ++ unit "07A"))
-    ∷ good (benchOf 2 (unit "07A" ++ unit "08A"))
+    ∷ badTab (benchOf 1 (step "13P"))
+    ∷ badTab (benchOf 1 (note "n"))
+    ∷ badTab (benchOf 2 (step "13P" ++ unit "07A"))
+    ∷ goodTab (benchOf 2 (unit "07A" ++ unit "08A"))
     -- "a segment is its cell followed by its groups of child types": no level is skipped, no other type's child stands there
-    ∷ bad (benchOf 2 (unit "07A" ++ try "P1"))
-    ∷ bad (benchOf 3 (unit "07A" ++ note "n" ++ try "P1"))
-    ∷ good (benchOf 3 (unit "07A" ++ step "13P" ++ try "P1"))
+    ∷ badTab (benchOf 2 (unit "07A" ++ try "P1"))
+    ∷ badTab (benchOf 3 (unit "07A" ++ note "n" ++ try "P1"))
+    ∷ goodTab (benchOf 3 (unit "07A" ++ step "13P" ++ try "P1"))
     -- "in ascending code", one group of each
-    ∷ good (benchOf 3 (unit "07A" ++ step "13P" ++ note "n"))
-    ∷ bad (benchOf 3 (unit "07A" ++ note "n" ++ step "13P"))
-    ∷ bad (benchOf 4 (unit "07A" ++ step "13P" ++ note "n" ++ step "14P"))
+    ∷ goodTab (benchOf 3 (unit "07A" ++ step "13P" ++ note "n"))
+    ∷ badTab (benchOf 3 (unit "07A" ++ note "n" ++ step "13P"))
+    ∷ badTab (benchOf 4 (unit "07A" ++ step "13P" ++ note "n" ++ step "14P"))
     -- "Twins with a unique key ascend strictly": equal, descending, with cells beneath between them, and at the top
-    ∷ bad (benchOf 3 (unit "07A" ++ step "13P" ++ step "13Q"))
-    ∷ bad (benchOf 3 (unit "07A" ++ step "14P" ++ step "13P"))
-    ∷ bad (benchOf 4 (unit "07A" ++ step "14P" ++ try "P1" ++ step "13P"))
-    ∷ bad (benchOf 4 (unit "07A" ++ step "14P" ++ try "P1" ++ step "14Q"))
-    ∷ bad (benchOf 2 (unit "07A" ++ unit "07B"))
-    ∷ bad (benchOf 2 (unit "08A" ++ unit "07B"))
-    ∷ bad (benchOf 3 (unit "07A" ++ unit "09A" ++ unit "08A"))
-    ∷ good (benchOf 4 (unit "07A" ++ step "14P" ++ unit "08A" ++ step "13P"))
+    ∷ badTab (benchOf 3 (unit "07A" ++ step "13P" ++ step "13Q"))
+    ∷ badTab (benchOf 3 (unit "07A" ++ step "14P" ++ step "13P"))
+    ∷ badTab (benchOf 4 (unit "07A" ++ step "14P" ++ try "P1" ++ step "13P"))
+    ∷ badTab (benchOf 4 (unit "07A" ++ step "14P" ++ try "P1" ++ step "14Q"))
+    ∷ badTab (benchOf 2 (unit "07A" ++ unit "07B"))
+    ∷ badTab (benchOf 2 (unit "08A" ++ unit "07B"))
+    ∷ badTab (benchOf 3 (unit "07A" ++ unit "09A" ++ unit "08A"))
+    ∷ goodTab (benchOf 4 (unit "07A" ++ step "14P" ++ unit "08A" ++ step "13P"))
     -- "without a key any order stands"
-    ∷ good (benchOf 4 (unit "07A" ++ note "n" ++ note "m" ++ note "m"))
+    ∷ goodTab (benchOf 4 (unit "07A" ++ note "n" ++ note "m" ++ note "m"))
     -- CX comes before TX
     ∷ tableIs (deepCatalogue 16) (take 7 table) CX
     ∷ tableIs [] [] CX
@@ -141,8 +141,8 @@ tables =
 abbrev lentSlice : ℕ → Bytes
 lentSlice k = replicate k 7
 
-unfoldable pub makings : List Case
-makings =
+unfoldable pub makerCases : List Case
+makerCases =
     -- "else header and zeros", every byte: M = 0, 1 and 3, C = 4; and C = 5
     makes catalogue (lentSlice 8) Blank (ascii "HDT" ++ (0 ∷ 1 ∷ 4 ∷ 0 ∷ 0 ∷ []))
     ∷ makes catalogue (lentSlice 12) Blank (ascii "HDT" ++ (0 ∷ 1 ∷ 4 ∷ 0 ∷ 0 ∷ 0 ∷ 0 ∷ 0 ∷ 0 ∷ []))
@@ -150,7 +150,7 @@ makings =
     ∷ makes threeLengths (lentSlice 13) Blank (ascii "HDT" ++ (0 ∷ 1 ∷ 5 ∷ 0 ∷ 0 ∷ 0 ∷ 0 ∷ 0 ∷ 0 ∷ 0 ∷ []))
     -- a table that was there is written over
     ∷ makes catalogue table Blank (ascii "HDT" ++ (0 ∷ 1 ∷ 4 ∷ 0 ∷ 0 ∷ []) ++ replicate 48 0)
-    -- what it made is a good table of no cells
+    -- what it made is a goodTab table of no cells
     ∷ calls catalogue (ascii "HDT" ++ (0 ∷ 1 ∷ 4 ∷ 0 ∷ 0 ∷ []) ++ free) (position (gap 0) Absent false) (gn [] (gives GB ∷ []) ∷ [])
     -- "TX when the slice length fits no M, and then writes nothing"
     ∷ makes catalogue [] TX []
