@@ -14,7 +14,7 @@ use Rattle.rules.specs.Changes.{insertCases, replaceCases, deleteCases}
 use Rattle.rules.specs.Refusals.{refusalCases, orderCases}
 use Rattle.rules.specs.Listings.{listingCases}
 use Rattle.rules.specs.Untrue.{untrueCases}
-use Rattle.rules.specs.Further.{stepNote, full}
+use Rattle.rules.specs.Further.{stepNote, full, multiple, twoSegments}
 use Rattle.rules.specs.Computed.{computed}
 
 pub position-cases : T (all right positionCases)
@@ -22,7 +22,7 @@ unfolding computed positionCases catalogue table empty
 position-cases = tt
 
 pub list-cases : T (all right listCases)
-unfolding computed listCases catalogue table
+unfolding computed listCases catalogue table multiple twoSegments
 list-cases = tt
 
 pub comparison-cases : T (all right comparisonCases)

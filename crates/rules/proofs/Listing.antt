@@ -1,7 +1,7 @@
 -- Which files the listing program takes, by their length: laws, since a file of 65,537 bytes is dear to compute with. Assumes nothing.
 use mathlib.Core.Path.{_≡_}
 use mathlib.Core.Bool.{true, false}
-use Prim.Native.Nat.{ℕ, suc, _<_, _≤_}
+use Prim.Native.Nat.{suc, _<_, _≤_}
 use borrow.Author.Tests.{lt-ltb, le-ltb}
 use lib.ListN.{length}
 use Rattle.terms.specs.declared.Status.the-variants.{CX, TX}

@@ -4,7 +4,6 @@ use Prim.Native.Nat.{ℕ}
 use Rattle.terms.specs.declared.Position.{Position}
 use Rattle.terms.specs.declared.Status.the-variants.{Blank}
 use Rattle.rules.specs.Block.{Bytes}
-use Rattle.rules.specs.Calls.{called}
 use Rattle.rules.specs.Outcome.{unsound, unless, afterCall, outcomeOf, outcome, soundOutcome}
 
 pub sound-outcome : (cat tab : Bytes) (pos : Position) (c : ℕ) (list area : Bytes) → unsound cat tab pos ≡ Blank

@@ -20,7 +20,7 @@ abbrev findsNone : Position → Bytes → Case
 findsNone p list = calls catalogue table p (gu list (gives GE ∷ []) ∷ [])
 
 -- ISRT with this list and area from p becomes this cell
-abbrev becomes : Position → Bytes → Bytes → ℕ → Case
+abbrev pub becomes : Position → Bytes → Bytes → ℕ → Case
 becomes p list area i = calls catalogue table p (isrt list area (gives Blank ∷ place (upon i) ∷ leaves 10 ∷ []) ∷ [])
 
 -- four types, each beneath the one before, of one byte; field 1 is that of type 2; C = 2
@@ -57,6 +57,8 @@ alongCases =
     ∷ findsNone (onCell 7) (named 4)
     ∷ findsNone (onCell 1) tryT
     ∷ finds (onCell 3) tryT 4
+    -- down to the last cell beneath it
+    ∷ finds (onCell 4) (3 ∷ 1 ∷ 3 ∷ ascii "P") 5
     -- "In a gap nothing is kept", whatever the parentage
     ∷ finds (position (gap 4) (parent 3) false) (named 3) 2
     ∷ finds (position (gap 8) (parent 7) false) step13 1

@@ -1,5 +1,5 @@
 -- "A bench table", and B1 to B10 as a single table of cases; the single claim is in proofs/Bench.antt. Assumes nothing: these are definitions.
-use mathlib.Core.Bool.{false, true}
+use mathlib.Core.Bool.{false}
 use mathlib.Core.List.{List, [], _∷_, _++_}
 use Prim.Native.Nat.{ℕ}
 use Rattle.terms.specs.declared.Position.{Position}

@@ -7,32 +7,29 @@ use Rattle.terms.specs.declared.Parentage.{Parentage}
 use Rattle.terms.specs.declared.Parentage.the-variants.{Absent}
 use Rattle.terms.specs.declared.Position.{Position}
 use Rattle.terms.specs.declared.Status.{Status}
-use Rattle.terms.specs.declared.Status.the-variants.{Blank, GE, GP, DJ, DA, II, FX}
+use Rattle.terms.specs.declared.Status.the-variants.{Blank, DJ, DA, II, FX}
 use Rattle.terms.specs.Moves.{fresh}
 use Rattle.rules.specs.Block.{Bytes}
 use Rattle.rules.specs.Cases.{Case, Says, calls, gives, tells, removes, place, held, stands, block, fills, leaves, contains, bytes, nothingTold, ascii}
 use Rattle.rules.specs.Cases.{upon, gap, parent, position, gu, gn, gnp, ghu, isrt, repl, dlet}
 use Rattle.rules.specs.Bench.{catalogue, table, empty, onCell, named, unit07, step14}
 use Rattle.rules.specs.Further.{full}
-use Rattle.rules.specs.Gets.{step13, unit09}
+use Rattle.rules.specs.Gets.{unit09}
+use Rattle.rules.specs.Along.{becomes}
 use Rattle.rules.specs.Tables.{unit, step, try, note, free, benchOf}
 
 -- the two units of the bench table with all beneath them, and its last free cells
-abbrev first : Bytes
-first = unit "07A" ++ step "13P" ++ try "P1" ++ step "14T" ++ try "T1" ++ try "P2" ++ note "n"
+abbrev firstUnit : Bytes
+firstUnit = unit "07A" ++ step "13P" ++ try "P1" ++ step "14T" ++ try "T1" ++ try "P2" ++ note "n"
 
-abbrev second : Bytes
-second = unit "09B" ++ step "14P"
+abbrev secondUnit : Bytes
+secondUnit = unit "09B" ++ step "14P"
 
 abbrev twoFree : Bytes
 twoFree = free ++ free
 
 abbrev threeFree : Bytes
 threeFree = twoFree ++ free
-
--- ISRT from p with this list and area becomes cell i
-abbrev becomes : Position → Bytes → Bytes → ℕ → Case
-becomes p list area i = calls catalogue table p (isrt list area (gives Blank ∷ place (upon i) ∷ leaves 10 ∷ []) ∷ [])
 
 -- ISRT of a try beneath step 3, from cell 5 with this parentage, leaves that
 abbrev keeps : Parentage → Parentage → Case
@@ -45,13 +42,13 @@ refuses s p = gives s ∷ nothingTold ∷ removes 0 ∷ stands p ∷ bytes table
 unfoldable pub insertCases : List Case
 insertCases =
     -- the bench table, cell by cell, is what these cases are written in
-    calls catalogue (benchOf 9 (first ++ second ++ threeFree)) fresh (gn [] (bytes table ∷ []) ∷ [])
+    calls catalogue (benchOf 9 (firstUnit ++ secondUnit ++ threeFree)) fresh (gn [] (bytes table ∷ []) ∷ [])
     -- every output: a try beneath step 3, held on cell 5, beneath 3
     ∷ calls catalogue table (position (upon 5) (parent 3) true) (isrt (named 3) (ascii "S3xy") (
     gives Blank ∷ tells 3 3 2 ∷ removes 0 ∷ stands (position (upon 6) (parent 3) false) ∷ block (1 ∷ 0 ∷ 6 ∷ 1 ∷ 0 ∷ 3 ∷ 0 ∷ 0 ∷ [])
     ∷ fills (ascii "S3xy") ∷ leaves 10
     ∷ bytes (benchOf 10 (
-    unit "07A" ++ step "13P" ++ try "P1" ++ step "14T" ++ try "T1" ++ try "P2" ++ try "S3" ++ note "n" ++ second ++ twoFree)) ∷ []) ∷ [])
+    unit "07A" ++ step "13P" ++ try "P1" ++ step "14T" ++ try "T1" ++ try "P2" ++ try "S3" ++ note "n" ++ secondUnit ++ twoFree)) ∷ []) ∷ [])
     -- "the parentage stays if the new cell is beneath it, else is absent": its parent, an ancestor, its twin, none
     ∷ keeps (parent 3) (parent 3)
     ∷ keeps (parent 0) (parent 0)
@@ -65,7 +62,7 @@ insertCases =
     ∷ calls catalogue table (onCell 0) (isrt (named 1) (ascii "08C") (gives Blank ∷ tells 1 1 3 ∷ stands (position (upon 7) Absent false) ∷ []) ∷ [])
     ∷ calls catalogue table (onCell 0) (isrt (named 2) (ascii "15X") (gives Blank ∷ stands (position (upon 6) (parent 0) false) ∷ []) ∷ [])
     ∷ calls catalogue table (position (gap 3) (parent 1) false) (isrt (named 3) (ascii "S3.") (stands (position (upon 3) (parent 1) false) ∷ []) ∷ [])
-    -- among its twins by key: first, between, last, with their runs passed over; before a later group
+    -- among its twins by key: firstUnit, between, last, with their runs passed over; before a later group
     ∷ becomes fresh (named 1) (ascii "06C") 0
     ∷ becomes fresh (named 1) (ascii "08C") 7
     ∷ becomes fresh (named 1) (ascii "10C") 9
@@ -86,7 +83,7 @@ insertCases =
     ∷ calls catalogue empty fresh (isrt (named 1) (ascii "08Czz") (
     gives Blank ∷ tells 1 1 3 ∷ stands (position (upon 0) Absent false) ∷ fills (ascii "08Czz")
     ∷ bytes (benchOf 1 (unit "08C" ++ free ++ free ++ free ++ free ++ free ++ free ++ free ++ free ++ free ++ free ++ free)) ∷ []) ∷ [])
-    -- II: "unique key equal to a twin's", the first, the last, a root; its other bytes do not matter
+    -- II: "unique key equal to a twin's", the firstUnit, the last, a root; its other bytes do not matter
     ∷ calls catalogue table (position (upon 8) (parent 7) true) (isrt (named 2) (ascii "14Z") (refuses II (position (upon 8) (parent 7) true)) ∷ [])
     ∷ calls catalogue table fresh (isrt (named 2) (ascii "13P") (refuses II fresh) ∷ [])
     ∷ calls catalogue table fresh (isrt (named 1) (ascii "09Z") (refuses II fresh) ∷ [])
@@ -107,21 +104,21 @@ replaceCases =
     repl (ascii "14Qxy") (
     gives Blank ∷ tells 2 2 3 ∷ removes 0 ∷ stands (position (upon 3) (parent 0) false) ∷ block (1 ∷ 0 ∷ 3 ∷ 1 ∷ 0 ∷ 0 ∷ 0 ∷ 0 ∷ [])
     ∷ fills (ascii "14Qxy") ∷ leaves 9
-    ∷ bytes (benchOf 9 (unit "07A" ++ step "13P" ++ try "P1" ++ step "14Q" ++ try "T1" ++ try "P2" ++ note "n" ++ second ++ threeFree)) ∷ [])
-    -- so that a second one has none
+    ∷ bytes (benchOf 9 (unit "07A" ++ step "13P" ++ try "P1" ++ step "14Q" ++ try "T1" ++ try "P2" ++ note "n" ++ secondUnit ++ threeFree)) ∷ [])
+    -- so that a secondUnit one has none
     ∷ repl (ascii "14Q") (gives DJ ∷ stands (position (upon 3) (parent 0) false) ∷ []) ∷ [])
     -- the parentage is the cell itself, or absent
     ∷ calls catalogue table (position (upon 3) (parent 3) true) (repl (ascii "14Q") (gives Blank ∷ stands (onCell 3) ∷ []) ∷ [])
     ∷ calls catalogue table (position (upon 3) Absent true) (repl (ascii "14Q") (gives Blank ∷ stands (position (upon 3) Absent false) ∷ []) ∷ [])
-    -- "the area's first L bytes", and zeros to C; no key byte to change
+    -- "the area's firstUnit L bytes", and zeros to C; no key byte to change
     ∷ calls catalogue table (position (upon 6) (parent 0) true) (repl (ascii "mxy") (
     gives Blank ∷ tells 4 2 1 ∷ contains 6 4 (ascii "m")
-    ∷ bytes (benchOf 9 (unit "07A" ++ step "13P" ++ try "P1" ++ step "14T" ++ try "T1" ++ try "P2" ++ note "m" ++ second ++ threeFree)) ∷ []) ∷ [])
+    ∷ bytes (benchOf 9 (unit "07A" ++ step "13P" ++ try "P1" ++ step "14T" ++ try "T1" ++ try "P2" ++ note "m" ++ secondUnit ++ threeFree)) ∷ []) ∷ [])
     ∷ calls catalogue table (position (upon 2) (parent 1) true) (repl (ascii "A0z") (gives Blank ∷ tells 3 3 2 ∷ contains 2 3 (ascii "A0") ∷ []) ∷ [])
     ∷ calls catalogue table (position (upon 0) (parent 0) true) (repl (ascii "07Z") (gives Blank ∷ tells 1 1 3 ∷ contains 0 1 (ascii "07Z") ∷ []) ∷ [])
     -- the same bytes again
     ∷ calls catalogue table (position (upon 8) (parent 7) true) (repl (ascii "14P") (gives Blank ∷ bytes table ∷ held false ∷ []) ∷ [])
-    -- DA: a key byte changes, the first or the last; nothing else does, and the hold stays
+    -- DA: a key byte changes, the firstUnit or the last; nothing else does, and the hold stays
     ∷ calls catalogue table (position (upon 3) (parent 0) true) (
     repl (ascii "15T") (refuses DA (position (upon 3) (parent 0) true))
     ∷ repl (ascii "24T") (fills (ascii "24T") ∷ refuses DA (position (upon 3) (parent 0) true))
@@ -141,8 +138,8 @@ deleteCases =
     calls catalogue table (position (upon 3) (parent 0) true) (
     dlet (
     gives Blank ∷ tells 2 2 3 ∷ removes 3 ∷ stands (position (gap 3) (parent 0) false) ∷ block (0 ∷ 0 ∷ 3 ∷ 1 ∷ 0 ∷ 0 ∷ 0 ∷ 0 ∷ [])
-    ∷ fills [] ∷ leaves 6 ∷ bytes (benchOf 6 (unit "07A" ++ step "13P" ++ try "P1" ++ note "n" ++ second ++ threeFree ++ threeFree)) ∷ [])
-    -- then GNP goes on beneath it, and a second DLET has no hold
+    ∷ fills [] ∷ leaves 6 ∷ bytes (benchOf 6 (unit "07A" ++ step "13P" ++ try "P1" ++ note "n" ++ secondUnit ++ threeFree ++ threeFree)) ∷ [])
+    -- then GNP goes on beneath it, and a secondUnit DLET has no hold
     ∷ dlet (gives DJ ∷ [])
     ∷ gnp [] (gives Blank ∷ stands (position (upon 3) (parent 0) false) ∷ []) ∷ [])
     -- "The parentage goes if it was in the run"; an absent one stays so
@@ -152,15 +149,15 @@ deleteCases =
     dlet (gives Blank ∷ tells 3 3 2 ∷ removes 1 ∷ stands (position (gap 5) (parent 3) false) ∷ []) ∷ [])
     ∷ calls catalogue table (position (upon 4) (parent 3) true) (
     dlet (gives Blank ∷ stands (position (gap 4) (parent 3) false) ∷ leaves 8 ∷ contains 4 3 (ascii "P2") ∷ []) ∷ [])
-    -- the last cell, a unit with all beneath it, the first unit, the last segment of a table
+    -- the last cell, a unit with all beneath it, the firstUnit unit, the last segment of a table
     ∷ calls catalogue table (position (upon 8) (parent 7) true) (
-    dlet (gives Blank ∷ removes 1 ∷ stands (position (gap 8) (parent 7) false) ∷ bytes (benchOf 8 (first ++ unit "09B" ++ free ++ threeFree)) ∷ []) ∷ [])
+    dlet (gives Blank ∷ removes 1 ∷ stands (position (gap 8) (parent 7) false) ∷ bytes (benchOf 8 (firstUnit ++ unit "09B" ++ free ++ threeFree)) ∷ []) ∷ [])
     ∷ calls catalogue table (position (upon 7) (parent 7) true) (
-    dlet (gives Blank ∷ tells 1 1 3 ∷ removes 2 ∷ stands (position (gap 7) Absent false) ∷ bytes (benchOf 7 (first ++ twoFree ++ threeFree)) ∷ []) ∷ [])
+    dlet (gives Blank ∷ tells 1 1 3 ∷ removes 2 ∷ stands (position (gap 7) Absent false) ∷ bytes (benchOf 7 (firstUnit ++ twoFree ++ threeFree)) ∷ []) ∷ [])
     ∷ calls catalogue table (position (upon 0) (parent 0) true) (
     dlet (
     gives Blank ∷ tells 1 1 3 ∷ removes 7 ∷ stands (position (gap 0) Absent false)
-    ∷ bytes (benchOf 2 (second ++ free ++ threeFree ++ threeFree ++ threeFree)) ∷ []) ∷ [])
+    ∷ bytes (benchOf 2 (secondUnit ++ free ++ threeFree ++ threeFree ++ threeFree)) ∷ []) ∷ [])
     ∷ calls catalogue (benchOf 1 (unit "07A")) (position (upon 0) (parent 0) true) (
     dlet (removes 1 ∷ bytes (benchOf 0 free) ∷ []) ∷ gn [] (stands (position (gap 0) Absent false) ∷ []) ∷ [])
     -- the note: one cell, of one byte

@@ -1,6 +1,6 @@
 -- "Keys and fields compare as unsigned bytes, first byte heaviest": the six operators on both sides of equality and at it, and keys and fields that do not
 -- begin at byte 1. The claim is in proofs/Cases.antt. Assumes nothing: these are definitions.
-use mathlib.Core.Bool.{true, false}
+use mathlib.Core.Bool.{true}
 use mathlib.Core.List.{List, [], _∷_, _++_}
 use Prim.Native.Nat.{ℕ}
 use Rattle.terms.specs.declared.Status.the-variants.{Blank, GE, TX, DA, II}
@@ -41,8 +41,8 @@ abbrev walk : Bytes → List ℕ → List Step
 walk list [] = gn list (gives GE ∷ []) ∷ []
 walk list (i ∷ is) = gn list (gives Blank ∷ place (upon i) ∷ []) ∷ walk list is
 
-abbrev found : Bytes → List ℕ → Case
-found list is = calls apart fiveKeys fresh (walk list is)
+abbrev walks : Bytes → List ℕ → Case
+walks list is = calls apart fiveKeys fresh (walk list is)
 
 -- held on cell 2, whose key is 7F 80
 abbrev replaces : Bytes → List Step
@@ -53,18 +53,18 @@ comparisonCases =
     catalogueIs apart Blank
     ∷ catalogueIs several Blank
     -- 1 =, 2 ≠, 3 <, 4 ≤, 5 >, 6 ≥
-    ∷ found (against 1) (2 ∷ [])
-    ∷ found (against 2) (0 ∷ 1 ∷ 3 ∷ 4 ∷ [])
-    ∷ found (against 3) (0 ∷ 1 ∷ [])
-    ∷ found (against 4) (0 ∷ 1 ∷ 2 ∷ [])
-    ∷ found (against 5) (3 ∷ 4 ∷ [])
-    ∷ found (against 6) (2 ∷ 3 ∷ 4 ∷ [])
+    ∷ walks (against 1) (2 ∷ [])
+    ∷ walks (against 2) (0 ∷ 1 ∷ 3 ∷ 4 ∷ [])
+    ∷ walks (against 3) (0 ∷ 1 ∷ [])
+    ∷ walks (against 4) (0 ∷ 1 ∷ 2 ∷ [])
+    ∷ walks (against 5) (3 ∷ 4 ∷ [])
+    ∷ walks (against 6) (2 ∷ 3 ∷ 4 ∷ [])
     -- "The segment's field stands left of the operator": fields < "2" are "1" and "0"
-    ∷ found (1 ∷ 3 ∷ 3 ∷ ascii "2") (1 ∷ 4 ∷ [])
-    ∷ found (1 ∷ 5 ∷ 3 ∷ ascii "5") (0 ∷ [])
+    ∷ walks (1 ∷ 3 ∷ 3 ∷ ascii "2") (1 ∷ 4 ∷ [])
+    ∷ walks (1 ∷ 5 ∷ 3 ∷ ascii "5") (0 ∷ [])
     -- each field at its own start: byte 4, byte 1
-    ∷ found (1 ∷ 1 ∷ 2 ∷ ascii "b") (1 ∷ 4 ∷ [])
-    ∷ found (1 ∷ 1 ∷ 3 ∷ ascii "3") (3 ∷ [])
+    ∷ walks (1 ∷ 1 ∷ 2 ∷ ascii "b") (1 ∷ 4 ∷ [])
+    ∷ walks (1 ∷ 1 ∷ 3 ∷ ascii "3") (3 ∷ [])
     -- by key: the field that is the key
     ∷ calls apart fiveKeys fresh (gu (1 ∷ 1 ∷ 1 ∷ 0x80 ∷ 0 ∷ []) (gives Blank ∷ place (upon 4) ∷ []) ∷ [])
     -- the new one goes by its key, whatever its other bytes: between 7F 01 and 7F 80, before all, behind all

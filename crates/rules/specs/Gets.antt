@@ -1,6 +1,6 @@
 -- The six gets: what each finds, tells, shows and makes of the position; what a miss leaves; GA and GK against blank. The claims are in proofs/Cases.antt.
 -- Assumes nothing: these are definitions.
-use mathlib.Core.Bool.{Bool, true, false}
+use mathlib.Core.Bool.{true, false}
 use mathlib.Core.List.{List, [], _∷_, _++_}
 use Prim.Native.Nat.{ℕ}
 use Rattle.terms.specs.declared.Parentage.the-variants.{Absent}
@@ -11,7 +11,7 @@ use Rattle.terms.specs.Moves.{fresh}
 use Rattle.rules.specs.Block.{Bytes}
 use Rattle.rules.specs.Cases.{Case, Says, calls, gives, tells, removes, place, held, stands, block, shows, fills, bytes, nothingTold, ascii, dots}
 use Rattle.rules.specs.Cases.{upon, gap, parent, position, get, gu, gn, gnp, ghu, ghn, ghnp}
-use Rattle.rules.specs.Bench.{catalogue, table, empty, onCell, named, unit07, step14, tryT}
+use Rattle.rules.specs.Bench.{catalogue, table, empty, onCell, named, unit07, step14}
 use Rattle.rules.specs.Further.{stepNote, full}
 
 abbrev pub step13 : Bytes

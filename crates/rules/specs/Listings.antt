@@ -2,8 +2,7 @@
 -- by laws (proofs/Listing.antt). The claim is in proofs/Cases.antt. Assumes nothing: these are definitions.
 use mathlib.Core.List.{List, [], _∷_, _++_}
 use lib.ListN.{set}
-use Rattle.rules.specs.Block.{Bytes}
-use Rattle.rules.specs.Cases.{Case, lists, writes, ascii}
+use Rattle.rules.specs.Cases.{Case, lists, writes, ascii, tableOf}
 use Rattle.rules.specs.Bench.{catalogue, table, empty}
 use Rattle.rules.specs.Further.{stepNote, full}
 use Rattle.rules.specs.Tables.{benchOf}
@@ -26,6 +25,8 @@ listingCases =
     ∷ lists catalogue (benchOf 1 (1 ∷ 0xC0 ∷ 0x0D ∷ 0xFE ∷ [])) (ascii "0 1 1 -- C00DFE\nGB\n")
     -- no cell
     ∷ lists catalogue empty (ascii "GB\n")
+    -- the longest data, L = 120
+    ∷ lists (ascii "HDC" ++ (0 ∷ 1 ∷ 1 ∷ 0 ∷ 0 ∷ 0 ∷ 120 ∷ 0 ∷ 0 ∷ 0 ∷ 0 ∷ 0 ∷ 0 ∷ [])) (tableOf 121 0 []) (ascii "GB\n")
     -- "to the first GB or refusal": a bad table, a bad catalogue, and both; a missing file counts as empty
     ∷ lists catalogue (set table 4 2) (ascii "TX\n")
     ∷ lists (set catalogue 7 1) table (ascii "CX\n")

@@ -1,6 +1,6 @@
 -- "The argument list": each fault, their order inside one argument and from the left, and lists that are sound at each border. The claim is in
 -- proofs/Cases.antt. Assumes nothing: these are definitions.
-use mathlib.Core.Bool.{true, false}
+use mathlib.Core.Bool.{true}
 use mathlib.Core.List.{List, [], _∷_, _++_}
 use Prim.Native.Nat.{ℕ}
 use Rattle.terms.specs.declared.Status.{Status}
@@ -8,7 +8,8 @@ use Rattle.terms.specs.declared.Status.the-variants.{Blank, GE, AC, AJ, AK}
 use Rattle.terms.specs.Moves.{fresh}
 use Rattle.rules.specs.Block.{Bytes}
 use Rattle.rules.specs.Cases.{Case, tableOf, calls, gives, place, stands, nothingTold, ascii, upon, parent, position, gu}
-use Rattle.rules.specs.Bench.{catalogue, table, empty, named, unit07, step14}
+use Rattle.rules.specs.Bench.{catalogue, table, named, unit07, step14}
+use Rattle.rules.specs.Further.{multiple, twoSegments}
 use Rattle.rules.specs.Catalogues.{fieldCatalogue}
 
 -- GU with this list, held on cell 3: the fault, and nothing changed
@@ -63,6 +64,8 @@ listCases =
     ∷ reaches 1 (2 ∷ 1 ∷ 4 ∷ ascii "P")
     -- a catalogue without fields
     ∷ calls (fieldCatalogue 0) (tableOf 2 0 []) fresh (gu (1 ∷ 1 ∷ 1 ∷ ascii "a") (gives AK ∷ []) ∷ [])
+    -- field 0 is none, though the bytes before the fields would make one of type 1
+    ∷ calls multiple twoSegments fresh (gu (1 ∷ 1 ∷ 0 ∷ []) (gives AK ∷ []) ∷ [])
     -- "value cut short": AJ; "as many value bytes as that field has"
     ∷ fault AJ (1 ∷ 1 ∷ 1 ∷ [])
     ∷ fault AJ (1 ∷ 1 ∷ 1 ∷ ascii "0")

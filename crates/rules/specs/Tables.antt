@@ -6,12 +6,11 @@ use Prim.Native.Nat.{ℕ}
 use Prim.Native.String.{String}
 use lib.ListN.{set, take, replicate}
 use Rattle.terms.specs.declared.Parentage.the-variants.{Absent}
-use Rattle.terms.specs.declared.Status.{Status}
 use Rattle.terms.specs.declared.Status.the-variants.{Blank, GB, CX, TX}
 use Rattle.rules.specs.Block.{Bytes}
 use Rattle.rules.specs.Cases.{Case, Says, tableIs, calls, makes, gives, stands, fills, bytes, nothingTold, ascii, upon, gap, parent, position, dots}
 use Rattle.rules.specs.Cases.{tableOf, gu, gn, isrt, repl, dlet}
-use Rattle.rules.specs.Bench.{catalogue, table, empty, named}
+use Rattle.rules.specs.Bench.{catalogue, table, named}
 use Rattle.rules.specs.Catalogues.{fieldCatalogue}
 use Rattle.rules.specs.Further.{deepCatalogue}
 
@@ -159,7 +158,6 @@ makerCases =
     ∷ makes catalogue (lentSlice 11) TX (lentSlice 11)
     ∷ makes catalogue (lentSlice 15) TX (lentSlice 15)
     ∷ makes (fieldCatalogue 0) (lentSlice 8202) TX (lentSlice 8202)
-    ∷ makes (fieldCatalogue 0) (lentSlice 8200) Blank (tableOf 2 0 (replicate 8192 0))
     -- CX, and nothing is written, whatever the length
     ∷ makes (deepCatalogue 16) (lentSlice 10) CX (lentSlice 10)
     ∷ makes (deepCatalogue 16) (lentSlice 7) CX (lentSlice 7)
