@@ -1,21 +1,22 @@
--- B1 to B10 hold, "proved as a single table with a single claim", and so do the further cases and the rules of a catalogue. Each is computed from the definitions. Assumes nothing.
+-- B1 to B10 hold, "proved as a single table with a single claim", and so do the further cases and the rules of a catalogue. Each is computed from the
+-- definitions. Assumes nothing.
 use lib.Dec.{T}
-use Rattle.rules.specs.Block.{every}
-use Rattle.rules.specs.Bench.{right, cases, catalogue, table, empty, output}
-use Rattle.rules.specs.Further.{meets, further, multiple, twoSegments, full, stepNote, sameKeys, pastData, notFree}
+use Rattle.rules.specs.Cases.{all, right}
+use Rattle.rules.specs.Bench.{cases, catalogue, table, empty, output}
+use Rattle.rules.specs.Further.{further, multiple, twoSegments, full, stepNote, sameKeys, pastData, notFree}
 use Rattle.rules.specs.Catalogues.{ruled}
 use Rattle.rules.specs.Computed.{computed}
 
 -- the one claim
-pub bench : T (every right cases)
+pub bench : T (all right cases)
 unfolding computed cases catalogue table empty output
 bench = tt
 
-pub beside : T (every meets further)
+pub beside : T (all right further)
 unfolding computed further catalogue table multiple twoSegments full stepNote sameKeys pastData notFree
 beside = tt
 
 -- the rules of a catalogue, each at its border
-pub by-rule : T (every meets ruled)
+pub by-rule : T (all right ruled)
 unfolding computed ruled catalogue
 by-rule = tt

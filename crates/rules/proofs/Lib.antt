@@ -8,6 +8,9 @@ pub mod Cells
 pub mod Search
 pub mod Paths
 pub mod Tree
+pub mod Listing
+pub mod Outcome
 pub mod Bench
+pub mod Cases
 pub mod Change
 pub mod Block

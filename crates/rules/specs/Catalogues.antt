@@ -2,11 +2,12 @@
 -- these are definitions.
 use mathlib.Core.List.{List, [], _∷_, _++_}
 use Prim.Native.Nat.{ℕ, zero, suc}
-use lib.ListN.{set}
+use lib.ListN.{set, take}
 use Rattle.terms.specs.declared.Status.the-variants.{Blank, CX}
 use Rattle.rules.specs.Block.{Bytes}
 use Rattle.rules.specs.Bench.{catalogue}
-use Rattle.rules.specs.Further.{Further, catalogueIs, deepCatalogue}
+use Rattle.rules.specs.Cases.{Case, catalogueIs}
+use Rattle.rules.specs.Further.{deepCatalogue}
 
 -- the bench catalogue with v for byte i: type k begins at byte 8k, field f at byte 36 + 4f
 abbrev pub withByte : ℕ → ℕ → Bytes
@@ -28,7 +29,7 @@ firstBytes (suc n) = 1 ∷ 1 ∷ 1 ∷ 0 ∷ firstBytes n
 abbrev pub fieldCatalogue : ℕ → Bytes
 fieldCatalogue n = 0x48 ∷ 0x44 ∷ 0x43 ∷ 0 ∷ 1 ∷ 1 ∷ n ∷ 0 ∷ 0 ∷ 1 ∷ 0 ∷ 0 ∷ 0 ∷ 0 ∷ 0 ∷ 0 ∷ firstBytes n
 
-unfoldable pub ruled : List Further
+unfoldable pub ruled : List Case
 ruled =
     -- mark, version
     catalogueIs (withByte 0 0x68) CX
@@ -36,10 +37,16 @@ ruled =
     ∷ catalogueIs (withByte 2 0x54) CX
     ∷ catalogueIs (withByte 3 1) CX
     ∷ catalogueIs (withByte 4 2) CX
+    ∷ catalogueIs (withByte 4 0) CX
+    ∷ catalogueIs (set (withByte 3 1) 4 0) CX
     -- byte 7 is zero, and no byte is left over or missing
     ∷ catalogueIs (withByte 7 1) CX
     ∷ catalogueIs (catalogue ++ (0 ∷ [])) CX
+    ∷ catalogueIs (take 55 catalogue) CX
+    ∷ catalogueIs (take 7 catalogue) CX
+    ∷ catalogueIs [] CX
     ∷ catalogueIs (withByte 6 5) CX
+    ∷ catalogueIs (withByte 5 5) CX
     -- L is 1 to 120
     ∷ catalogueIs (withByte 33 0) CX
     ∷ catalogueIs (withByte 33 120) Blank
@@ -55,6 +62,9 @@ ruled =
     ∷ catalogueIs (withByte 11 2) Blank
     ∷ catalogueIs (withByte 11 3) CX
     ∷ catalogueIs (withByte 11 255) CX
+    ∷ catalogueIs (withByte 12 255) CX
+    ∷ catalogueIs (withByte 12 3) Blank
+    ∷ catalogueIs (withByte 12 4) CX
     -- three zero bytes
     ∷ catalogueIs (withByte 13 1) CX
     ∷ catalogueIs (withByte 14 1) CX
@@ -66,7 +76,10 @@ ruled =
     ∷ catalogueIs (withByte 49 3) CX
     ∷ catalogueIs (withByte 49 0) CX
     ∷ catalogueIs (withByte 50 0) CX
+    ∷ catalogueIs (withByte 50 2) Blank
+    ∷ catalogueIs (withByte 50 3) CX
     ∷ catalogueIs (withByte 43 1) CX
+    ∷ catalogueIs (withByte 55 1) CX
     -- type 1 has parent 0 and no other has
     ∷ catalogueIs (withByte 8 1) CX
     ∷ catalogueIs (withByte 32 0) CX
@@ -74,6 +87,8 @@ ruled =
     ∷ catalogueIs (withByte 32 3) Blank
     ∷ catalogueIs (withByte 32 2) Blank
     ∷ catalogueIs (withByte 32 4) CX
+    ∷ catalogueIs (withByte 16 3) CX
+    ∷ catalogueIs (withByte 16 0) CX
     ∷ catalogueIs (set (withByte 24 1) 32 2) CX
     -- T is 1 to 32
     ∷ catalogueIs (deepCatalogue 0) CX

@@ -1,36 +1,15 @@
--- Cases beside B1 to B10: "Run also", what 01 says of checks and of the maker, and the errors of the trade that the bench table does not show. The claim
--- is in proofs/Bench.antt. Assumes nothing: these are definitions.
-use mathlib.Core.Bool.{Bool, true, false}
-use mathlib.Core.List.{List, [], _∷_, _++_}
-use Prim.Native.Nat.{ℕ, zero, suc, _+_}
-use lib.Dec.{eqb}
-use lib.ListN.{replicate}
-use Rattle.terms.specs.declared.Place.the-variants.{On}
-use Rattle.terms.specs.declared.Parentage.the-variants.{Of}
-use Rattle.terms.specs.declared.Position.{Position}
-use Rattle.terms.specs.declared.Status.{Status}
+-- Cases beside B1 to B10: "Run also", and the errors of the trade that the bench table does not show. The claim is in proofs/Bench.antt. Assumes nothing:
+-- these are definitions.
+use mathlib.Core.Bool.{true, false}
+use mathlib.Core.List.{List, [], _∷_}
+use Prim.Native.Nat.{ℕ, zero, suc}
 use Rattle.terms.specs.declared.Status.the-variants.{Blank, GK, GE, CX, TX, AC, DJ, II, FX}
-use Rattle.terms.specs.Names.{cell}
 use Rattle.terms.specs.Moves.{fresh}
-use Rattle.terms.specs.Statuses.{number}
 use Rattle.rules.specs.Block.{Bytes}
 use Rattle.rules.specs.Table.{tableBytes}
-use Rattle.rules.specs.Outcome.{checkCatalogue, checkTable}
-use Rattle.rules.specs.Bench.{Step, gives, on, leaves, shows, holds, held, runs, catalogue, table, area, step14}
-
--- calls one after the other; or what a check answers
-pub data Further : Type 0 where
-  calls : Bytes → Bytes → Position → List Step → Further
-  catalogueIs : Bytes → Status → Further
-  tableIs : Bytes → Bytes → Status → Further
-
-abbrev sameStatus : Status → Status → Bool
-sameStatus s t = eqb (number s) (number t)
-
-abbrev pub meets : Further → Bool
-meets (calls cat tab pos steps) = runs cat tab pos steps
-meets (catalogueIs cat s) = sameStatus (checkCatalogue cat) s
-meets (tableIs cat tab s) = sameStatus (checkTable cat tab) s
+use Rattle.rules.specs.Cases.{Case, calls, catalogueIs, tableIs, gives, place, held, leaves, shows, contains, ascii, upon}
+use Rattle.rules.specs.Cases.{gn, gnp, ghu, ghnp, isrt, dlet}
+use Rattle.rules.specs.Bench.{catalogue, table, onCell, named}
 
 -- a row of k types from type u on, each beneath the one before: as many levels
 abbrev pub typesFrom : ℕ → ℕ → Bytes
@@ -68,13 +47,7 @@ pastData = 0x48 ∷ 0x44 ∷ 0x54 ∷ 0 ∷ 1 ∷ 4 ∷ 0 ∷ 2 ∷ 1 ∷ 0x30 �
 unfoldable pub notFree : Bytes
 notFree = 0x48 ∷ 0x44 ∷ 0x54 ∷ 0 ∷ 1 ∷ 4 ∷ 0 ∷ 1 ∷ 1 ∷ 0x30 ∷ 0x37 ∷ 0x41 ∷ 0 ∷ 0 ∷ 0 ∷ 1 ∷ []
 
-abbrev noteList : Bytes
-noteList = 4 ∷ 0 ∷ []
-
-abbrev tryList : Bytes
-tryList = 3 ∷ 0 ∷ []
-
-unfoldable pub further : List Further
+unfoldable pub further : List Case
 further =
     -- the bench blocks are good
     catalogueIs catalogue Blank
@@ -88,28 +61,27 @@ further =
     ∷ tableIs catalogue notFree TX
     ∷ tableIs (deepCatalogue 16) table CX
     -- M = 0 with ISRT of a unit (FX)
-    ∷ calls catalogue (tableBytes catalogue 0 []) fresh (record { call = 7; list = 1 ∷ 0 ∷ []; area = 0x30 ∷ 0x38 ∷ 0x43 ∷ []; says = gives FX ∷ [] } ∷ [])
+    ∷ calls catalogue (tableBytes catalogue 0 []) fresh (isrt (named 1) (ascii "08C") (gives FX ∷ []) ∷ [])
     -- n = 12 then DLET then ISRT
     ∷ calls catalogue full fresh (
-    record { call = 7; list = noteList; area = 0x7A ∷ 0 ∷ 0 ∷ []; says = gives FX ∷ leaves 12 ∷ [] }
-    ∷ record { call = 4; list = noteList; area = area; says = gives Blank ∷ on 1 ∷ held true ∷ [] }
-    ∷ record { call = 9; list = []; area = []; says = gives Blank ∷ leaves 11 ∷ held false ∷ [] }
-    ∷ record { call = 7; list = noteList; area = 0x7A ∷ 0 ∷ 0 ∷ []; says = gives Blank ∷ on 11 ∷ leaves 12 ∷ holds 11 4 (0x7A ∷ []) ∷ [] } ∷ [])
+    isrt (named 4) (ascii "z..") (gives FX ∷ leaves 12 ∷ [])
+    ∷ ghu (named 4) (gives Blank ∷ place (upon 1) ∷ held true ∷ [])
+    ∷ dlet (gives Blank ∷ leaves 11 ∷ held false ∷ [])
+    ∷ isrt (named 4) (ascii "z..") (gives Blank ∷ place (upon 11) ∷ leaves 12 ∷ contains 11 4 (ascii "z") ∷ []) ∷ [])
     -- II comes before FX: a taken key in a full table
-    ∷ calls catalogue full fresh (record { call = 7; list = 1 ∷ 0 ∷ []; area = 0x30 ∷ 0x37 ∷ 0x42 ∷ []; says = gives II ∷ leaves 12 ∷ [] } ∷ [])
+    ∷ calls catalogue full fresh (isrt (named 1) (ascii "07B") (gives II ∷ leaves 12 ∷ []) ∷ [])
     -- list faults come before AB: a type that is none, with no area
-    ∷ calls catalogue table fresh (record { call = 2; list = 9 ∷ 0 ∷ []; area = []; says = gives AC ∷ [] } ∷ [])
+    ∷ calls catalogue table fresh (record { call = 2; list = named 9; area = []; says = gives AC ∷ [] } ∷ [])
     -- a multiple key goes behind its equals
     ∷ calls multiple twoSegments fresh (
-    record { call = 7; list = 1 ∷ 0 ∷ []; area = 0x61 ∷ 0x32 ∷ []; says = gives Blank ∷ on 1 ∷ leaves 3 ∷ holds 0 1 (0x61 ∷ 0x31 ∷ []) ∷ holds 1 1 (0x61 ∷ 0x32 ∷ []) ∷ [] } ∷ [])
+    isrt (named 1) (ascii "a2") (gives Blank ∷ place (upon 1) ∷ leaves 3 ∷ contains 0 1 (ascii "a1") ∷ contains 1 1 (ascii "a2") ∷ []) ∷ [])
     -- GK: level equal and type different
-    ∷ calls catalogue stepNote (record { place = On (cell 1); parentage = Of (cell 1); hold = false }) (record { call = 2; list = []; area = area; says = gives GK ∷ on 2 ∷ [] } ∷ [])
+    ∷ calls catalogue stepNote (onCell 1) (gn [] (gives GK ∷ place (upon 2) ∷ []) ∷ [])
     -- GNP ends with its parent, and a GE drops the hold
-    ∷ calls catalogue table (record { place = On (cell 1); parentage = Of (cell 1); hold = false }) (
-    record { call = 6; list = tryList; area = area; says = gives Blank ∷ on 2 ∷ held true ∷ [] }
-    ∷ record { call = 3; list = tryList; area = area; says = gives GE ∷ on 2 ∷ held false ∷ [] }
-    ∷ record { call = 9; list = []; area = []; says = gives DJ ∷ leaves 9 ∷ [] } ∷ [])
+    ∷ calls catalogue table (onCell 1) (
+    ghnp (named 3) (gives Blank ∷ place (upon 2) ∷ held true ∷ [])
+    ∷ gnp (named 3) (gives GE ∷ place (upon 2) ∷ held false ∷ [])
+    ∷ dlet (gives DJ ∷ leaves 9 ∷ []) ∷ [])
     -- a get writes L bytes and no more
-    ∷ calls catalogue table (record { place = On (cell 5); parentage = Of (cell 5); hold = false }) (
-    record { call = 2; list = []; area = 0x2E ∷ 0x2E ∷ 0x2E ∷ []; says = on 6 ∷ shows (0x6E ∷ 0x2E ∷ 0x2E ∷ []) ∷ [] } ∷ [])
+    ∷ calls catalogue table (onCell 5) (gn [] (place (upon 6) ∷ shows (ascii "n....") ∷ []) ∷ [])
     ∷ []

@@ -1,0 +1,83 @@
+-- The cases of each rule hold: one claim for each table of cases, so that a definition that goes wrong is refused by the name of what it broke. Each is
+-- computed from the definitions. Assumes nothing.
+use mathlib.Core.Bool.{not}
+use lib.Dec.{T}
+use Rattle.rules.specs.Cases.{all, right}
+use Rattle.rules.specs.Bench.{catalogue, table, empty, output}
+use Rattle.rules.specs.Positions.{positionCases}
+use Rattle.rules.specs.Lists.{listCases}
+use Rattle.rules.specs.Compared.{comparisonCases, apart, fiveKeys, several}
+use Rattle.rules.specs.Tables.{tableCases, makerCases, threeLengths}
+use Rattle.rules.specs.Gets.{getCases, missCases, levelCases}
+use Rattle.rules.specs.Along.{alongCases, line, lineTable}
+use Rattle.rules.specs.Changes.{insertCases, replaceCases, deleteCases}
+use Rattle.rules.specs.Refusals.{refusalCases, orderCases}
+use Rattle.rules.specs.Listings.{listingCases}
+use Rattle.rules.specs.Untrue.{untrueCases}
+use Rattle.rules.specs.Further.{stepNote, full, multiple, twoSegments}
+use Rattle.rules.specs.Computed.{computed}
+
+pub position-cases : T (all right positionCases)
+unfolding computed positionCases catalogue table empty
+position-cases = tt
+
+pub list-cases : T (all right listCases)
+unfolding computed listCases catalogue table multiple twoSegments
+list-cases = tt
+
+pub comparison-cases : T (all right comparisonCases)
+unfolding computed comparisonCases apart fiveKeys several
+comparison-cases = tt
+
+pub table-cases : T (all right tableCases)
+unfolding computed tableCases catalogue table threeLengths
+table-cases = tt
+
+pub maker-cases : T (all right makerCases)
+unfolding computed makerCases catalogue table threeLengths
+maker-cases = tt
+
+pub get-cases : T (all right getCases)
+unfolding computed getCases catalogue table
+get-cases = tt
+
+pub miss-cases : T (all right missCases)
+unfolding computed missCases catalogue table empty
+miss-cases = tt
+
+pub level-cases : T (all right levelCases)
+unfolding computed levelCases catalogue table stepNote full
+level-cases = tt
+
+pub along-cases : T (all right alongCases)
+unfolding computed alongCases catalogue table empty line lineTable
+along-cases = tt
+
+pub insert-cases : T (all right insertCases)
+unfolding computed insertCases catalogue table empty full
+insert-cases = tt
+
+pub replace-cases : T (all right replaceCases)
+unfolding computed replaceCases catalogue table
+replace-cases = tt
+
+pub delete-cases : T (all right deleteCases)
+unfolding computed deleteCases catalogue table
+delete-cases = tt
+
+pub refusal-cases : T (all right refusalCases)
+unfolding computed refusalCases catalogue table
+refusal-cases = tt
+
+pub order-cases : T (all right orderCases)
+unfolding computed orderCases catalogue table full
+order-cases = tt
+
+pub listing-cases : T (all right listingCases)
+unfolding computed listingCases catalogue table empty stepNote full
+listing-cases = tt
+
+-- and cases that say what is not so do not hold
+pub untrue-cases : T (all (λ c. not (right c)) untrueCases)
+unfolding computed untrueCases catalogue table output
+untrue-cases = tt

@@ -1,0 +1,160 @@
+-- The six gets: what each finds, tells, shows and makes of the position; what a miss leaves; GA and GK against blank. The claims are in proofs/Cases.antt.
+-- Assumes nothing: these are definitions.
+use mathlib.Core.Bool.{true, false}
+use mathlib.Core.List.{List, [], _∷_, _++_}
+use Prim.Native.Nat.{ℕ}
+use Rattle.terms.specs.declared.Parentage.the-variants.{Absent}
+use Rattle.terms.specs.declared.Position.{Position}
+use Rattle.terms.specs.declared.Status.{Status}
+use Rattle.terms.specs.declared.Status.the-variants.{Blank, GA, GK, GB, GE, GP}
+use Rattle.terms.specs.Moves.{fresh}
+use Rattle.rules.specs.Block.{Bytes}
+use Rattle.rules.specs.Cases.{Case, Says, calls, gives, tells, removes, place, held, stands, block, shows, fills, bytes, nothingTold, ascii, dots}
+use Rattle.rules.specs.Cases.{upon, gap, parent, position, get, gu, gn, gnp, ghu, ghn, ghnp}
+use Rattle.rules.specs.Bench.{catalogue, table, empty, onCell, named, unit07, step14}
+use Rattle.rules.specs.Further.{stepNote, full}
+
+abbrev pub step13 : Bytes
+step13 = 2 ∷ 1 ∷ 2 ∷ ascii "13"
+
+abbrev pub unit09 : Bytes
+unit09 = 1 ∷ 1 ∷ 1 ∷ ascii "09"
+
+-- call c with this list, from p to q, in the bench table; all that is said of it
+abbrev from : Position → ℕ → Bytes → List Says → Case
+from p c list says = calls catalogue table p (get c list says ∷ [])
+
+-- a miss: the position with its hold dropped, nothing told, area and table as they were
+abbrev misses : Position → ℕ → Bytes → Status → Position → Case
+misses p c list s q = from p c list (gives s ∷ stands q ∷ nothingTold ∷ removes 0 ∷ fills dots ∷ bytes table ∷ [])
+
+-- beneath unit 0, held on step 3
+abbrev heldBelow : Position
+heldBelow = position (upon 3) (parent 0) true
+
+unfoldable pub getCases : List Case
+getCases =
+    -- GU and GHU, along the position: step "13" under the same unit; place, parentage and hold, all that is told and shown
+    from heldBelow 1 step13 (
+    gives Blank ∷ tells 2 2 3 ∷ removes 0 ∷ stands (position (upon 1) (parent 1) false) ∷ block (1 ∷ 0 ∷ 1 ∷ 1 ∷ 0 ∷ 1 ∷ 0 ∷ 0 ∷ [])
+    ∷ fills (ascii "13P..") ∷ bytes table ∷ [])
+    ∷ from heldBelow 4 step13 (
+    gives Blank ∷ tells 2 2 3 ∷ removes 0 ∷ stands (position (upon 1) (parent 1) true) ∷ block (1 ∷ 0 ∷ 1 ∷ 1 ∷ 0 ∷ 1 ∷ 1 ∷ 0 ∷ [])
+    ∷ fills (ascii "13P..") ∷ bytes table ∷ [])
+    -- GN and GHN
+    ∷ from heldBelow 2 [] (
+    gives Blank ∷ tells 3 3 2 ∷ removes 0 ∷ stands (position (upon 4) (parent 4) false) ∷ block (1 ∷ 0 ∷ 4 ∷ 1 ∷ 0 ∷ 4 ∷ 0 ∷ 0 ∷ [])
+    ∷ fills (ascii "T1...") ∷ bytes table ∷ [])
+    ∷ from heldBelow 5 [] (
+    gives Blank ∷ tells 3 3 2 ∷ removes 0 ∷ stands (position (upon 4) (parent 4) true) ∷ block (1 ∷ 0 ∷ 4 ∷ 1 ∷ 0 ∷ 4 ∷ 1 ∷ 0 ∷ [])
+    ∷ fills (ascii "T1...") ∷ bytes table ∷ [])
+    -- GNP and GHNP: "The parentage stays."
+    ∷ from heldBelow 3 [] (
+    gives Blank ∷ tells 3 3 2 ∷ removes 0 ∷ stands (position (upon 4) (parent 0) false) ∷ block (1 ∷ 0 ∷ 4 ∷ 1 ∷ 0 ∷ 0 ∷ 0 ∷ 0 ∷ [])
+    ∷ fills (ascii "T1...") ∷ bytes table ∷ [])
+    ∷ from heldBelow 6 [] (
+    gives Blank ∷ tells 3 3 2 ∷ removes 0 ∷ stands (position (upon 4) (parent 0) true) ∷ block (1 ∷ 0 ∷ 4 ∷ 1 ∷ 0 ∷ 0 ∷ 1 ∷ 0 ∷ [])
+    ∷ fills (ascii "T1...") ∷ bytes table ∷ [])
+    -- from a position without parentage and hold
+    ∷ from (position (upon 3) Absent false) 1 step13 (gives Blank ∷ stands (position (upon 1) (parent 1) false) ∷ [])
+    ∷ from (position (upon 3) Absent false) 2 [] (gives Blank ∷ stands (position (upon 4) (parent 4) false) ∷ [])
+    ∷ from (position (upon 3) Absent false) 4 step13 (gives Blank ∷ stands (position (upon 1) (parent 1) true) ∷ [])
+    ∷ from (position (upon 3) Absent false) 5 [] (gives Blank ∷ stands (position (upon 4) (parent 4) true) ∷ [])
+    -- from the start, one after the other: the unit, the note, the next unit
+    ∷ calls catalogue table fresh (
+    gn [] (gives Blank ∷ tells 1 1 3 ∷ stands (onCell 0) ∷ shows (ascii "07A") ∷ [])
+    ∷ gn (named 4) (gives Blank ∷ tells 4 2 1 ∷ stands (onCell 6) ∷ shows (ascii "n") ∷ [])
+    ∷ ghn (named 1) (gives Blank ∷ tells 1 1 3 ∷ stands (position (upon 7) (parent 7) true) ∷ shows (ascii "09B") ∷ [])
+    ∷ ghnp [] (gives Blank ∷ tells 2 2 3 ∷ stands (position (upon 8) (parent 7) true) ∷ shows (ascii "14P") ∷ [])
+    ∷ gnp [] (gives GE ∷ nothingTold ∷ stands (position (upon 8) (parent 7) false) ∷ []) ∷ [])
+    -- GN: "from gap i: cell i or later", "not along the position"
+    ∷ from (position (gap 3) (parent 0) false) 2 [] (gives Blank ∷ stands (onCell 3) ∷ [])
+    ∷ from (position (gap 3) (parent 0) false) 2 (named 2) (gives Blank ∷ stands (onCell 3) ∷ [])
+    ∷ from (position (upon 3) (parent 0) false) 2 (named 2) (gives Blank ∷ stands (onCell 8) ∷ [])
+    ∷ from (onCell 1) 2 step14 (gives Blank ∷ stands (onCell 3) ∷ [])
+    ∷ from (onCell 4) 2 step14 (gives Blank ∷ stands (onCell 8) ∷ [])
+    -- GU with an empty list finds cell 0, from any place
+    ∷ from fresh 1 [] (gives Blank ∷ stands (onCell 0) ∷ [])
+    ∷ from (onCell 8) 1 [] (gives Blank ∷ stands (onCell 0) ∷ [])
+    ∷ from (position (gap 5) (parent 3) false) 4 [] (gives Blank ∷ stands (position (upon 0) (parent 0) true) ∷ [])
+    ∷ from (position (gap 9) Absent false) 1 [] (gives Blank ∷ stands (onCell 0) ∷ [])
+    -- GNP: what lies beneath p, grandchildren too, and never p itself
+    ∷ from (onCell 0) 3 (named 3) (gives Blank ∷ stands (position (upon 2) (parent 0) false) ∷ [])
+    ∷ from (onCell 0) 3 (named 1) (gives GE ∷ stands (onCell 0) ∷ [])
+    ∷ from (position (gap 1) (parent 0) false) 3 [] (gives Blank ∷ stands (position (upon 1) (parent 0) false) ∷ [])
+    -- at the border of p's run: cell 6 is the last beneath 0, cell 5 the last beneath 3
+    ∷ from (position (upon 5) (parent 0) false) 3 [] (gives GA ∷ stands (position (upon 6) (parent 0) false) ∷ [])
+    ∷ from (position (gap 6) (parent 0) false) 3 [] (gives Blank ∷ stands (position (upon 6) (parent 0) false) ∷ [])
+    ∷ from (position (upon 6) (parent 0) false) 3 [] (gives GE ∷ stands (position (upon 6) (parent 0) false) ∷ [])
+    ∷ from (position (gap 7) (parent 0) false) 3 [] (gives GE ∷ stands (position (gap 7) (parent 0) false) ∷ [])
+    ∷ from (position (upon 4) (parent 3) false) 3 [] (gives Blank ∷ stands (position (upon 5) (parent 3) false) ∷ [])
+    ∷ from (position (upon 5) (parent 3) false) 3 [] (gives GE ∷ [])
+    ∷ from (position (gap 6) (parent 3) false) 3 [] (gives GE ∷ [])
+    ∷ from (onCell 2) 3 [] (gives GE ∷ [])
+    ∷ from (onCell 8) 3 [] (gives GE ∷ [])
+    -- an argument for a type at or above p is tested too
+    ∷ from (onCell 0) 3 (unit07 ++ named 2) (gives Blank ∷ place (upon 1) ∷ [])
+    ∷ from (onCell 0) 3 (unit09 ++ named 2) (gives GE ∷ [])
+    ∷ []
+
+-- "Status 10 to 12 clears the hold only"
+unfoldable pub missCases : List Case
+missCases =
+    -- GE, of each get; a list that no segment matches
+    misses heldBelow 1 (2 ∷ 1 ∷ 2 ∷ ascii "99") GE (position (upon 3) (parent 0) false)
+    ∷ misses heldBelow 2 step13 GE (position (upon 3) (parent 0) false)
+    ∷ misses heldBelow 3 step13 GE (position (upon 3) (parent 0) false)
+    ∷ misses heldBelow 4 (2 ∷ 1 ∷ 2 ∷ ascii "99") GE (position (upon 3) (parent 0) false)
+    ∷ misses heldBelow 5 step13 GE (position (upon 3) (parent 0) false)
+    ∷ misses heldBelow 6 step13 GE (position (upon 3) (parent 0) false)
+    -- GNP and GHNP with an empty list: GE, not GB
+    ∷ misses (position (upon 8) (parent 8) true) 3 [] GE (onCell 8)
+    ∷ misses (position (upon 8) (parent 8) true) 6 [] GE (onCell 8)
+    -- GB, "GN or GHN, empty list, no cell left; the place stays"; with a list it is GE
+    ∷ misses (position (upon 8) (parent 7) true) 2 [] GB (position (upon 8) (parent 7) false)
+    ∷ misses (position (upon 8) Absent true) 5 [] GB (position (upon 8) Absent false)
+    ∷ misses (position (gap 9) (parent 7) false) 2 [] GB (position (gap 9) (parent 7) false)
+    ∷ misses (position (upon 8) (parent 7) true) 2 (named 2) GE (position (upon 8) (parent 7) false)
+    ∷ misses (position (upon 8) (parent 7) true) 5 (named 3) GE (position (upon 8) (parent 7) false)
+    -- "so the next one answers GB again"
+    ∷ calls catalogue table (onCell 8) (gn [] (gives GB ∷ stands (onCell 8) ∷ []) ∷ ghn [] (gives GB ∷ stands (onCell 8) ∷ []) ∷ gn [] (gives GB ∷ []) ∷ [])
+    -- GP, "GNP or GHNP, no parentage", on a cell and in a gap, with a list or without
+    ∷ misses (position (upon 3) Absent true) 3 [] GP (position (upon 3) Absent false)
+    ∷ misses (position (upon 3) Absent true) 6 [] GP (position (upon 3) Absent false)
+    ∷ misses (position (gap 3) Absent false) 6 (named 3) GP (position (gap 3) Absent false)
+    ∷ misses fresh 3 [] GP fresh
+    -- in a table of no cells
+    ∷ calls catalogue empty fresh (gu [] (gives GE ∷ stands fresh ∷ []) ∷ ghu [] (gives GE ∷ []) ∷ gu (named 1) (gives GE ∷ []) ∷ [])
+    ∷ calls catalogue empty fresh (ghn [] (gives GB ∷ stands fresh ∷ []) ∷ gn (named 1) (gives GE ∷ stands fresh ∷ []) ∷ gnp [] (gives GP ∷ []) ∷ [])
+    ∷ []
+
+-- GA: "empty list, place was on a cell, found level smaller"; GK: "the same, level equal and type different"
+unfoldable pub levelCases : List Case
+levelCases =
+    -- GA: from level 3 to 2, from 2 to 1, from 3 to 1
+    from (onCell 2) 2 [] (gives GA ∷ place (upon 3) ∷ [])
+    ∷ from (onCell 5) 5 [] (gives GA ∷ tells 4 2 1 ∷ place (upon 6) ∷ held true ∷ [])
+    ∷ from (onCell 6) 2 [] (gives GA ∷ tells 1 1 3 ∷ place (upon 7) ∷ [])
+    ∷ from (position (upon 2) (parent 0) false) 3 [] (gives GA ∷ place (upon 3) ∷ [])
+    ∷ from (position (upon 5) (parent 0) false) 6 [] (gives GA ∷ place (upon 6) ∷ [])
+    -- GK: a note behind a step, for each of the four
+    ∷ calls catalogue stepNote (onCell 1) (ghn [] (gives GK ∷ tells 4 2 1 ∷ stands (position (upon 2) (parent 2) true) ∷ []) ∷ [])
+    ∷ calls catalogue stepNote (position (upon 1) (parent 0) false) (gnp [] (gives GK ∷ place (upon 2) ∷ []) ∷ [])
+    ∷ calls catalogue stepNote (position (upon 1) (parent 0) false) (ghnp [] (gives GK ∷ place (upon 2) ∷ []) ∷ [])
+    -- blank: deeper, or the same level and type
+    ∷ from (onCell 0) 2 [] (gives Blank ∷ place (upon 1) ∷ [])
+    ∷ from (onCell 4) 2 [] (gives Blank ∷ place (upon 5) ∷ [])
+    ∷ calls catalogue full (onCell 1) (gn [] (gives Blank ∷ place (upon 2) ∷ []) ∷ gnp [] (gives GE ∷ []) ∷ [])
+    -- blank: a list that is not empty
+    ∷ from (onCell 5) 2 (named 4) (gives Blank ∷ place (upon 6) ∷ [])
+    ∷ from (position (upon 5) (parent 0) false) 3 (named 4) (gives Blank ∷ place (upon 6) ∷ [])
+    ∷ calls catalogue stepNote (onCell 1) (gn (named 4) (gives Blank ∷ place (upon 2) ∷ []) ∷ [])
+    -- blank: from a gap
+    ∷ from (position (gap 6) (parent 3) false) 2 [] (gives Blank ∷ place (upon 6) ∷ [])
+    ∷ from (position (gap 7) Absent false) 2 [] (gives Blank ∷ place (upon 7) ∷ [])
+    ∷ calls catalogue stepNote (position (gap 2) (parent 0) false) (gnp [] (gives Blank ∷ place (upon 2) ∷ []) ∷ [])
+    -- blank: GU and GHU, which are none of the four
+    ∷ from (onCell 5) 1 [] (gives Blank ∷ place (upon 0) ∷ [])
+    ∷ from (onCell 5) 4 [] (gives Blank ∷ place (upon 0) ∷ [])
+    ∷ from (onCell 5) 1 (named 4) (gives Blank ∷ place (upon 6) ∷ [])
+    ∷ []
