@@ -43,11 +43,11 @@ level-status-requires c κs = search needs
 got-requires : tie.Need-got-requires
 got-requires c κs = search needs
 
--- src/lib.rt: pub fn get_next_cell(
+-- src/lib.rt: fn get_next_cell(
 same-length : tie.Need-same-length
 same-length c = search needs
 
--- src/lib.rt: pub fn get_next_cell(
+-- src/lib.rt: fn get_next_cell(
 returns-2 : tie.Need-returns-2
 returns-2 c = let ·got = c .before .before .got in
     let ·pre = c .before .before .before .before .before .before .before .before .before .before .before .before .pre in
