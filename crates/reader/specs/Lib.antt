@@ -1,2 +1,0 @@
-pub mod UnderWay
-pub mod Stepped
