@@ -68,9 +68,9 @@ fn after_place(q: Place) -> usize
     }
 }
 
-// GA, GK or blank, of the cell that a get-next found. Twins, a first child and a child of the same parent are seen from the codes; only else are
-// levels counted.
-pub fn level_status(
+// GA, GK or blank, of the cell that a get-next with an empty list found. Twins, a first child and a child of the same parent are seen from the
+// codes; only else are levels counted.
+fn level_status(
     cat: &[u8],
     tab: &[u8],
     size: usize,
@@ -78,13 +78,10 @@ pub fn level_status(
     list: &[u8],
     c: CellNumber,
 ) -> Status
-    requires { ⌜ Ready (now cat) (now tab) size pos (now list) × (c .0 < count (now tab)) ⌝ }
+    requires { ⌜ Ready (now cat) (now tab) size pos (now list) × (c .0 < count (now tab)) × (length (now list) ≡ 0) ⌝ }
     ensures { λ r. ⌜ r ≡ levelStatus (now (cat .entry)) (listing (now (cat .entry)) (now (tab .entry)))
         (getLevels (now (cat .entry)) (now (list .entry)) (listRead (now (cat .entry)) (now (list .entry)) .arguments)) (pos .place) (c .0) ⌝ }
 {
-    if list.len() != 0 {
-        return Status::Blank;
-    }
     let place = pos.place;
     let Place::On(q) = place else {
         return Status::Blank;

@@ -57,6 +57,7 @@ level-status-requires c κs = let ·pre = c .before .before .before .before .bef
       ·pre .0,
       cell-in-run _ _ _ _ (parent-in (·args .cat .now) (·args .tab .now) (·args .pos) (·pre .0 .position)
           (·args .p) (·pre .3)) (sym (c .before .is-within .ensures) ∙ not-false _ (c .if1 .left)),
+      ·pre .2,
     )
 
 -- src/lib.rt: got(cat, tab, size, c, s, Parentage::Of(p), hold, pos, area)
