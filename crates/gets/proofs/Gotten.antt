@@ -119,6 +119,13 @@ module _ {cat tab : Bytes} {size : ℕ} {pos : Position} {list : Bytes} (r : Rea
   pub miss-named : (length list ≡ 0 → ⊥) → GE ≡ missStatus ls
   miss-named n = sym (miss-filled ls (levels-some n))
 
+  -- what is ready for any list is ready for an empty one, whose status is that of no levels
+  pub ready-none : Ready cat tab size pos []
+  ready-none = record { sound = r .sound; position = r .position; asked = ap (λ (l : ListRead). l .fault) (list-empty cat [] refl) }
+
+  pub status-none : (i : ℕ) → length list ≡ 0 → levelStatus cat cs [] (pos .place) i ≡ levelStatus cat cs ls (pos .place) i
+  status-none i e = ap (λ (l : List Level). levelStatus cat cs l (pos .place) i) (sym (levels-none e))
+
   module _ (i : ℕ) where
     pub status-named : (length list ≡ 0 → ⊥) → Blank ≡ levelStatus cat cs ls (pos .place) i
     status-named n = sym (status-filled ls (pos .place) i (levels-some n))

@@ -23,6 +23,7 @@ use terms::Position;
 use terms::Status;
 ghost use mathlib.Core.Path.{_≡_};
 ghost use mathlib.Core.Bool.{false};
+ghost use mathlib.Core.List.{[]};
 ghost use Prim.Native.Nat.{suc, _<_, _≤_};
 ghost use lib.Dec.{ltb};
 ghost use lib.ListN.{length};
@@ -70,17 +71,9 @@ fn after_place(q: Place) -> usize
 
 // GA, GK or blank, of the cell that a get-next with an empty list found. Twins, a first child and a child of the same parent are seen from the
 // codes; only else are levels counted.
-fn level_status(
-    cat: &[u8],
-    tab: &[u8],
-    size: usize,
-    pos: Position,
-    list: &[u8],
-    c: CellNumber,
-) -> Status
-    requires { ⌜ Ready (now cat) (now tab) size pos (now list) × (c .0 < count (now tab)) × (length (now list) ≡ 0) ⌝ }
-    ensures { λ r. ⌜ r ≡ levelStatus (now (cat .entry)) (listing (now (cat .entry)) (now (tab .entry)))
-        (getLevels (now (cat .entry)) (now (list .entry)) (listRead (now (cat .entry)) (now (list .entry)) .arguments)) (pos .place) (c .0) ⌝ }
+fn level_status(cat: &[u8], tab: &[u8], size: usize, pos: Position, c: CellNumber) -> Status
+    requires { ⌜ Ready (now cat) (now tab) size pos [] × (c .0 < count (now tab)) ⌝ }
+    ensures { λ r. ⌜ r ≡ levelStatus (now (cat .entry)) (listing (now (cat .entry)) (now (tab .entry))) [] (pos .place) (c .0) ⌝ }
 {
     let place = pos.place;
     let Place::On(q) = place else {
@@ -164,7 +157,7 @@ fn get_next_cell(
         return missed(Status::GB, pos);
     }
     let c = CellNumber(i);
-    let s = level_status(cat, tab, size, pos, list, c);
+    let s = level_status(cat, tab, size, pos, c);
     got(cat, tab, size, c, s, Parentage::Of(c), hold, pos, area)
 }
 
@@ -231,7 +224,7 @@ fn get_next_cell_within(
         return missed(Status::GE, pos);
     }
     let c = CellNumber(i);
-    let s = level_status(cat, tab, size, pos, list, c);
+    let s = level_status(cat, tab, size, pos, c);
     got(cat, tab, size, c, s, Parentage::Of(p), hold, pos, area)
 }
 

@@ -1,8 +1,8 @@
-use mathlib.Core.Path.{_≡_, ap, sym, _∙_}
+use mathlib.Core.Path.{_≡_, refl, ap, sym, _∙_}
 use native.Mathlib.Omega.{arith}
 use borrow.Author.Needs.{needs}
 use Rattle.gets.proofs.Found.{on-place}
-use Rattle.gets.proofs.Gotten.{status-gap, codes-same, codes-child, codes-sibling, levels-less, levels-more, levels-same}
+use Rattle.gets.proofs.Gotten.{status-none, status-gap, codes-same, codes-child, codes-sibling, levels-less, levels-more, levels-same}
 use Rattle.gets.proofs.level_status.Statement.{statement}
 use Rattle.gets.proofs.level_status.Tie as tie
 
@@ -16,14 +16,15 @@ enum-told c = search needs
 
 -- src/lib.rt: return Status::Blank;
 returns : tie.Need-returns
-returns c = let ·pre = c .before .before .before .before .before .pre in
-    let ·args = c .before .before .before .before .before .args in
-    status-gap (·pre .0) (·args .c .0) (c .enum-told .given .0 .0) (·pre .2) (c .enum-told .given .1)
+returns c = let ·pre = c .before .before .before .before .pre in
+    let ·args = c .before .before .before .before .args in
+    status-gap (·pre .0) (·args .c .0) (c .enum-told .given .0 .0) (refl) (c .enum-told .given .1) ∙ sym
+    (status-none (·pre .0) (·args .c .0) refl)
 
 -- src/lib.rt: let u = code_at(cat, tab, size, q);
 code-at-requires : tie.Need-code-at-requires
-code-at-requires c κs = let ·pre = c .before .before .before .before .before .before .pre in
-    let ·args = c .before .before .before .before .before .before .args in (
+code-at-requires c κs = let ·pre = c .before .before .before .before .before .pre in
+    let ·args = c .before .before .before .before .before .args in (
       ·pre .0 .sound .sized,
       on-place (·args .cat .now) (·args .tab .now) (·args .pos) (·pre .0 .position)
           (c .before .place .given .0 .0) (c .before .place .given .1),
@@ -35,14 +36,14 @@ code-at-requires-2 c κs = search needs
 
 -- src/lib.rt: return Status::Blank;
 returns-2 : tie.Need-returns-2
-returns-2 c =
-    let ·pre = c .before .before .before .before .before .before .before .before .before .before .before .pre in
-    let ·args = c .before .before .before .before .before .before .before .before .before .before .before .args in
+returns-2 c = let ·pre = c .before .before .before .before .before .before .before .before .before .before .pre in
+    let ·args = c .before .before .before .before .before .before .before .before .before .before .args in
     let ·place = c .before .before .before .before .before .before .place in
     let ·code-at2 = c .before .before .before .code-at2 in let ·code-at = c .before .before .before .before .code-at in
-    codes-same (·pre .0) (·args .c .0) (·place .given .0 .0) (·code-at2 .result) (·code-at .result) (·pre .2)
+    codes-same (·pre .0) (·args .c .0) (·place .given .0 .0) (·code-at2 .result) (·code-at .result) (refl)
     (·place .given .1) (·pre .1) (on-place (·args .cat .now) (·args .tab .now) (·args .pos) (·pre .0 .position)
-    (·place .given .0 .0) (·place .given .1)) (·code-at2 .ensures) (·code-at .ensures) (c .if1 .taken)
+    (·place .given .0 .0) (·place .given .1)) (·code-at2 .ensures) (·code-at .ensures) (c .if1 .taken) ∙ sym
+    (status-none (·pre .0) (·args .c .0) refl)
 
 -- src/lib.rt: let above = parent(cat, t).0;
 parent-requires : tie.Need-parent-requires
@@ -52,38 +53,38 @@ parent-requires c κs = search needs
 returns-3 : tie.Need-returns-3
 returns-3 c =
     let ·pre = c .before .before .before .before .before .before .before .before .before .before .before .before .before
-    .before .pre in
+    .pre in
     let ·args = c .before .before .before .before .before .before .before .before .before .before .before .before
-    .before .before .args in
-    let ·place = c .before .before .before .before .before .before .before .before .before .place in
+    .before .args in let ·place = c .before .before .before .before .before .before .before .before .before .place in
     let ·code-at2 = c .before .before .before .before .before .before .code-at2 in
     let ·code-at = c .before .before .before .before .before .before .before .code-at in
     let ·parent = c .before .before .parent in
-    codes-child (·pre .0) (·args .c .0) (·place .given .0 .0) (·code-at2 .result) (·code-at .result) (·pre .2)
+    codes-child (·pre .0) (·args .c .0) (·place .given .0 .0) (·code-at2 .result) (·code-at .result) (refl)
     (·place .given .1) (·pre .1) (on-place (·args .cat .now) (·args .tab .now) (·args .pos) (·pre .0 .position)
     (·place .given .0 .0) (·place .given .1)) (·code-at2 .ensures) (·code-at .ensures) (·parent .result)
-    (·parent .ensures) (c .if2 .taken)
+    (·parent .ensures) (c .if2 .taken) ∙ sym (status-none (·pre .0) (·args .c .0) refl)
 
 -- src/lib.rt: if above == parent(cat, u).0 {
 parent-requires-2 : tie.Need-parent-requires-2
 parent-requires-2 c κs = search needs
 
--- src/lib.rt: return Status::Blank;
+-- src/lib.rt: return Status::GK;
 returns-4 : tie.Need-returns-4
 returns-4 c =
     let ·pre = c .before .before .before .before .before .before .before .before .before .before .before .before .before
-    .before .before .before .before .pre in
+    .before .before .before .pre in
     let ·args = c .before .before .before .before .before .before .before .before .before .before .before .before
-    .before .before .before .before .before .args in
+    .before .before .before .before .args in
     let ·place = c .before .before .before .before .before .before .before .before .before .before .before .before
     .place in let ·code-at2 = c .before .before .before .before .before .before .before .before .before .code-at2 in
     let ·code-at = c .before .before .before .before .before .before .before .before .before .before .code-at in
     let ·parent = c .before .before .before .before .before .parent in let ·parent2 = c .before .before .parent2 in
     let ·if1 = c .before .before .before .before .before .before .if1 in
-    codes-sibling (·pre .0) (·args .c .0) (·place .given .0 .0) (·code-at2 .result) (·code-at .result) (·pre .2)
+    codes-sibling (·pre .0) (·args .c .0) (·place .given .0 .0) (·code-at2 .result) (·code-at .result) (refl)
     (·place .given .1) (·pre .1) (on-place (·args .cat .now) (·args .tab .now) (·args .pos) (·pre .0 .position)
     (·place .given .0 .0) (·place .given .1)) (·code-at2 .ensures) (·code-at .ensures) (·parent .result)
-    (·parent .ensures) (·parent2 .result) (·parent2 .ensures) (·if1 .left) (c .if3 .taken)
+    (·parent .ensures) (·parent2 .result) (·parent2 .ensures) (·if1 .left) (c .if3 .taken) ∙ sym
+    (status-none (·pre .0) (·args .c .0) refl)
 
 -- src/lib.rt: let was = level(cat, u);
 level-requires : tie.Need-level-requires
@@ -93,31 +94,32 @@ level-requires c κs = search needs
 level-requires-2 : tie.Need-level-requires-2
 level-requires-2 c κs = search needs
 
--- src/lib.rt: return Status::GK;
+-- src/lib.rt: return Status::GA;
 returns-5 : tie.Need-returns-5
 returns-5 c =
     let ·pre = c .before .before .before .before .before .before .before .before .before .before .before .before .before
-    .before .before .before .before .before .before .before .pre in
+    .before .before .before .before .before .before .pre in
     let ·args = c .before .before .before .before .before .before .before .before .before .before .before .before
-    .before .before .before .before .before .before .before .before .args in
+    .before .before .before .before .before .before .before .args in
     let ·place = c .before .before .before .before .before .before .before .before .before .before .before .before
     .before .before .before .place in
     let ·code-at2 = c .before .before .before .before .before .before .before .before .before .before .before .before
     .code-at2 in
     let ·code-at = c .before .before .before .before .before .before .before .before .before .before .before .before
     .before .code-at in let ·level = c .before .before .level in
-    levels-less (·pre .0) (·args .c .0) (·place .given .0 .0) (·code-at2 .result) (·code-at .result) (·pre .2)
+    levels-less (·pre .0) (·args .c .0) (·place .given .0 .0) (·code-at2 .result) (·code-at .result) (refl)
     (·place .given .1) (·pre .1) (on-place (·args .cat .now) (·args .tab .now) (·args .pos) (·pre .0 .position)
     (·place .given .0 .0) (·place .given .1)) (·code-at2 .ensures) (·code-at .ensures) (·level .result)
-    (c .before .level2 .result) (·level .ensures) (c .before .level2 .ensures) (c .if4 .taken)
+    (c .before .level2 .result) (·level .ensures) (c .before .level2 .ensures) (c .if4 .taken) ∙ sym
+    (status-none (·pre .0) (·args .c .0) refl)
 
--- src/lib.rt: return Status::GA;
+-- src/lib.rt: return Status::Blank;
 returns-6 : tie.Need-returns-6
 returns-6 c =
     let ·pre = c .before .before .before .before .before .before .before .before .before .before .before .before .before
-    .before .before .before .before .before .before .before .before .pre in
+    .before .before .before .before .before .before .before .pre in
     let ·args = c .before .before .before .before .before .before .before .before .before .before .before .before
-    .before .before .before .before .before .before .before .before .before .args in
+    .before .before .before .before .before .before .before .before .args in
     let ·place = c .before .before .before .before .before .before .before .before .before .before .before .before
     .before .before .before .before .place in
     let ·code-at2 = c .before .before .before .before .before .before .before .before .before .before .before .before
@@ -125,30 +127,30 @@ returns-6 c =
     let ·code-at = c .before .before .before .before .before .before .before .before .before .before .before .before
     .before .before .code-at in let ·level = c .before .before .before .level in
     let ·level2 = c .before .before .level2 in
-    levels-more (·pre .0) (·args .c .0) (·place .given .0 .0) (·code-at2 .result) (·code-at .result) (·pre .2)
+    levels-more (·pre .0) (·args .c .0) (·place .given .0 .0) (·code-at2 .result) (·code-at .result) (refl)
     (·place .given .1) (·pre .1) (on-place (·args .cat .now) (·args .tab .now) (·args .pos) (·pre .0 .position)
     (·place .given .0 .0) (·place .given .1)) (·code-at2 .ensures) (·code-at .ensures) (·level .result)
-    (·level2 .result) (·level .ensures) (·level2 .ensures) (c .if5 .taken)
+    (·level2 .result) (·level .ensures) (·level2 .ensures) (c .if5 .taken) ∙ sym
+    (status-none (·pre .0) (·args .c .0) refl)
 
--- src/lib.rt: return Status::Blank;
+-- src/lib.rt: fn level_status(cat: &[u8], tab: &[u8], size: usize, pos: Position, c: CellNumber) -> Status
 returns-7 : tie.Need-returns-7
 returns-7 c =
     let ·args = c .before .before .before .before .before .before .before .before .before .before .before .before
-    .before .before .before .before .before .before .before .before .before .args in
+    .before .before .before .before .before .before .before .before .args in
     levels-same (c .before .before .before .before .before .before .before .before .before .before .before .before
-    .before .before .before .before .before .before .before .before .before .pre .0) (·args .c .0)
+    .before .before .before .before .before .before .before .before .pre .0) (·args .c .0)
     (c .before .before .before .before .before .before .before .before .before .before .before .before .before .before
     .before .before .place .given .0 .0) (c .before .before .before .before .before .before .before .before .before
     .before .before .before .before .code-at2 .result)
     (c .before .before .before .before .before .before .before .before .before .before .before .before .before .before
-    .code-at .result) (c .before .before .before .before .before .before .before .before .before .before .before .before
-    .before .before .before .before .before .before .before .before .before .pre .2)
+    .code-at .result) (refl) (c .before .before .before .before .before .before .before .before .before .before .before
+    .before .before .before .before .before .place .given .1)
     (c .before .before .before .before .before .before .before .before .before .before .before .before .before .before
-    .before .before .place .given .1) (c .before .before .before .before .before .before .before .before .before .before
-    .before .before .before .before .before .before .before .before .before .before .before .pre .1)
+    .before .before .before .before .before .before .pre .1)
     (on-place (·args .cat .now) (·args .tab .now) (·args .pos)
     (c .before .before .before .before .before .before .before .before .before .before .before .before .before .before
-    .before .before .before .before .before .before .before .pre .0 .position)
+    .before .before .before .before .before .before .pre .0 .position)
     (c .before .before .before .before .before .before .before .before .before .before .before .before .before .before
     .before .before .place .given .0 .0) (c .before .before .before .before .before .before .before .before .before
     .before .before .before .before .before .before .before .place .given .1))
@@ -157,7 +159,9 @@ returns-7 c =
     .before .code-at .ensures) (c .before .before .before .level .result) (c .before .before .level2 .result)
     (c .before .before .before .level .ensures) (c .before .before .level2 .ensures)
     (c .before .before .before .before .before .before .before .before .before .before .if1 .left)
-    (omega (arith, c .before .if4 .left)) (omega (arith, c .if5 .left))
+    (omega (arith, c .before .if4 .left)) (omega (arith, c .if5 .left)) ∙ sym
+    (status-none (c .before .before .before .before .before .before .before .before .before .before .before .before
+    .before .before .before .before .before .before .before .before .pre .0) (·args .c .0) refl)
 
 pub level-status-spec : {M : Type 1} → statement M
 level-status-spec =

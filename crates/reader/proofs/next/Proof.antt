@@ -1,9 +1,10 @@
 -- `reader::next` meets its contract: it is the function of `Asked.antt`, with `call_next` for its callee. Assumes nothing.
+use mathlib.Core.Path.{_≡_, refl}
 use contract.Running.{givenOf, tables, tablesOf}
 use denote.Triple.Spec.{tripleOf}
 use denote.Triple.Table.{entered, cited}
 use Rattle.reader.specs.Moved.{Asking, gotNext}
-use Rattle.reader.proofs.Asked.{Callee, meets}
+use Rattle.reader.proofs.Asked.{function, Callee, meets}
 use Rattle.reader.proofs.call_next.Symbol as callee-def
 use Rattle.reader.proofs.call_next.Symbol.{name as #reader·call-next}
 use Rattle.reader.proofs.call_next.Met as callee-thm
@@ -11,6 +12,10 @@ use Rattle.reader.proofs.next.Key.{name as #reader·next}
 use Rattle.reader.proofs.next as next
 use Rattle.reader.proofs.next.Statement as stated
 use Rattle.reader.proofs.next.Code as code
+
+-- the code is the one that is walked
+the-code : code.function ≡ function #reader·call-next
+the-code = refl
 
 pub next-spec : {M : Type 1} → stated.statement M
 unfolding code.routine tablesOf

@@ -1,9 +1,10 @@
 -- `reader::read_next` meets its contract: it is the function of `Once.antt`, with `next` for what is asked. Assumes nothing.
+use mathlib.Core.Path.{_≡_, refl}
 use contract.Running.{givenOf, tables, tablesOf}
 use denote.Triple.Spec.{tripleOf}
 use denote.Triple.Table.{entered, cited}
 use Rattle.reader.specs.Moved.{Asking, gotNext}
-use Rattle.reader.proofs.Once.{New, Callee, meets}
+use Rattle.reader.proofs.Once.{function, New, Callee, meets}
 use Rattle.reader.proofs.new.Symbol as new-def
 use Rattle.reader.proofs.new.Symbol.{name as #reader·new}
 use Rattle.reader.proofs.new.Met as new-thm
@@ -14,6 +15,10 @@ use Rattle.reader.proofs.read_next.Key.{name as #reader·read-next}
 use Rattle.reader.proofs.read_next as read-next
 use Rattle.reader.proofs.read_next.Statement as stated
 use Rattle.reader.proofs.read_next.Code as code
+
+-- the code is the one that is walked
+the-code : code.function ≡ function #reader·next
+the-code = refl
 
 pub read-next-spec : {M : Type 1} → stated.statement M
 unfolding code.routine tablesOf

@@ -1,9 +1,10 @@
 -- `reader::within` meets its contract: it is the function of `Asked.antt`, with `call_within` for its callee. Assumes nothing.
+use mathlib.Core.Path.{_≡_, refl}
 use contract.Running.{givenOf, tables, tablesOf}
 use denote.Triple.Spec.{tripleOf}
 use denote.Triple.Table.{entered, cited}
 use Rattle.reader.specs.Moved.{AskingWithin, gotWithin}
-use Rattle.reader.proofs.Asked.{Callee, meets}
+use Rattle.reader.proofs.Asked.{function, Callee, meets}
 use Rattle.reader.proofs.call_within.Symbol as callee-def
 use Rattle.reader.proofs.call_within.Symbol.{name as #reader·call-within}
 use Rattle.reader.proofs.call_within.Met as callee-thm
@@ -11,6 +12,10 @@ use Rattle.reader.proofs.within.Key.{name as #reader·within}
 use Rattle.reader.proofs.within as within
 use Rattle.reader.proofs.within.Statement as stated
 use Rattle.reader.proofs.within.Code as code
+
+-- the code is the one that is walked
+the-code : code.function ≡ function #reader·call-within
+the-code = refl
 
 pub within-spec : {M : Type 1} → stated.statement M
 unfolding code.routine tablesOf
