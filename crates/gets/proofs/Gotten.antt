@@ -1,12 +1,12 @@
 -- The gets, branch by branch: what was found or not, and its status. Assumes nothing.
 use mathlib.Core.Path.{_≡_, refl, ap, sym, _∙_}
-use mathlib.Core.Bool.{Bool, true, false, _&&_, not}
+use mathlib.Core.Bool.{Bool, true, false, not}
 use mathlib.Core.List.{List, [], _∷_, _++_}
 use Prim.Native.Nat.{ℕ, zero, suc, _+_, _-_, _<_, _≤_}
 use native.Mathlib.Omega.{arith}
-use lib.Dec.{ltb, eqb}
+use lib.Dec.{ltb}
 use lib.ListN.{length, drop}
-use borrow.Author.Tests.{lt-ltb, le-ltb, eq-eqb, ne-eqb, ltb-true, ltb-false, eqb-true, eqb-false}
+use borrow.Author.Tests.{lt-ltb, le-ltb, eq-eqb, ne-eqb, ltb-true, ltb-false}
 use Rattle.terms.specs.declared.TypeCode.{TypeCode}
 use Rattle.terms.specs.declared.CellNumber.{CellNumber}
 use Rattle.terms.specs.declared.Place.{Place}
@@ -46,7 +46,7 @@ use Rattle.search.specs.Good.{Good}
 use Rattle.search.proofs.Branches.{first-none, all-match, known-last}
 use Rattle.search.proofs.Levels.{get-levels}
 use Rattle.answers.specs.Told.{told}
-use Rattle.answers.specs.Ready.{Ready, left, gotAt, missedStatus}
+use Rattle.answers.specs.Ready.{Ready, left, gotAt}
 
 -- a cell's data lies within the cell
 pub data-fits : {cat tab : Bytes} {size : ℕ} → Sound cat tab size → (i : ℕ) → i < count tab → suc (lengthOf cat (segment (listing cat tab) i .code)) ≤ size
@@ -113,12 +113,18 @@ module _ {cat tab : Bytes} {size : ℕ} {pos : Position} {list : Bytes} (r : Rea
   status-filled [] q i h = absurd (omega arith)
   status-filled (l ∷ m) q i h = refl
 
-  pub miss-status : missedStatus list ≡ missStatus ls
-  miss-status = go (eqb (length list) 0) refl
-    where
-      go : (b : Bool) → eqb (length list) 0 ≡ b → missedStatus list ≡ missStatus ls
-      go true e = rw (e, levels-none (eqb-true (length list) 0 e))
-      go false e = rw e (sym (miss-filled ls (levels-some (eqb-false (length list) 0 e))))
+  miss-empty : length list ≡ 0 → GB ≡ missStatus ls
+  miss-empty e = sym (ap missStatus (levels-none e))
+
+  pub miss-named : (length list ≡ 0 → ⊥) → GE ≡ missStatus ls
+  miss-named n = sym (miss-filled ls (levels-some n))
+
+  -- what is ready for any list is ready for an empty one, whose status is that of no levels
+  pub ready-none : Ready cat tab size pos []
+  ready-none = record { sound = r .sound; position = r .position; asked = ap (λ (l : ListRead). l .fault) (list-empty cat [] refl) }
+
+  pub status-none : (i : ℕ) → length list ≡ 0 → levelStatus cat cs [] (pos .place) i ≡ levelStatus cat cs ls (pos .place) i
+  status-none i e = ap (λ (l : List Level). levelStatus cat cs l (pos .place) i) (sym (levels-none e))
 
   module _ (i : ℕ) where
     pub status-named : (length list ≡ 0 → ⊥) → Blank ≡ levelStatus cat cs ls (pos .place) i
@@ -218,9 +224,9 @@ module _ {cat tab : Bytes} {size : ℕ} {pos : Position} {list : Bytes} (r : Rea
       unfolding getNext
       next-found c s n f z = rw (← n, first-is ∙ f, z)
 
-      pub next-missed : (s : Status) → to ≡ length cs → found ≡ Nothing → s ≡ missedStatus list → left (bare s (afterMiss s pos)) area ≡ getNext cat cs pos area hold ls
+      pub next-missed : (s : Status) → to ≡ length cs → found ≡ Nothing → s ≡ missStatus ls → left (bare s (afterMiss s pos)) area ≡ getNext cat cs pos area hold ls
       unfolding getNext
-      next-missed s n f z = rw (← n, first-is ∙ f, z, miss-status)
+      next-missed s n f z = rw (← n, first-is ∙ f, z)
 
       pub within-found : (p c : CellNumber) (s : Status) → pos .parentage ≡ Of p → to ≡ endAt cat cs (p .0) → found ≡ At c → s ≡ levelStatus cat cs ls (pos .place) (c .0)
           → gotAt cat cs s (Of p) hold (c .0) area ≡ getNextWithin cat cs pos area hold ls
@@ -249,7 +255,7 @@ module _ {cat tab : Bytes} {size : ℕ} {pos : Position} {list : Bytes} (r : Rea
 
   pub cell-missed : n ≤ i → left (bare GB (afterMiss GB pos)) area ≡ getNext cat (listing cat tab) pos area hold (getLevels cat list (listRead cat list .arguments))
   cell-missed l =
-      next-missed r area hold lastCode Nothing refl i at n (first-none cat (listing cat tab) (complete cat list (listRead cat list .arguments) lastCode) i n l) GB to-end refl (sym (ap (λ (b : Bool). pick b GB GE) (eq-eqb (length list) 0 none)))
+      next-missed r area hold lastCode Nothing refl i at n (first-none cat (listing cat tab) (complete cat list (listRead cat list .arguments) lastCode) i n l) GB to-end refl (miss-empty r none)
 
 -- the cell that a run comes up to is in it where its type is beneath that of the run's first cell
 under-stop : (lev : ℕ → ℕ) (m n s : ℕ) → under lev m (range s n) < n → lev (s + under lev m (range s n)) ≤ m

@@ -23,6 +23,7 @@ use terms::Position;
 use terms::Status;
 ghost use mathlib.Core.Path.{_≡_};
 ghost use mathlib.Core.Bool.{false};
+ghost use mathlib.Core.List.{[]};
 ghost use Prim.Native.Nat.{suc, _<_, _≤_};
 ghost use lib.Dec.{ltb};
 ghost use lib.ListN.{length};
@@ -33,7 +34,7 @@ ghost use Rattle.rules.specs.Table.{count, listing};
 ghost use Rattle.rules.specs.Arguments.{listRead, getLevels};
 ghost use Rattle.rules.specs.Calls.{levelStatus, getUnique, getNext, getNextWithin};
 ghost use Rattle.cells.specs.Sound.{Sound};
-ghost use Rattle.answers.specs.Ready.{Ready, gotAt, left, missedStatus};
+ghost use Rattle.answers.specs.Ready.{Ready, gotAt, left};
 
 // "A get moves onto it and writes its L bytes to the front of the area".
 fn got(
@@ -68,23 +69,12 @@ fn after_place(q: Place) -> usize
     }
 }
 
-// GA, GK or blank, of the cell that a get-next found. Twins, a first child and a child of the same parent are seen from the codes; only else are
-// levels counted.
-pub fn level_status(
-    cat: &[u8],
-    tab: &[u8],
-    size: usize,
-    pos: Position,
-    list: &[u8],
-    c: CellNumber,
-) -> Status
-    requires { ⌜ Ready (now cat) (now tab) size pos (now list) × (c .0 < count (now tab)) ⌝ }
-    ensures { λ r. ⌜ r ≡ levelStatus (now (cat .entry)) (listing (now (cat .entry)) (now (tab .entry)))
-        (getLevels (now (cat .entry)) (now (list .entry)) (listRead (now (cat .entry)) (now (list .entry)) .arguments)) (pos .place) (c .0) ⌝ }
+// GA, GK or blank, of the cell that a get-next with an empty list found. Twins, a first child and a child of the same parent are seen from the
+// codes; only else are levels counted.
+fn level_status(cat: &[u8], tab: &[u8], size: usize, pos: Position, c: CellNumber) -> Status
+    requires { ⌜ Ready (now cat) (now tab) size pos [] × (c .0 < count (now tab)) ⌝ }
+    ensures { λ r. ⌜ r ≡ levelStatus (now (cat .entry)) (listing (now (cat .entry)) (now (tab .entry))) [] (pos .place) (c .0) ⌝ }
 {
-    if list.len() != 0 {
-        return Status::Blank;
-    }
     let place = pos.place;
     let Place::On(q) = place else {
         return Status::Blank;
@@ -110,16 +100,6 @@ pub fn level_status(
         return Status::Blank;
     }
     Status::GK
-}
-
-// GB: "GN or GHN, empty list, no cell left"
-fn miss_status(list: &[u8]) -> Status
-    ensures { λ r. ⌜ r ≡ missedStatus (now (list .entry)) ⌝ }
-{
-    if list.len() == 0 {
-        return Status::GB;
-    }
-    Status::GE
 }
 
 // "GU: first match in cell order, along the position."
@@ -155,34 +135,9 @@ pub fn get_unique(
     )
 }
 
-// "GN: first match after the place"
-pub fn get_next(
-    cat: &[u8],
-    tab: &[u8],
-    size: usize,
-    pos: Position,
-    list: &[u8],
-    area: &mut [u8],
-    hold: bool,
-) -> Answer
-    requires { ⌜ Ready (now cat) (now tab) size pos (now list) × (size ≤ suc (length (now area))) ⌝ }
-    ensures { λ r. ⌜ left r (now (area .exit))
-        ≡ getNext (now (cat .entry)) (listing (now (cat .entry)) (now (tab .entry))) pos (now (area .entry)) hold
-        (getLevels (now (cat .entry)) (now (list .entry)) (listRead (now (cat .entry)) (now (list .entry)) .arguments)) ⌝ }
-{
-    let place = pos.place;
-    let t = last_of(cat, list).code;
-    let from = after_place(place);
-    let Found::At(c) = first_match(cat, tab, size, list, t, from, count(tab)) else {
-        return missed(miss_status(list), pos);
-    };
-    let s = level_status(cat, tab, size, pos, list, c);
-    got(cat, tab, size, c, s, Parentage::Of(c), hold, pos, area)
-}
-
-// The same with an empty list, which matches every cell: there is nothing to search. It stands apart so that the face can take it in whole, for
-// this is the call that a reading of the whole table makes.
-pub fn get_next_cell(
+// GN with an empty list, which matches every cell: there is nothing to search. GB: "GN or GHN, empty list, no cell left". It is the call that a
+// reading of the whole table makes.
+fn get_next_cell(
     cat: &[u8],
     tab: &[u8],
     size: usize,
@@ -202,7 +157,35 @@ pub fn get_next_cell(
         return missed(Status::GB, pos);
     }
     let c = CellNumber(i);
-    let s = level_status(cat, tab, size, pos, list, c);
+    let s = level_status(cat, tab, size, pos, c);
+    got(cat, tab, size, c, s, Parentage::Of(c), hold, pos, area)
+}
+
+// "GN: first match after the place". GB, GA and GK come with an empty list only, where the next cell is the match.
+pub fn get_next(
+    cat: &[u8],
+    tab: &[u8],
+    size: usize,
+    pos: Position,
+    list: &[u8],
+    area: &mut [u8],
+    hold: bool,
+) -> Answer
+    requires { ⌜ Ready (now cat) (now tab) size pos (now list) × (size ≤ suc (length (now area))) ⌝ }
+    ensures { λ r. ⌜ left r (now (area .exit))
+        ≡ getNext (now (cat .entry)) (listing (now (cat .entry)) (now (tab .entry))) pos (now (area .entry)) hold
+        (getLevels (now (cat .entry)) (now (list .entry)) (listRead (now (cat .entry)) (now (list .entry)) .arguments)) ⌝ }
+{
+    if list.len() == 0 {
+        return get_next_cell(cat, tab, size, pos, list, area, hold);
+    }
+    let place = pos.place;
+    let t = last_of(cat, list).code;
+    let from = after_place(place);
+    let Found::At(c) = first_match(cat, tab, size, list, t, from, count(tab)) else {
+        return missed(Status::GE, pos);
+    };
+    let s = Status::Blank;
     got(cat, tab, size, c, s, Parentage::Of(c), hold, pos, area)
 }
 
@@ -241,7 +224,7 @@ fn get_next_cell_within(
         return missed(Status::GE, pos);
     }
     let c = CellNumber(i);
-    let s = level_status(cat, tab, size, pos, list, c);
+    let s = level_status(cat, tab, size, pos, c);
     got(cat, tab, size, c, s, Parentage::Of(p), hold, pos, area)
 }
 
@@ -274,6 +257,6 @@ pub fn get_next_within(
     let Found::At(c) = first_match(cat, tab, size, list, t, from, to) else {
         return missed(Status::GE, pos);
     };
-    let s = level_status(cat, tab, size, pos, list, c);
+    let s = Status::Blank;
     got(cat, tab, size, c, s, parentage, hold, pos, area)
 }

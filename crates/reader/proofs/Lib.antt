@@ -1,3 +1,3 @@
-pub mod Stepping
-pub mod Calls
-pub mod Onward
+pub mod Held
+pub mod Asked
+pub mod Once

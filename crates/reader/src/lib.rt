@@ -1,150 +1,122 @@
-// The get-next reader: "issues GN with an empty list from fresh to the first GB". It holds the blocks, the list and how far it has come; what
-// it does is one covered call.
-use gets::level_status;
-use search::forward::forward;
-use terms::CellNumber;
-use terms::Found;
-use terms::Parentage;
-use terms::Place;
+// The get-next reader: the slices it reads, the list it asks with, and where it stands. A loop asks it for the next cell, or for the next one
+// beneath its parentage, until none is left. It holds nothing else: what a search carries from call to call does not live here.
+use blocks::wide;
+use terms::Answer;
 use terms::Position;
-use terms::Status;
-use terms::TypeCode;
 ghost use mathlib.Core.Path.{_≡_};
-ghost use Rattle.terms.specs.Names.{code as typeOf};
-ghost use Rattle.rules.specs.Matching.{firstMatch};
+ghost use mathlib.Core.Bool.{false};
+ghost use Prim.Native.Nat.{suc, _≤_};
+ghost use lib.ListN.{length};
+ghost use Rattle.terms.specs.Moves.{isAbsent};
+ghost use Rattle.rules.specs.Block.{byte};
 ghost use Rattle.rules.specs.Table.{listing};
-ghost use Rattle.search.specs.Stretch.{levels};
-ghost use Rattle.reader.specs.UnderWay.{Reading};
-ghost use Rattle.reader.specs.Stepped.{standing, stepped};
+ghost use Rattle.rules.specs.Arguments.{listRead, getLevels};
+ghost use Rattle.rules.specs.Calls.{getNext, getNextWithin};
+ghost use Rattle.answers.specs.Ready.{Ready, left};
+ghost use Rattle.reader.specs.Moved.{Asking, AskingWithin, gotNext, gotWithin, moved};
 
-// What a get-next reads: a cell with its status, or that no cell is left.
-pub enum Read {
-    Got(CellNumber, Status),
-    Done,
-}
-
-// A get-next under way: the blocks and the list it reads, the cell size, the last type of the list (0: none), how far down the path of the cell
-// before `at` agrees with the list, the first cell not passed yet, and the cell it stops before.
+// The slices it reads, the list it asks with, and where it stands.
 pub struct Reader<'a, 'b, 'c> {
     pub cat: &'a [u8],
     pub tab: &'b [u8],
     pub list: &'c [u8],
-    pub size: usize,
-    pub code: u8,
-    pub long: u8,
-    pub at: usize,
-    pub to: usize,
+    pub position: Position,
 }
 
-// The first match from cell `at` on and before cell `to`. "The empty list matches every segment."
-fn sought(
-    cat: &[u8],
-    tab: &[u8],
-    list: &[u8],
-    size: usize,
-    code: u8,
-    long: u8,
-    at: usize,
-    to: usize,
-) -> Found
-    requires { ⌜ Reading (now cat) (now tab) (now list) size code long at to ⌝ }
-    ensures { λ r. ⌜ r ≡ firstMatch (now (cat .entry)) (listing (now (cat .entry)) (now (tab .entry)))
-        (levels (now (cat .entry)) (now (list .entry)) (typeOf code)) at to ⌝ }
+// What a call answered, and the reader moved on to the answer's position.
+pub struct Step<'a, 'b, 'c> {
+    pub answer: Answer,
+    pub reader: Reader<'a, 'b, 'c>,
+}
+
+// The covered call: GN without a hold, with the cell size that the table tells.
+fn call_next(cat: &[u8], tab: &[u8], list: &[u8], pos: Position, area: &mut [u8]) -> Answer
+    requires { ⌜ Asking (now cat) (now tab) (now list) pos (now area) ⌝ }
+    ensures { λ r. ⌜ left r (now (area .exit)) ≡ gotNext (now (cat .entry)) (now (tab .entry)) (now (list .entry)) pos (now (area .entry)) ⌝ }
 {
-    if to <= at {
-        return Found::Nothing;
-    }
-    if code == 0 {
-        return Found::At(CellNumber(at));
-    }
-    forward(cat, tab, size, list, TypeCode(code), long, at, to)
+    let size = wide(tab[5]);
+    gets::get_next(cat, tab, size, pos, list, area, false)
 }
 
-// The position of a reader that has passed the first `at` cells: on the last of them, or at the start.
-fn standing(at: usize) -> Position
-    ensures { λ r. ⌜ r ≡ standing at ⌝ }
+// The same of GNP.
+fn call_within(cat: &[u8], tab: &[u8], list: &[u8], pos: Position, area: &mut [u8]) -> Answer
+    requires { ⌜ AskingWithin (now cat) (now tab) (now list) pos (now area) ⌝ }
+    ensures { λ r. ⌜ left r (now (area .exit)) ≡ gotWithin (now (cat .entry)) (now (tab .entry)) (now (list .entry)) pos (now (area .entry)) ⌝ }
 {
-    if at == 0 {
-        return Position {
-            place: Place::Before(CellNumber(0)),
-            parentage: Parentage::Absent,
-            hold: false,
-        };
-    }
-    Position {
-        place: Place::On(CellNumber(at - 1)),
-        parentage: Parentage::Absent,
-        hold: false,
-    }
+    let size = wide(tab[5]);
+    gets::get_next_within(cat, tab, size, pos, list, area, false)
 }
 
-// The covered call: the next cell and its status.
-pub fn step(
-    cat: &[u8],
-    tab: &[u8],
-    list: &[u8],
-    size: usize,
-    code: u8,
-    long: u8,
-    at: usize,
-    to: usize,
-) -> Read
-    requires { ⌜ Reading (now cat) (now tab) (now list) size code long at to ⌝ }
-    ensures { λ r. ⌜ r ≡ stepped (now (cat .entry)) (now (tab .entry)) (now (list .entry)) at to ⌝ }
-{
-    let Found::At(c) = sought(cat, tab, list, size, code, long, at, to) else {
-        return Read::Done;
-    };
-    Read::Got(c, level_status(cat, tab, size, standing(at), list, c))
-}
-
-// A reader of these blocks and this list, from cell `at` on.
+// A reader of these blocks with this list, at this position.
 pub fn new<'a, 'b, 'c>(
     cat: &'a [u8],
     tab: &'b [u8],
     list: &'c [u8],
-    size: usize,
-    code: u8,
-    long: u8,
-    at: usize,
-    to: usize,
+    position: Position,
 ) -> Reader<'a, 'b, 'c>
-    ensures { λ r. ⌜ (r .cat ≡ cat .entry) × (r .tab ≡ tab .entry) × (r .list ≡ list .entry) × (r .size ≡ size) × (r .code ≡ code) × (r .long ≡ long)
-        × (r .at ≡ at) × (r .to ≡ to) ⌝ }
+    ensures { λ r. ⌜ (r .cat ≡ cat .entry) × (r .tab ≡ tab .entry) × (r .list ≡ list .entry) × (r .position ≡ position) ⌝ }
 {
     Reader {
         cat,
         tab,
         list,
-        size,
-        code,
-        long,
-        at,
-        to,
+        position,
     }
 }
 
-// The next cell of a reader.
-pub fn next<'a, 'b, 'c>(r: Reader<'a, 'b, 'c>) -> Read
-    requires { ⌜ Reading (now (r .cat)) (now (r .tab)) (now (r .list)) (r .size) (r .code) (r .long) (r .at) (r .to) ⌝ }
-    ensures { λ s. ⌜ s ≡ stepped (now (r .entry .cat)) (now (r .entry .tab)) (now (r .entry .list)) (r .entry .at) (r .entry .to) ⌝ }
+// GN from where the reader stands; it stands where the answer says then.
+pub fn next<'a, 'b, 'c>(r: Reader<'a, 'b, 'c>, area: &mut [u8]) -> Step<'a, 'b, 'c>
+    requires { ⌜ Asking (now (r .cat)) (now (r .tab)) (now (r .list)) (r .position) (now area) ⌝ }
+    ensures { λ s. ⌜ (left (s .answer) (now (area .exit))
+        ≡ gotNext (now (r .entry .cat)) (now (r .entry .tab)) (now (r .entry .list)) (r .entry .position) (now (area .entry)))
+        × (s .reader ≡ moved (r .entry) (s .answer .position)) ⌝ }
 {
-    step(r.cat, r.tab, r.list, r.size, r.code, r.long, r.at, r.to)
+    let answer = call_next(r.cat, r.tab, r.list, r.position, area);
+    let reader = Reader {
+        cat: r.cat,
+        tab: r.tab,
+        list: r.list,
+        position: answer.position,
+    };
+    Step { answer, reader }
 }
 
-// A reader made and read once: what a caller with plain slices calls.
-pub fn read_next(
-    cat: &[u8],
-    tab: &[u8],
-    list: &[u8],
-    size: usize,
-    code: u8,
-    long: u8,
-    at: usize,
-    to: usize,
-) -> Read
-    requires { ⌜ Reading (now cat) (now tab) (now list) size code long at to ⌝ }
-    ensures { λ r. ⌜ r ≡ stepped (now (cat .entry)) (now (tab .entry)) (now (list .entry)) at to ⌝ }
+// GNP likewise: the next cell beneath the parentage.
+pub fn within<'a, 'b, 'c>(r: Reader<'a, 'b, 'c>, area: &mut [u8]) -> Step<'a, 'b, 'c>
+    requires { ⌜ AskingWithin (now (r .cat)) (now (r .tab)) (now (r .list)) (r .position) (now area) ⌝ }
+    ensures { λ s. ⌜ (left (s .answer) (now (area .exit))
+        ≡ gotWithin (now (r .entry .cat)) (now (r .entry .tab)) (now (r .entry .list)) (r .entry .position) (now (area .entry)))
+        × (s .reader ≡ moved (r .entry) (s .answer .position)) ⌝ }
 {
-    next(new(cat, tab, list, size, code, long, at, to))
+    let answer = call_within(r.cat, r.tab, r.list, r.position, area);
+    let reader = Reader {
+        cat: r.cat,
+        tab: r.tab,
+        list: r.list,
+        position: answer.position,
+    };
+    Step { answer, reader }
+}
+
+// A reader made and asked once: what a loop with plain slices calls. The answer's position is where the reader moved to.
+pub fn read_next(cat: &[u8], tab: &[u8], list: &[u8], pos: Position, area: &mut [u8]) -> Answer
+    requires { ⌜ Ready (now cat) (now tab) (byte (now tab) 5) pos (now list) × (byte (now tab) 5 ≤ suc (length (now area))) ⌝ }
+    ensures { λ r. ⌜ left r (now (area .exit))
+        ≡ getNext (now (cat .entry)) (listing (now (cat .entry)) (now (tab .entry))) pos (now (area .entry)) false
+        (getLevels (now (cat .entry)) (now (list .entry)) (listRead (now (cat .entry)) (now (list .entry)) .arguments)) ⌝ }
+{
+    let s = next(new(cat, tab, list, pos), area);
+    s.answer
+}
+
+// The same of GNP.
+pub fn read_within(cat: &[u8], tab: &[u8], list: &[u8], pos: Position, area: &mut [u8]) -> Answer
+    requires { ⌜ Ready (now cat) (now tab) (byte (now tab) 5) pos (now list) × (byte (now tab) 5 ≤ suc (length (now area)))
+        × (isAbsent (pos .parentage) ≡ false) ⌝ }
+    ensures { λ r. ⌜ left r (now (area .exit))
+        ≡ getNextWithin (now (cat .entry)) (listing (now (cat .entry)) (now (tab .entry))) pos (now (area .entry)) false
+        (getLevels (now (cat .entry)) (now (list .entry)) (listRead (now (cat .entry)) (now (list .entry)) .arguments)) ⌝ }
+{
+    let s = within(new(cat, tab, list, pos), area);
+    s.answer
 }

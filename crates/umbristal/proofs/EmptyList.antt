@@ -66,11 +66,10 @@ module _ (cat tab : Bytes) (pos : Position) (list area : Bytes) (f : SoundFor ca
         let l : cellSize cat - 1 ≤ length area = omega (arith, step-long tab 2 list area e, good-housed cat tab (f .table) .told) in
         sym (sym (get-misused cat pos 2 list area (cellSize cat) refl list-sound (λ z. omega arith) (omega arith)) ∙ rw (le-ltb (length area) (cellSize cat - 1) l))
 
-    pub step-ready : (size : ℕ) → size ≡ byte tab 5 → Ready cat tab size pos list × (size ≤ suc (length area)) × (length list ≡ 0)
+    pub step-ready : (size : ℕ) → size ≡ byte tab 5 → Ready cat tab size pos list × (size ≤ suc (length area))
     step-ready size w = (
       ready cat tab pos 2 list area (callable cat tab pos 2 list area f Blank 0 none-misused refl refl size w),
       omega (arith, step-long tab 2 list area e),
-      step-empty tab 2 list area e,
     )
 
     pub step-made : (a : Answer) (r : Bytes) → leftBy a r ≡ getNext cat (listing cat tab) pos area false (getLevels cat list (listRead cat list .arguments)) → made a tab r ≡ soundOutcome cat tab pos 2 list area

@@ -3,14 +3,27 @@ use native.Mathlib.Omega.{arith}
 use Rattle.answers.specs.Ready.{left}
 use Rattle.terms.specs.declared.Answer.{Answer}
 use Rattle.terms.specs.declared.Argument.{Argument}
+use Rattle.terms.specs.declared.Status.the-variants.{Blank, GE}
 use Rattle.rules.specs.Table.{listing}
 use Rattle.rules.specs.Arguments.{complete, listRead}
 use Rattle.rules.proofs.Cells.{listing-length}
 use Rattle.gets.proofs.Found.{after-in, first-in}
-use Rattle.gets.proofs.Gotten.{search-good, next-found, next-missed}
+use Rattle.gets.proofs.Gotten.{search-good, next-found, next-missed, miss-named, status-named}
 use borrow.Author.Needs.{needs}
 use Rattle.gets.proofs.get_next.Statement.{statement}
 use Rattle.gets.proofs.get_next.Tie as tie
+
+-- src/lib.rt: return get_next_cell(cat, tab, size, pos, list, area, hold);
+get-next-cell-requires : tie.Need-get-next-cell-requires
+get-next-cell-requires c κs = search needs
+
+-- src/lib.rt: return get_next_cell(cat, tab, size, pos, list, area, hold);
+same-length : tie.Need-same-length
+same-length c = search needs
+
+-- src/lib.rt: return get_next_cell(cat, tab, size, pos, list, area, hold);
+returns : tie.Need-returns
+returns c = search needs
 
 -- src/lib.rt: let t = last_of(cat, list).code;
 last-of-requires : tie.Need-last-of-requires
@@ -18,12 +31,12 @@ last-of-requires c κs = search needs
 
 -- src/lib.rt: let from = after_place(place);
 after-place-requires : tie.Need-after-place-requires
-after-place-requires c κs = let ·args = c .before .before .before .before .before .before .args in
+after-place-requires c κs = let ·args = c .before .before .before .before .before .before .before .args in
     omega (
       arith,
       after-in (·args .cat .now) (·args .tab .now) (·args .pos)
-          (c .before .before .before .before .before .before .pre .0 .position),
-      c .before .before .before .before .before .before .pre .0 .sound .sized .few,
+          (c .before .before .before .before .before .before .before .pre .0 .position),
+      c .before .before .before .before .before .before .before .pre .0 .sound .sized .few,
     )
 
 -- src/lib.rt: let Found::At(c) = first_match(cat, tab, size, list, t, from, count(tab)) else {
@@ -33,8 +46,8 @@ count-requires c κs = search needs
 -- src/lib.rt: let Found::At(c) = first_match(cat, tab, size, list, t, from, count(tab)) else {
 first-match-requires : tie.Need-first-match-requires
 first-match-requires c κs = (
-  search-good (c .before .before .before .before .before .before .before .before .pre .0)
-      (c .before .before .before .last-of .result .code)
+  search-good (c .before .before .before .before .before .before .before .before .before
+      .pre .0) (c .before .before .before .last-of .result .code)
       (ap (λ (a : Argument). a .code) (c .before .before .before .last-of .ensures)),
   omega (arith, c .count .ensures .0),
 )
@@ -43,50 +56,30 @@ first-match-requires c κs = (
 enum-known-c : tie.Need-enum-known-c
 enum-known-c c = search needs
 
--- src/lib.rt: return missed(miss_status(list), pos);
+-- src/lib.rt: return missed(Status::GE, pos);
 enum-told : tie.Need-enum-told
 enum-told c = search needs
 
--- src/lib.rt: return missed(miss_status(list), pos);
-miss-status-requires : tie.Need-miss-status-requires
-miss-status-requires c κs = search needs
-
--- src/lib.rt: return missed(miss_status(list), pos);
+-- src/lib.rt: return missed(Status::GE, pos);
 missed-requires : tie.Need-missed-requires
 missed-requires c κs = search needs
 
--- src/lib.rt: return missed(miss_status(list), pos);
-returns : tie.Need-returns
-returns c =
+-- src/lib.rt: return missed(Status::GE, pos);
+returns-2 : tie.Need-returns-2
+returns-2 c =
     let ·args = c .before .before .before .before .before .before .before .before .before .before .before .before
     .before .args in
     let ·pre = c .before .before .before .before .before .before .before .before .before .before .before .before .before
-    .pre in let ·last-of = c .before .before .before .before .before .before .before .before .last-of in
-    let ·first-match = c .before .before .before .before .first-match in
-    let ·after-place = c .before .before .before .before .before .before .after-place in
-    let ·count = c .before .before .before .before .before .count in let ·enum-told = c .before .before .enum-told in
+    .pre in let ·last-of = c .before .before .before .before .before .before .before .last-of in
+    let ·first-match = c .before .before .before .first-match in
+    let ·after-place = c .before .before .before .before .before .after-place in
+    let ·count = c .before .before .before .before .count in
+    let ·if1 = c .before .before .before .before .before .before .before .before .if1 in
     ap (λ (r : Answer). left r (·args .area .now)) (c .missed .ensures) ∙ next-missed (·pre .0) (·args .area .now)
     (·args .hold) (·last-of .result .code) (·first-match .result) (ap (λ (a : Argument). a .code) (·last-of .ensures))
-    (·after-place .result) (·after-place .ensures) (·count .result) (·first-match .ensures)
-    (c .before .miss-status .result) (·count .ensures .0 ∙ sym (listing-length (·args .cat .now) (·args .tab .now)))
-    (·enum-told .given .1) (c .before .miss-status .ensures)
-
--- src/lib.rt: let s = level_status(cat, tab, size, pos, list, c);
-level-status-requires : tie.Need-level-status-requires
-level-status-requires c κs =
-    let ·args = c .before .before .before .before .before .before .before .before .before .before .before .before .args
-    in (
-      c .before .before .before .before .before .before .before .before .before .before .before .before .pre .0,
-      omega (
-        arith,
-        first-in (·args .cat .now) (listing (·args .cat .now) (·args .tab .now))
-            (complete (·args .cat .now) (·args .list .now) (listRead (·args .cat .now) (·args .list .now) .arguments)
-            (c .before .before .before .before .before .before .before .last-of .result .code))
-            (c .before .before .before .before .before .after-place .result) (c .before .before .before .before .count .result)
-            (c .before .c .given .0 .0) (sym (c .before .before .before .first-match .ensures) ∙ c .before .c .given .1),
-        c .before .before .before .before .count .ensures .0,
-      ),
-    )
+    (·after-place .result) (·after-place .ensures) (·count .result) (·first-match .ensures) GE
+    (·count .ensures .0 ∙ sym (listing-length (·args .cat .now) (·args .tab .now))) (c .before .enum-told .given .1)
+    (miss-named (·pre .0) (·if1 .left))
 
 -- src/lib.rt: got(cat, tab, size, c, s, Parentage::Of(c), hold, pos, area)
 got-requires : tie.Need-got-requires
@@ -99,53 +92,54 @@ got-requires c κs =
         arith,
         first-in (·args .cat .now) (listing (·args .cat .now) (·args .tab .now))
             (complete (·args .cat .now) (·args .list .now) (listRead (·args .cat .now) (·args .list .now) .arguments)
-            (c .before .before .before .before .before .before .before .before .before .last-of .result .code))
-            (c .before .before .before .before .before .before .before .after-place .result)
-            (c .before .before .before .before .before .before .count .result) (c .before .before .before .c .given .0 .0)
-            (sym (c .before .before .before .before .before .first-match .ensures) ∙ c .before .before .before .c .given .1),
-        c .before .before .before .before .before .before .count .ensures .0,
+            (c .before .before .before .before .before .before .before .before .last-of .result .code))
+            (c .before .before .before .before .before .before .after-place .result)
+            (c .before .before .before .before .before .count .result) (c .before .before .c .given .0 .0)
+            (sym (c .before .before .before .before .first-match .ensures) ∙ c .before .before .c .given .1),
+        c .before .before .before .before .before .count .ensures .0,
       ),
       c .before .before .before .before .before .before .before .before .before .before .before .before .before .before
           .pre .1,
     )
 
 -- src/lib.rt: pub fn get_next(
-same-length : tie.Need-same-length
-same-length c = search needs
+same-length-2 : tie.Need-same-length-2
+same-length-2 c = search needs
 
 -- src/lib.rt: pub fn get_next(
-returns-2 : tie.Need-returns-2
-returns-2 c = let ·got = c .before .before .got in
+returns-3 : tie.Need-returns-3
+returns-3 c = let ·got = c .before .before .got in
     let ·pre = c .before .before .before .before .before .before .before .before .before .before .before .before .before
     .before .before .before .before .pre in
     let ·args = c .before .before .before .before .before .before .before .before .before .before .before .before
     .before .before .before .before .before .args in
-    let ·last-of = c .before .before .before .before .before .before .before .before .before .before .before .before
-    .last-of in let ·first-match = c .before .before .before .before .before .before .before .before .first-match in
-    let ·after-place = c .before .before .before .before .before .before .before .before .before .before .after-place in
-    let ·count = c .before .before .before .before .before .before .before .before .before .count in
-    let ·c = c .before .before .before .before .before .before .c in
-    let ·level-status = c .before .before .before .before .level-status in
+    let ·last-of = c .before .before .before .before .before .before .before .before .before .before .before .last-of in
+    let ·first-match = c .before .before .before .before .before .before .before .first-match in
+    let ·after-place = c .before .before .before .before .before .before .before .before .before .after-place in
+    let ·count = c .before .before .before .before .before .before .before .before .count in
+    let ·c = c .before .before .before .before .before .c in
+    let ·if1 = c .before .before .before .before .before .before .before .before .before .before .before .before .if1 in
     ·got .ensures ∙ next-found (·pre .0) (·args .area .now) (·args .hold) (·last-of .result .code)
     (·first-match .result) (ap (λ (a : Argument). a .code) (·last-of .ensures)) (·after-place .result)
-    (·after-place .ensures) (·count .result) (·first-match .ensures) (·c .given .0 .0) (·level-status .result)
+    (·after-place .ensures) (·count .result) (·first-match .ensures) (·c .given .0 .0) Blank
     (·count .ensures .0 ∙ sym (listing-length (·args .cat .now) (·args .tab .now))) (·c .given .1)
-    (·level-status .ensures)
+    (status-named (·pre .0) (·c .given .0 .0 .0) (·if1 .left))
 
 pub get-next-spec : {M : Type 1} → statement M
 get-next-spec =
     tie.close
     (tie.spec
+    get-next-cell-requires
+    same-length
+    returns
     last-of-requires
     after-place-requires
     count-requires
     first-match-requires
     enum-known-c
     enum-told
-    miss-status-requires
     missed-requires
-    returns
-    level-status-requires
+    returns-2
     got-requires
-    same-length
-    returns-2)
+    same-length-2
+    returns-3)

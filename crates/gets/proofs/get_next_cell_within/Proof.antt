@@ -7,7 +7,7 @@ use Rattle.rules.specs.Table.{listing}
 use Rattle.rules.proofs.Cells.{listing-length}
 use Rattle.cells.proofs.Located.{end-within}
 use Rattle.gets.proofs.Found.{after-in, parent-in, around}
-use Rattle.gets.proofs.Gotten.{cell-in-run, cell-within, cell-outside}
+use Rattle.gets.proofs.Gotten.{ready-none, status-none, cell-in-run, cell-within, cell-outside}
 use borrow.Author.Needs.{needs}
 use Rattle.gets.proofs.get_next_cell_within.Statement.{statement}
 use Rattle.gets.proofs.get_next_cell_within.Tie as tie
@@ -50,13 +50,14 @@ returns c = let ·args = c .before .before .before .before .before .before .befo
     (·args .hold) (·pre .2) (·after-place .result) (·after-place .ensures) (·args .p) (·pre .3) (·is-within .result)
     (·is-within .ensures) (not-true _ (c .before .if1 .taken))
 
--- src/lib.rt: let s = level_status(cat, tab, size, pos, list, c);
+-- src/lib.rt: let s = level_status(cat, tab, size, pos, c);
 level-status-requires : tie.Need-level-status-requires
 level-status-requires c κs = let ·pre = c .before .before .before .before .before .before .before .pre in
     let ·args = c .before .before .before .before .before .before .before .args in (
-      ·pre .0,
-      cell-in-run _ _ _ _ (parent-in (·args .cat .now) (·args .tab .now) (·args .pos) (·pre .0 .position)
-          (·args .p) (·pre .3)) (sym (c .before .is-within .ensures) ∙ not-false _ (c .if1 .left)),
+      ready-none (·pre .0),
+      cell-in-run _ _ _ _
+          (parent-in (·args .cat .now) (·args .tab .now) (·args .pos) (·pre .0 .position) (·args .p) (·pre .3))
+          (sym (c .before .is-within .ensures) ∙ not-false _ (c .if1 .left)),
     )
 
 -- src/lib.rt: got(cat, tab, size, c, s, Parentage::Of(p), hold, pos, area)
@@ -85,7 +86,7 @@ returns-2 c = let ·got = c .before .before .got in
     let ·if1 = c .before .before .before .before .before .if1 in
     ·got .ensures ∙ cell-within (·pre .0) (·args .area .now) (·args .hold) (·pre .2) (·after-place .result)
     (·after-place .ensures) (·args .p) (·pre .3) (·is-within .result) (·is-within .ensures) (·level-status .result)
-    (not-false _ (·if1 .left)) (·level-status .ensures)
+    (not-false _ (·if1 .left)) (·level-status .ensures ∙ status-none (·pre .0) (·after-place .result) (·pre .2))
 
 pub get-next-cell-within-spec : {M : Type 1} → statement M
 get-next-cell-within-spec =

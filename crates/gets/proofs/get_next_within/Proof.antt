@@ -4,12 +4,13 @@ use Prim.Native.Nat.{ℕ}
 use Rattle.answers.specs.Ready.{left}
 use Rattle.terms.specs.declared.Answer.{Answer}
 use Rattle.terms.specs.declared.Argument.{Argument}
+use Rattle.terms.specs.declared.Status.the-variants.{Blank}
 use Rattle.rules.specs.Table.{listing}
 use Rattle.rules.specs.Arguments.{complete, listRead}
 use Rattle.rules.proofs.Cells.{listing-length}
 use Rattle.cells.proofs.Located.{end-within}
 use Rattle.gets.proofs.Found.{after-in, first-in, parent-in}
-use Rattle.gets.proofs.Gotten.{search-good, within-found, within-missed, absent-not}
+use Rattle.gets.proofs.Gotten.{search-good, within-found, within-missed, absent-not, status-named}
 use borrow.Author.Needs.{needs}
 use Rattle.gets.proofs.get_next_within.Statement.{statement}
 use Rattle.gets.proofs.get_next_within.Tie as tie
@@ -124,71 +125,37 @@ returns-3 c =
     (·after-place .result) (·after-place .ensures) (·run-end .result .0) (·first-match .ensures)
     (·parentage .given .0 .0) (·parentage .given .1) (·run-end .ensures) (c .before .enum-told2 .given .1)
 
--- src/lib.rt: let s = level_status(cat, tab, size, pos, list, c);
-level-status-requires : tie.Need-level-status-requires
-level-status-requires c κs =
-    let ·args = c .before .before .before .before .before .before .before .before .before .before .before .before
-    .before .before .before .before .args in (
-      c .before .before .before .before .before .before .before .before .before .before .before .before .before .before
-          .before .before .pre .0,
-      omega (
-        arith,
-        first-in (·args .cat .now) (listing (·args .cat .now) (·args .tab .now))
-            (complete (·args .cat .now) (·args .list .now) (listRead (·args .cat .now) (·args .list .now) .arguments)
-            (c .before .before .before .before .before .before .before .last-of .result .code))
-            (c .before .before .before .before .before .after-place .result)
-            (c .before .before .before .before .run-end .result .0) (c .before .c .given .0 .0)
-            (sym (c .before .before .before .first-match .ensures) ∙ c .before .c .given .1),
-        c .before .before .before .before .run-end .ensures,
-        listing-length (·args .cat .now) (·args .tab .now),
-        end-within
-            (·args .cat .now) (listing (·args .cat .now) (·args .tab .now))
-            (c .before .before .before .before .before .before .before .before .before .before .parentage .given .0 .0 .0)
-            (omega (
-              arith,
-              listing-length (·args .cat .now) (·args .tab .now),
-              parent-in (·args .cat .now) (·args .tab .now)
-                  (·args .pos) (c .before .before .before .before .before .before .before .before .before .before .before .before
-                  .before .before .before .before .pre .0 .position)
-                  (c .before .before .before .before .before .before .before .before .before .before .parentage .given .0 .0)
-                  (c .before .before .before .before .before .before .before .before .before .before .parentage .given .1),
-            )),
-      ),
-    )
-
 -- src/lib.rt: got(cat, tab, size, c, s, parentage, hold, pos, area)
 got-requires : tie.Need-got-requires
 got-requires c κs =
     let ·args = c .before .before .before .before .before .before .before .before .before .before .before .before
-    .before .before .before .before .before .before .args in (
+    .before .before .before .before .before .args in (
       c .before .before .before .before .before .before .before .before .before .before .before .before .before .before
-          .before .before .before .before .pre .0 .sound,
+          .before .before .before .pre .0 .sound,
       omega (
         arith,
         first-in (·args .cat .now) (listing (·args .cat .now) (·args .tab .now))
             (complete (·args .cat .now) (·args .list .now) (listRead (·args .cat .now) (·args .list .now) .arguments)
-            (c .before .before .before .before .before .before .before .before .before .last-of .result .code))
-            (c .before .before .before .before .before .before .before .after-place .result)
-            (c .before .before .before .before .before .before .run-end .result .0) (c .before .before .before .c .given .0 .0)
-            (sym (c .before .before .before .before .before .first-match .ensures) ∙ c .before .before .before .c .given .1),
-        c .before .before .before .before .before .before .run-end .ensures,
-        listing-length (·args .cat .now)
-            (·args .tab .now),
+            (c .before .before .before .before .before .before .before .before .last-of .result .code))
+            (c .before .before .before .before .before .before .after-place .result)
+            (c .before .before .before .before .before .run-end .result .0) (c .before .before .c .given .0 .0)
+            (sym (c .before .before .before .before .first-match .ensures) ∙ c .before .before .c .given .1),
+        c .before .before .before .before .before .run-end .ensures,
+        listing-length (·args .cat .now) (·args .tab .now),
         end-within (·args .cat .now) (listing (·args .cat .now) (·args .tab .now))
-            (c .before .before .before .before .before .before .before .before .before .before .before .before .parentage .given
-            .0 .0 .0) (omega (
+            (c .before .before .before .before .before .before .before .before .before .before .before .parentage .given .0 .0
+            .0) (omega (
               arith,
               listing-length (·args .cat .now) (·args .tab .now),
-              parent-in (·args .cat .now)
-                  (·args .tab .now) (·args .pos) (c .before .before .before .before .before .before .before .before .before .before
-                  .before .before .before .before .before .before .before .before .pre .0 .position)
-                  (c .before .before .before .before .before .before .before .before .before .before .before .before .parentage .given
-                  .0 .0) (c .before .before .before .before .before .before .before .before .before .before .before .before .parentage
-                  .given .1),
+              parent-in (·args .cat .now) (·args .tab .now)
+                  (·args .pos) (c .before .before .before .before .before .before .before .before .before .before .before .before
+                  .before .before .before .before .before .pre .0 .position)
+                  (c .before .before .before .before .before .before .before .before .before .before .before .parentage .given .0 .0)
+                  (c .before .before .before .before .before .before .before .before .before .before .before .parentage .given .1),
             )),
       ),
-      c .before .before .before .before .before .before .before .before .before .before .before .before
-          .before .before .before .before .before .before .pre .1,
+      c .before .before .before .before .before .before .before .before .before .before .before .before .before .before
+          .before .before .before .pre .1,
     )
 
 -- src/lib.rt: pub fn get_next_within(
@@ -199,20 +166,21 @@ same-length-2 c = search needs
 returns-4 : tie.Need-returns-4
 returns-4 c = let ·got = c .before .before .got in
     let ·pre = c .before .before .before .before .before .before .before .before .before .before .before .before .before
-    .before .before .before .before .before .before .before .before .pre in
+    .before .before .before .before .before .before .before .pre in
     let ·args = c .before .before .before .before .before .before .before .before .before .before .before .before
-    .before .before .before .before .before .before .before .before .before .args in
-    let ·last-of = c .before .before .before .before .before .before .before .before .before .before .before .before
-    .last-of in let ·first-match = c .before .before .before .before .before .before .before .before .first-match in
-    let ·after-place = c .before .before .before .before .before .before .before .before .before .before .after-place in
-    let ·run-end = c .before .before .before .before .before .before .before .before .before .run-end in
+    .before .before .before .before .before .before .before .before .args in
+    let ·last-of = c .before .before .before .before .before .before .before .before .before .before .before .last-of in
+    let ·first-match = c .before .before .before .before .before .before .before .first-match in
+    let ·after-place = c .before .before .before .before .before .before .before .before .before .after-place in
+    let ·run-end = c .before .before .before .before .before .before .before .before .run-end in
     let ·parentage = c .before .before .before .before .before .before .before .before .before .before .before .before
-    .before .before .before .parentage in let ·c = c .before .before .before .before .before .before .c in
-    let ·level-status = c .before .before .before .before .level-status in
+    .before .before .parentage in let ·c = c .before .before .before .before .before .c in
+    let ·if1 = c .before .before .before .before .before .before .before .before .before .before .before .before .if1 in
     ·got .ensures ∙ within-found (·pre .0) (·args .area .now) (·args .hold) (·last-of .result .code)
     (·first-match .result) (ap (λ (a : Argument). a .code) (·last-of .ensures)) (·after-place .result)
     (·after-place .ensures) (·run-end .result .0) (·first-match .ensures) (·parentage .given .0 .0) (·c .given .0 .0)
-    (·level-status .result) (·parentage .given .1) (·run-end .ensures) (·c .given .1) (·level-status .ensures)
+    Blank (·parentage .given .1) (·run-end .ensures) (·c .given .1)
+    (status-named (·pre .0) (·c .given .0 .0 .0) (·if1 .left))
 
 pub get-next-within-spec : {M : Type 1} → statement M
 get-next-within-spec =
@@ -233,7 +201,6 @@ get-next-within-spec =
     enum-told-2
     missed-requires-2
     returns-3
-    level-status-requires
     got-requires
     same-length-2
     returns-4)

@@ -1,16 +1,10 @@
-use mathlib.Core.Path.{_≡_, ap, sym, _∙_}
+use mathlib.Core.Path.{_≡_, refl, ap, sym, _∙_}
 use native.Mathlib.Omega.{arith}
 use borrow.Author.Needs.{needs}
 use Rattle.gets.proofs.Found.{on-place}
-use Rattle.gets.proofs.Gotten.{status-named, status-gap, codes-same, codes-child, codes-sibling, levels-less, levels-more, levels-same}
+use Rattle.gets.proofs.Gotten.{status-none, status-gap, codes-same, codes-child, codes-sibling, levels-less, levels-more, levels-same}
 use Rattle.gets.proofs.level_status.Statement.{statement}
 use Rattle.gets.proofs.level_status.Tie as tie
-
--- src/lib.rt: return Status::Blank;
-returns : tie.Need-returns
-returns c = let ·pre = c .before .before .before .before .pre in
-    let ·args = c .before .before .before .before .args in
-    status-named (·pre .0) (·args .c .0) (c .if1 .taken)
 
 -- src/lib.rt: let Place::On(q) = place else {
 enum-known-place : tie.Need-enum-known-place
@@ -21,15 +15,16 @@ enum-told : tie.Need-enum-told
 enum-told c = search needs
 
 -- src/lib.rt: return Status::Blank;
-returns-2 : tie.Need-returns-2
-returns-2 c = let ·pre = c .before .before .before .before .before .before .pre in
-    let ·args = c .before .before .before .before .before .before .args in let ·if1 = c .before .before .if1 in
-    status-gap (·pre .0) (·args .c .0) (c .enum-told .given .0 .0) (·if1 .left) (c .enum-told .given .1)
+returns : tie.Need-returns
+returns c = let ·pre = c .before .before .before .before .pre in
+    let ·args = c .before .before .before .before .args in
+    status-gap (·pre .0) (·args .c .0) (c .enum-told .given .0 .0) (refl) (c .enum-told .given .1) ∙ sym
+    (status-none (·pre .0) (·args .c .0) refl)
 
 -- src/lib.rt: let u = code_at(cat, tab, size, q);
 code-at-requires : tie.Need-code-at-requires
-code-at-requires c κs = let ·pre = c .before .before .before .before .before .before .before .pre in
-    let ·args = c .before .before .before .before .before .before .before .args in (
+code-at-requires c κs = let ·pre = c .before .before .before .before .before .pre in
+    let ·args = c .before .before .before .before .before .args in (
       ·pre .0 .sound .sized,
       on-place (·args .cat .now) (·args .tab .now) (·args .pos) (·pre .0 .position)
           (c .before .place .given .0 .0) (c .before .place .given .1),
@@ -40,59 +35,56 @@ code-at-requires-2 : tie.Need-code-at-requires-2
 code-at-requires-2 c κs = search needs
 
 -- src/lib.rt: return Status::Blank;
-returns-3 : tie.Need-returns-3
-returns-3 c =
-    let ·pre = c .before .before .before .before .before .before .before .before .before .before .before .before .pre in
-    let ·args = c .before .before .before .before .before .before .before .before .before .before .before .before .args
-    in let ·place = c .before .before .before .before .before .before .place in
+returns-2 : tie.Need-returns-2
+returns-2 c = let ·pre = c .before .before .before .before .before .before .before .before .before .before .pre in
+    let ·args = c .before .before .before .before .before .before .before .before .before .before .args in
+    let ·place = c .before .before .before .before .before .before .place in
     let ·code-at2 = c .before .before .before .code-at2 in let ·code-at = c .before .before .before .before .code-at in
-    let ·if1 = c .before .before .before .before .before .before .before .before .if1 in
-    codes-same (·pre .0) (·args .c .0) (·place .given .0 .0) (·code-at2 .result) (·code-at .result) (·if1 .left)
+    codes-same (·pre .0) (·args .c .0) (·place .given .0 .0) (·code-at2 .result) (·code-at .result) (refl)
     (·place .given .1) (·pre .1) (on-place (·args .cat .now) (·args .tab .now) (·args .pos) (·pre .0 .position)
-    (·place .given .0 .0) (·place .given .1)) (·code-at2 .ensures) (·code-at .ensures) (c .if2 .taken)
+    (·place .given .0 .0) (·place .given .1)) (·code-at2 .ensures) (·code-at .ensures) (c .if1 .taken) ∙ sym
+    (status-none (·pre .0) (·args .c .0) refl)
 
 -- src/lib.rt: let above = parent(cat, t).0;
 parent-requires : tie.Need-parent-requires
 parent-requires c κs = search needs
 
 -- src/lib.rt: return Status::Blank;
-returns-4 : tie.Need-returns-4
-returns-4 c =
+returns-3 : tie.Need-returns-3
+returns-3 c =
     let ·pre = c .before .before .before .before .before .before .before .before .before .before .before .before .before
-    .before .before .pre in
+    .pre in
     let ·args = c .before .before .before .before .before .before .before .before .before .before .before .before
-    .before .before .before .args in
-    let ·place = c .before .before .before .before .before .before .before .before .before .place in
+    .before .args in let ·place = c .before .before .before .before .before .before .before .before .before .place in
     let ·code-at2 = c .before .before .before .before .before .before .code-at2 in
     let ·code-at = c .before .before .before .before .before .before .before .code-at in
-    let ·if1 = c .before .before .before .before .before .before .before .before .before .before .before .if1 in
     let ·parent = c .before .before .parent in
-    codes-child (·pre .0) (·args .c .0) (·place .given .0 .0) (·code-at2 .result) (·code-at .result) (·if1 .left)
+    codes-child (·pre .0) (·args .c .0) (·place .given .0 .0) (·code-at2 .result) (·code-at .result) (refl)
     (·place .given .1) (·pre .1) (on-place (·args .cat .now) (·args .tab .now) (·args .pos) (·pre .0 .position)
     (·place .given .0 .0) (·place .given .1)) (·code-at2 .ensures) (·code-at .ensures) (·parent .result)
-    (·parent .ensures) (c .if3 .taken)
+    (·parent .ensures) (c .if2 .taken) ∙ sym (status-none (·pre .0) (·args .c .0) refl)
 
 -- src/lib.rt: if above == parent(cat, u).0 {
 parent-requires-2 : tie.Need-parent-requires-2
 parent-requires-2 c κs = search needs
 
 -- src/lib.rt: return Status::GK;
-returns-5 : tie.Need-returns-5
-returns-5 c =
+returns-4 : tie.Need-returns-4
+returns-4 c =
     let ·pre = c .before .before .before .before .before .before .before .before .before .before .before .before .before
-    .before .before .before .before .before .pre in
+    .before .before .before .pre in
     let ·args = c .before .before .before .before .before .before .before .before .before .before .before .before
-    .before .before .before .before .before .before .args in
+    .before .before .before .before .args in
     let ·place = c .before .before .before .before .before .before .before .before .before .before .before .before
     .place in let ·code-at2 = c .before .before .before .before .before .before .before .before .before .code-at2 in
     let ·code-at = c .before .before .before .before .before .before .before .before .before .before .code-at in
-    let ·if1 = c .before .before .before .before .before .before .before .before .before .before .before .before .before
-    .before .if1 in let ·parent = c .before .before .before .before .before .parent in
-    let ·parent2 = c .before .before .parent2 in let ·if2 = c .before .before .before .before .before .before .if2 in
-    codes-sibling (·pre .0) (·args .c .0) (·place .given .0 .0) (·code-at2 .result) (·code-at .result) (·if1 .left)
+    let ·parent = c .before .before .before .before .before .parent in let ·parent2 = c .before .before .parent2 in
+    let ·if1 = c .before .before .before .before .before .before .if1 in
+    codes-sibling (·pre .0) (·args .c .0) (·place .given .0 .0) (·code-at2 .result) (·code-at .result) (refl)
     (·place .given .1) (·pre .1) (on-place (·args .cat .now) (·args .tab .now) (·args .pos) (·pre .0 .position)
     (·place .given .0 .0) (·place .given .1)) (·code-at2 .ensures) (·code-at .ensures) (·parent .result)
-    (·parent .ensures) (·parent2 .result) (·parent2 .ensures) (·if2 .left) (c .if4 .taken)
+    (·parent .ensures) (·parent2 .result) (·parent2 .ensures) (·if1 .left) (c .if3 .taken) ∙ sym
+    (status-none (·pre .0) (·args .c .0) refl)
 
 -- src/lib.rt: let was = level(cat, u);
 level-requires : tie.Need-level-requires
@@ -103,65 +95,62 @@ level-requires-2 : tie.Need-level-requires-2
 level-requires-2 c κs = search needs
 
 -- src/lib.rt: return Status::GA;
-returns-6 : tie.Need-returns-6
-returns-6 c =
+returns-5 : tie.Need-returns-5
+returns-5 c =
     let ·pre = c .before .before .before .before .before .before .before .before .before .before .before .before .before
-    .before .before .before .before .before .before .before .before .pre in
+    .before .before .before .before .before .before .pre in
     let ·args = c .before .before .before .before .before .before .before .before .before .before .before .before
-    .before .before .before .before .before .before .before .before .before .args in
+    .before .before .before .before .before .before .before .args in
     let ·place = c .before .before .before .before .before .before .before .before .before .before .before .before
     .before .before .before .place in
     let ·code-at2 = c .before .before .before .before .before .before .before .before .before .before .before .before
     .code-at2 in
     let ·code-at = c .before .before .before .before .before .before .before .before .before .before .before .before
-    .before .code-at in
-    let ·if1 = c .before .before .before .before .before .before .before .before .before .before .before .before .before
-    .before .before .before .before .if1 in let ·level = c .before .before .level in
-    levels-less (·pre .0) (·args .c .0) (·place .given .0 .0) (·code-at2 .result) (·code-at .result) (·if1 .left)
+    .before .code-at in let ·level = c .before .before .level in
+    levels-less (·pre .0) (·args .c .0) (·place .given .0 .0) (·code-at2 .result) (·code-at .result) (refl)
     (·place .given .1) (·pre .1) (on-place (·args .cat .now) (·args .tab .now) (·args .pos) (·pre .0 .position)
     (·place .given .0 .0) (·place .given .1)) (·code-at2 .ensures) (·code-at .ensures) (·level .result)
-    (c .before .level2 .result) (·level .ensures) (c .before .level2 .ensures) (c .if5 .taken)
+    (c .before .level2 .result) (·level .ensures) (c .before .level2 .ensures) (c .if4 .taken) ∙ sym
+    (status-none (·pre .0) (·args .c .0) refl)
 
 -- src/lib.rt: return Status::Blank;
-returns-7 : tie.Need-returns-7
-returns-7 c =
+returns-6 : tie.Need-returns-6
+returns-6 c =
     let ·pre = c .before .before .before .before .before .before .before .before .before .before .before .before .before
-    .before .before .before .before .before .before .before .before .before .pre in
+    .before .before .before .before .before .before .before .pre in
     let ·args = c .before .before .before .before .before .before .before .before .before .before .before .before
-    .before .before .before .before .before .before .before .before .before .before .args in
+    .before .before .before .before .before .before .before .before .args in
     let ·place = c .before .before .before .before .before .before .before .before .before .before .before .before
     .before .before .before .before .place in
     let ·code-at2 = c .before .before .before .before .before .before .before .before .before .before .before .before
     .before .code-at2 in
     let ·code-at = c .before .before .before .before .before .before .before .before .before .before .before .before
-    .before .before .code-at in
-    let ·if1 = c .before .before .before .before .before .before .before .before .before .before .before .before .before
-    .before .before .before .before .before .if1 in let ·level = c .before .before .before .level in
+    .before .before .code-at in let ·level = c .before .before .before .level in
     let ·level2 = c .before .before .level2 in
-    levels-more (·pre .0) (·args .c .0) (·place .given .0 .0) (·code-at2 .result) (·code-at .result) (·if1 .left)
+    levels-more (·pre .0) (·args .c .0) (·place .given .0 .0) (·code-at2 .result) (·code-at .result) (refl)
     (·place .given .1) (·pre .1) (on-place (·args .cat .now) (·args .tab .now) (·args .pos) (·pre .0 .position)
     (·place .given .0 .0) (·place .given .1)) (·code-at2 .ensures) (·code-at .ensures) (·level .result)
-    (·level2 .result) (·level .ensures) (·level2 .ensures) (c .if6 .taken)
+    (·level2 .result) (·level .ensures) (·level2 .ensures) (c .if5 .taken) ∙ sym
+    (status-none (·pre .0) (·args .c .0) refl)
 
--- src/lib.rt: pub fn level_status(
-returns-8 : tie.Need-returns-8
-returns-8 c =
+-- src/lib.rt: fn level_status(cat: &[u8], tab: &[u8], size: usize, pos: Position, c: CellNumber) -> Status
+returns-7 : tie.Need-returns-7
+returns-7 c =
     let ·args = c .before .before .before .before .before .before .before .before .before .before .before .before
-    .before .before .before .before .before .before .before .before .before .before .args in
+    .before .before .before .before .before .before .before .before .args in
     levels-same (c .before .before .before .before .before .before .before .before .before .before .before .before
-    .before .before .before .before .before .before .before .before .before .before .pre .0) (·args .c .0)
+    .before .before .before .before .before .before .before .before .pre .0) (·args .c .0)
     (c .before .before .before .before .before .before .before .before .before .before .before .before .before .before
     .before .before .place .given .0 .0) (c .before .before .before .before .before .before .before .before .before
     .before .before .before .before .code-at2 .result)
     (c .before .before .before .before .before .before .before .before .before .before .before .before .before .before
-    .code-at .result) (c .before .before .before .before .before .before .before .before .before .before .before .before
-    .before .before .before .before .before .before .if1 .left)
+    .code-at .result) (refl) (c .before .before .before .before .before .before .before .before .before .before .before
+    .before .before .before .before .before .place .given .1)
     (c .before .before .before .before .before .before .before .before .before .before .before .before .before .before
-    .before .before .place .given .1) (c .before .before .before .before .before .before .before .before .before .before
-    .before .before .before .before .before .before .before .before .before .before .before .before .pre .1)
+    .before .before .before .before .before .before .pre .1)
     (on-place (·args .cat .now) (·args .tab .now) (·args .pos)
     (c .before .before .before .before .before .before .before .before .before .before .before .before .before .before
-    .before .before .before .before .before .before .before .before .pre .0 .position)
+    .before .before .before .before .before .before .pre .0 .position)
     (c .before .before .before .before .before .before .before .before .before .before .before .before .before .before
     .before .before .place .given .0 .0) (c .before .before .before .before .before .before .before .before .before
     .before .before .before .before .before .before .before .place .given .1))
@@ -169,26 +158,27 @@ returns-8 c =
     .ensures) (c .before .before .before .before .before .before .before .before .before .before .before .before .before
     .before .code-at .ensures) (c .before .before .before .level .result) (c .before .before .level2 .result)
     (c .before .before .before .level .ensures) (c .before .before .level2 .ensures)
-    (c .before .before .before .before .before .before .before .before .before .before .if2 .left)
-    (omega (arith, c .before .if5 .left)) (omega (arith, c .if6 .left))
+    (c .before .before .before .before .before .before .before .before .before .before .if1 .left)
+    (omega (arith, c .before .if4 .left)) (omega (arith, c .if5 .left)) ∙ sym
+    (status-none (c .before .before .before .before .before .before .before .before .before .before .before .before
+    .before .before .before .before .before .before .before .before .pre .0) (·args .c .0) refl)
 
 pub level-status-spec : {M : Type 1} → statement M
 level-status-spec =
     tie.close
     (tie.spec
-    returns
     enum-known-place
     enum-told
-    returns-2
+    returns
     code-at-requires
     code-at-requires-2
-    returns-3
+    returns-2
     parent-requires
-    returns-4
+    returns-3
     parent-requires-2
-    returns-5
+    returns-4
     level-requires
     level-requires-2
+    returns-5
     returns-6
-    returns-7
-    returns-8)
+    returns-7)
