@@ -5,11 +5,9 @@ use mathlib.Core.List.{[]}
 use Prim.Native.Nat.{_≤_}
 use lib.Dec.{ltb, leb}
 use lib.ListN.{length, replicate}
-use Rattle.terms.specs.declared.Place.{Place}
-use Rattle.terms.specs.declared.Place.the-variants.{On, Before}
 use Rattle.terms.specs.declared.Position.{Position}
 use Rattle.terms.specs.declared.Status.{Status}
-use Rattle.terms.specs.declared.Status.the-variants.{Blank, CX, TX}
+use Rattle.terms.specs.declared.Status.the-variants.{CX, TX}
 use Rattle.terms.specs.Choice.{pick}
 use Rattle.terms.specs.Statuses.{number}
 use Rattle.rules.specs.Block.{Bytes}
@@ -19,11 +17,6 @@ use Rattle.rules.specs.Listing.{cellLine, lastLine}
 use Rattle.answers.specs.Ready.{SoundFor}
 use Rattle.listing.specs.declared.Line.{Line}
 use Rattle.listing.specs.Written.{Wrote}
-
--- the status of a cell that a reader read, from a place: in a gap no cell was left, and none can be smaller or of another type
-abbrev pub fromPlace : Place → Status → Status
-fromPlace (On c) s = s
-fromPlace (Before c) s = Blank
 
 -- the GN of the listing at a position
 abbrev pub issued : Bytes → Bytes → Position → Outcome

@@ -1,36 +1,23 @@
-// The listing: each line as bytes in a buffer, made of what the reader reads. The lines one behind the other are the whole text (proofs/Lines.antt).
+// The listing: each line as bytes in a buffer, made of what the reader answers. The lines one behind the other are the whole text (proofs/Lines.antt).
 mod text;
 
 use crate::text::put_byte;
 use crate::text::put_decimal;
 use crate::text::put_hex;
 use crate::text::put_letters;
-use answers::told;
 use blocks::wide;
-use cells::lookup::code_at;
-use cells::lookup::count;
-use cells::lookup::data_part;
-use reader::Read;
 use reader::read_next;
 use terms::Answer;
-use terms::CellNumber;
-use terms::Parentage;
-use terms::Place;
 use terms::Position;
 use terms::Status;
 use terms::statuses::number;
 ghost use mathlib.Core.Path.{_≡_};
-ghost use Prim.Native.Nat.{_+_, _*_, _<_, _≤_};
+ghost use Prim.Native.Nat.{_+_, _*_, _≤_};
 ghost use lib.ListN.{length};
-ghost use Rattle.terms.specs.Moves.{afterPlace};
-ghost use Rattle.rules.specs.Cells.{segment};
-ghost use Rattle.rules.specs.Table.{count, listing};
-ghost use Rattle.rules.specs.Calls.{answerOf};
 ghost use Rattle.rules.specs.Listing.{cellLine, lastLine};
-ghost use Rattle.cells.specs.Sound.{Sound};
 ghost use Rattle.answers.specs.Ready.{SoundFor};
 ghost use Rattle.listing.specs.Written.{Wrote};
-ghost use Rattle.listing.specs.Lines.{fromPlace, Listed, refusal};
+ghost use Rattle.listing.specs.Lines.{Listed, refusal};
 
 // A line that was written: the position after its call, how many bytes it has, and whether it is the last.
 pub struct Line {
@@ -82,67 +69,26 @@ pub fn refusal(cat: &[u8], tab: &[u8]) -> Status
     table_check::check::check(cat, tab)
 }
 
-// The first cell after the place; "from gap i: cell i or later".
-fn after(q: Place) -> usize
-    requires { ⌜ afterPlace q ≤ 65536 ⌝ }
-    ensures { λ r. ⌜ r ≡ afterPlace q ⌝ }
-{
-    match q {
-        Place::On(c) => c.0 + 1,
-        Place::Before(c) => c.0,
-    }
-}
-
-// GA and GK are given where "place was on a cell". The reader stands on the cell before, which a place in a gap does not.
-fn status_from(q: Place, s: Status) -> Status
-    ensures { λ r. ⌜ r ≡ fromPlace q s ⌝ }
-{
-    match q {
-        Place::On(_) => s,
-        Place::Before(_) => Status::Blank,
-    }
-}
-
-// The line of a cell that was read, with the data bytes as they stand in the table.
-fn got_line(
-    cat: &[u8],
-    tab: &[u8],
-    size: usize,
-    c: CellNumber,
-    s: Status,
-    p: Position,
-    out: &mut [u8],
-) -> usize
-    requires { ⌜ Sound (now cat) (now tab) size × (c .0 < count (now tab)) × (262 ≤ length (now out)) ⌝ }
-    ensures { λ r. ⌜ Wrote 0 (cellLine (answerOf (now (cat .entry)) s p (segment (listing (now (cat .entry)) (now (tab .entry))) (c .0)) 0)
-        (segment (listing (now (cat .entry)) (now (tab .entry))) (c .0) .bytes)) (now (out .entry)) r (now (out .exit)) × (r ≤ 262) ⌝ }
-{
-    let t = code_at(cat, tab, size, c);
-    let a = told(cat, s, p, t, 0);
-    let long = wide(a.length);
-    cell_line(out, a, data_part(cat, tab, size, c, 1, long))
-}
-
-// "issues GN with an empty list": the line of one such call, by the reader. It is at most 262 bytes.
+// "issues GN with an empty list": the line of one such call, as the reader answers it. It is at most 262 bytes.
 pub fn next_line(cat: &[u8], tab: &[u8], pos: Position, out: &mut [u8]) -> Line
     requires { ⌜ SoundFor (now cat) (now tab) pos × (262 ≤ length (now out)) ⌝ }
     ensures { λ r. ⌜ Listed (now (cat .entry)) (now (tab .entry)) pos (now (out .entry)) r (now (out .exit)) ⌝ }
 {
-    let size = wide(tab[5]);
-    let place = pos.place;
-    let at = after(place);
-    let Read::Got(c, s) = read_next(cat, tab, &cat[..0], size, 0, 0, at, count(tab)) else {
-        let end = last_line(out, Status::GB);
+    let mut area = [0u8; 120];
+    let a = read_next(cat, tab, &cat[..0], pos, &mut area);
+    let s = a.status;
+    let after = a.position;
+    if 10 <= number(s) {
+        let end = last_line(out, s);
         return Line {
-            position: pos.hold_dropped(),
+            position: after,
             long: end,
             done: true,
         };
-    };
-    let p = pos.moved_onto(c, Parentage::Of(c), false);
-    let long = got_line(cat, tab, size, c, status_from(place, s), p, out);
+    }
+    let long = cell_line(out, a, &area);
     Line {
-        position: p,
+        position: after,
         long: long,
         done: false,
     }

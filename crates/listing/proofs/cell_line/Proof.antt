@@ -10,33 +10,43 @@ use borrow.Author.Needs.{needs}
 use Rattle.listing.proofs.cell_line.Statement.{statement}
 use Rattle.listing.proofs.cell_line.Tie as tie
 
+-- src/lib.rt: let cell_end = put_decimal(out, 0, p.cell().0);
 cell-requires : tie.Need-cell-requires
 cell-requires c κs = search needs
 
+-- src/lib.rt: let cell_end = put_decimal(out, 0, p.cell().0);
 put-decimal-requires : tie.Need-put-decimal-requires
 put-decimal-requires c κs = search needs
 
+-- src/lib.rt: let type_start = put_byte(out, cell_end, 0x20);
 put-byte-requires : tie.Need-put-byte-requires
 put-byte-requires c κs = search needs
 
+-- src/lib.rt: let type_end = put_decimal(out, type_start, wide(a.code.0));
 wide-requires : tie.Need-wide-requires
 wide-requires c κs = search needs
 
+-- src/lib.rt: let type_end = put_decimal(out, type_start, wide(a.code.0));
 put-decimal-requires-2 : tie.Need-put-decimal-requires-2
 put-decimal-requires-2 c κs = search needs
 
+-- src/lib.rt: let level_start = put_byte(out, type_end, 0x20);
 put-byte-requires-2 : tie.Need-put-byte-requires-2
 put-byte-requires-2 c κs = search needs
 
+-- src/lib.rt: let level_end = put_decimal(out, level_start, wide(a.level));
 wide-requires-2 : tie.Need-wide-requires-2
 wide-requires-2 c κs = search needs
 
+-- src/lib.rt: let level_end = put_decimal(out, level_start, wide(a.level));
 put-decimal-requires-3 : tie.Need-put-decimal-requires-3
 put-decimal-requires-3 c κs = search needs
 
+-- src/lib.rt: let status_start = put_byte(out, level_end, 0x20);
 put-byte-requires-3 : tie.Need-put-byte-requires-3
 put-byte-requires-3 c κs = search needs
 
+-- src/lib.rt: let status_end = put_letters(out, status_start, status);
 put-letters-requires : tie.Need-put-letters-requires
 unfolding cellLine
 put-letters-requires c κs = omega (
@@ -69,6 +79,7 @@ put-letters-requires c κs = omega (
   c .before .before .before .put-byte3 .ensures .place,
 )
 
+-- src/lib.rt: let data_start = put_byte(out, status_end, 0x20);
 put-byte-requires-4 : tie.Need-put-byte-requires-4
 unfolding cellLine
 put-byte-requires-4 c κs = omega (
@@ -104,9 +115,11 @@ put-byte-requires-4 c κs = omega (
   c .before .before .before .put-letters .ensures .1,
 )
 
+-- src/lib.rt: let long = wide(a.length);
 wide-requires-3 : tie.Need-wide-requires-3
 wide-requires-3 c κs = search needs
 
+-- src/lib.rt: let data_end = put_hex(out, data_start, &area[..long]);
 slice-aggregate-put-hex : tie.Need-slice-aggregate-put-hex
 unfolding cellLine
 slice-aggregate-put-hex c =
@@ -124,6 +137,7 @@ slice-aggregate-put-hex c =
       c .before .before .wide3 .ensures .0,
     )))
 
+-- src/lib.rt: let data_end = put_hex(out, data_start, &area[..long]);
 put-hex-requires : tie.Need-put-hex-requires
 unfolding cellLine
 put-hex-requires c κs =
@@ -184,6 +198,7 @@ put-hex-requires c κs =
       c .before .before .before .before .before .put-byte4 .ensures .place,
     )
 
+-- src/lib.rt: put_byte(out, data_end, 0x0A)
 put-byte-requires-5 : tie.Need-put-byte-requires-5
 unfolding cellLine
 put-byte-requires-5 c κs =
@@ -251,6 +266,7 @@ put-byte-requires-5 c κs =
       c .before .before .before .put-hex .ensures .1,
     )
 
+-- src/lib.rt: fn cell_line(out: &mut [u8], a: Answer, area: &[u8]) -> usize
 same-length : tie.Need-same-length
 unfolding cellLine
 same-length c = let ·put-byte5 = c .before .before .put-byte5 in
@@ -281,6 +297,7 @@ same-length c = let ·put-byte5 = c .before .before .put-byte5 in
     ∙ ·put-byte3 .ensures .long ∙ ·put-decimal3 .ensures .0 .long ∙ ·put-byte2 .ensures .long ∙
     ·put-decimal2 .ensures .0 .long ∙ ·put-byte .ensures .long ∙ ·put-decimal .ensures .0 .long
 
+-- src/lib.rt: fn cell_line(out: &mut [u8], a: Answer, area: &[u8]) -> usize
 returns : tie.Need-returns
 unfolding cellLine
 returns c =
