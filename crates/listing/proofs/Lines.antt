@@ -107,9 +107,6 @@ module _ (cat tab : Bytes) (pos : Position) (f : SoundFor cat tab pos) where
     answer-short = omega (arith, ap (λ (a : After). a .answer .length) e, got-short)
 
     module _ (b : IsBytes tab) where
-      pub area-long : length area ≡ 120
-      area-long = ap (λ (o : Outcome). length (o .area)) made-is ∙ kept b .long
-
       sound-next : SoundFor cat tab (r .position)
       sound-next = record {
         catalogue = f .catalogue;

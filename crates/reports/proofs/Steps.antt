@@ -1,119 +1,186 @@
--- A loop of gets over one list, turn by turn: what a get finds is the first of the cells that match, and behind it the path agrees as a whole.
+-- One get of a loop, as the reader promises it: it finds the first of the cells that match, or none is left, and the position it leaves is good.
 -- Assumes nothing.
 use mathlib.Core.Path.{_≡_, refl, ap, sym, _∙_}
-use mathlib.Core.Bool.{Bool, true, false, _&&_}
-use mathlib.Core.List.{List, [], _∷_}
-use Prim.Native.Nat.{ℕ, zero, suc, _+_, _-_, _<_, _≤_}
+use mathlib.Core.Bool.{Bool, true, false}
+use mathlib.Core.List.{List}
+use Prim.Native.Nat.{ℕ, suc, _-_, _<_, _≤_}
 use native.Mathlib.Omega.{arith}
-use lib.Dec.{eqb}
+use lib.Dec.{ltb}
 use lib.ListN.{length}
-use borrow.Author.Tests.{eqb-true}
-use Rattle.terms.specs.declared.TypeCode.{TypeCode}
-use Rattle.terms.specs.declared.CellNumber.{CellNumber}
+use borrow.Author.Tests.{le-leb, lt-leb, le-ltb}
+use Rattle.terms.specs.declared.Parentage.{Parentage}
+use Rattle.terms.specs.declared.Parentage.the-variants.{Absent, Of}
+use Rattle.terms.specs.declared.Position.{Position}
 use Rattle.terms.specs.declared.Status.{Status}
-use Rattle.terms.specs.Names.{code, cell}
-use Rattle.forest.specs.Good.{both-right}
-use Rattle.rules.specs.Block.{Bytes}
-use Rattle.rules.specs.Catalogue.{level}
-use Rattle.rules.specs.Cells.{Segment, levelAt}
-use Rattle.rules.specs.Table.{count, listing}
-use Rattle.rules.specs.Arguments.{Level, listRead, lastArgument, getLevels}
-use Rattle.rules.specs.Matching.{matches}
-use Rattle.rules.specs.Calls.{levelStatus}
-use Rattle.arguments.specs.Sound.{SoundList}
-use Rattle.arguments.proofs.Above.{type-first}
-use Rattle.arguments.proofs.Sound.{last-asks}
-use Rattle.arguments.proofs.Complete.{complete-length}
-use Rattle.search.specs.Good.{Good}
-use Rattle.search.specs.Stretch.{levels, stretch, stretchBefore}
-use Rattle.search.proofs.Branches.{known-last, match-stretch, before-next}
-use Rattle.search.proofs.Levels.{get-levels}
-use Rattle.reader.specs.declared.Read.{Read}
-use Rattle.reader.specs.declared.Read.the-variants.{Got, Done}
-use Rattle.reader.specs.UnderWay.{Reading}
-use Rattle.reader.specs.Stepped.{placeAt, stepped}
-use Rattle.report_loops.proofs.Hits.{Without, hits, hits-none, hits-first, nothing, found, first}
-use Rattle.report_loops.proofs.Gets.{first-nothing, first-at}
-use Rattle.reports.specs.Onward.{test, between}
+use Rattle.terms.specs.declared.Status.the-variants.{GE}
+use Rattle.terms.specs.declared.Answer.{Answer}
+use Rattle.terms.specs.Names.{cell}
+use Rattle.terms.specs.Statuses.{number}
+use Rattle.terms.specs.Moves.{fresh, placeNumber, afterPlace, isAbsent}
+use Rattle.rules.specs.Block.{Bytes, byte}
+use Rattle.rules.specs.Cells.{Segment, endAt}
+use Rattle.rules.specs.Table.{cellSize, listing}
+use Rattle.rules.specs.Position.{goodPosition}
+use Rattle.rules.specs.Arguments.{Level, listRead, getLevels}
+use Rattle.rules.specs.Calls.{missStatus, parentEnd, getNext, getNextWithin, called}
+use Rattle.rules.specs.Outcome.{Outcome, unsound, misused, unless, afterSound, afterCall, landed, outcomeOf, outcome}
+use Rattle.rules.proofs.Cells.{listing-length}
+use Rattle.catalogue.proofs.Hierarchy.{cell-most}
+use Rattle.answers.specs.Ready.{Ready, made, left}
+use Rattle.gets.proofs.Found.{after-in, parent-in, around}
+use Rattle.report_loops.specs.Loops.{State, handedOn, isLast, sight, promised}
+use Rattle.report_loops.specs.Demand3.{seenAt}
+use Rattle.report_loops.proofs.Hits.{clash, Without, nothing, found, first}
+use Rattle.report_loops.proofs.Scan.{after, Missed, Seeks}
+use Rattle.report_loops.proofs.Gets.{Fit, Under, gn-seeks, gnp-seeks}
+use Rattle.reports.specs.Onward.{test}
 use Rattle.reports.specs.Given.{Given}
 
-got-done : (c : CellNumber) (s : Status) → Got c s ≡ Done → ⊥
-got-done c s e = let z : _≡_ {A = ℕ} 0 1 = cc in omega arith
+-- what a get asks besides blocks and list: a good position, and an area that is long enough
+pub record Stands (cat tab : Bytes) (pos : Position) (area : Bytes) : Type 0 where
+  pub good : goodPosition cat (listing cat tab) pos ≡ true
+  pub long : cellSize cat ≤ suc (length area)
 
-got-same : (c d : CellNumber) (s r : Status) → Got c s ≡ Got d r → c ≡ d
-got-same c d s r e = cc
+-- c is the first cell from `at` on and before e that passes, and the place moves onto it
+pub record Turn (t : ℕ → Bool) (at e c next : ℕ) : Type 0 where
+  pub later : at ≤ c
+  pub inside : c < e
+  pub passes : t c ≡ true
+  pub before : Without t at c
+  pub moves : next ≡ suc c
 
-module _ {cat tab list : Bytes} {size : ℕ} (g : Given cat tab list size) where
+-- a get that seeks has told by its status whether it found one
+module _ (cat tab : Bytes) {Fits : State → Type 0} {Then : ℕ → State → Type 0} {t : ℕ → Bool} {e : ℕ} {miss : Status} {get : State → Outcome}
+    (S : Seeks (seenAt cat tab) Fits Then t e miss get) {s : State} (F : Fits s) {o : Outcome} (q : o ≡ get s) where
+  sought-none : isLast o ≡ true → Without t (after s) e × Missed Fits miss s o
+  sought-none l = elim (first t (after s) e) [
+    | nothing w ↦ (w, rw q (S .none s F w))
+    | found j a b p w ↦ absurd (clash (isLast o) l (ap isLast q ∙ S .one s j F a b p w .goes-on))
+  ]
+
+  sought-one : isLast o ≡ false → Turn t (after s) e (sight o .cell) (after (handedOn o)) × Then (sight o .cell) (handedOn o)
+  sought-one l = elim (first t (after s) e) [
+    | nothing w ↦ absurd (clash (isLast o) (ap isLast q ∙ S .none s F w .ends) l)
+    | found j a b p w ↦
+        let h = S .one s j F a b p w in
+        let z : sight (get s) .cell ≡ j = ap (λ x. x .cell) (h .shows) in
+        rw (q, z) (record { later = a; inside = b; passes = p; before = w; moves = h .moves }, h .fit)
+  ]
+
+module _ {cat tab list : Bytes} (g : Given cat tab list (byte tab 5)) where
   abbrev cs : List Segment
   cs = listing cat tab
 
-  abbrev last : TypeCode
-  last = lastArgument (listRead cat list .arguments) .code
+  abbrev ls : List Level
+  ls = getLevels cat list (listRead cat list .arguments)
 
-  pub sound-list : SoundList cat list
-  sound-list = record { catalogue = g .sound .catalogue; read = g .read }
+  -- an area of 120 bytes is long enough for every cell
+  pub stands-long : (pos : Position) (area : Bytes) → goodPosition cat cs pos ≡ true → length area ≡ 120 → Stands cat tab pos area
+  stands-long pos area p l = record { good = p; long = omega (arith, cell-most cat (g .sound .catalogue)) }
 
-  pub given-good : (t : TypeCode) → t ≡ last → Good cat tab list size t
-  given-good t e = record {
-    catalogue = g .sound .catalogue;
-    table = g .sound .table;
-    sized = g .sound .sized;
-    sound = g .read;
-    known = rw e (known-last cat list sound-list);
-  }
+  pub stands-fresh : (area : Bytes) → length area ≡ 120 → Stands cat tab fresh area
+  unfolding goodPosition
+  stands-fresh area l = stands-long fresh area (rw (le-leb 0 (length cs) (omega arith))) l
 
-  pub given-type : (t : TypeCode) → t ≡ last → 0 < t .0
-  given-type t e = rw e (type-first cat last (last-asks cat list sound-list (g .some) .type))
+  module _ {pos : Position} {area : Bytes} (w : Stands cat tab pos area) where
+    pub get-ready : Ready cat tab (byte tab 5) pos list × (byte tab 5 ≤ suc (length area))
+    get-ready = (record { sound = g .sound; position = w .good; asked = g .read }, omega (arith, g .sound .sized .is, w .long))
 
-  levels-test : (t : TypeCode) → t ≡ last → levels cat list t ≡ getLevels cat list (listRead cat list .arguments)
-  levels-test t e = rw e (sym (get-levels cat list (listRead cat list .arguments)))
+    abbrev s : State
+    s = record { table = tab; position = pos; area = area }
 
-  -- one turn: none is left, or c is the first
-  pub record Turn (at to : ℕ) (c : CellNumber) : Type 0 where
-    pub later : at ≤ c .0
-    pub inside : c .0 < to
-    pub passes : test cat tab list (c .0) ≡ true
-    pub before : Without (test cat tab list) at (c .0)
-    pub rest : between cat tab list at to ≡ c .0 ∷ between cat tab list (c .0 + 1) to
+    abbrev Fits : State → Type 0
+    Fits = Fit cat tab (g .sound .catalogue) (g .sound .table)
 
-  module _ (r : Read) (at to : ℕ) (e : r ≡ stepped cat tab list at to) where
-    none-read : Without (test cat tab list) at to → r ≡ Done
-    unfolding stepped
-    none-read h = e ∙ rw (first-nothing cat cs (getLevels cat list (listRead cat list .arguments)) at to h)
+    abbrev Unders : ℕ → State → Type 0
+    Unders = Under cat tab (g .sound .catalogue) (g .sound .table)
 
-    found-read : (j : ℕ) → at ≤ j → j < to → test cat tab list j ≡ true → Without (test cat tab list) at j
-        → r ≡ Got (cell j) (levelStatus cat cs (getLevels cat list (listRead cat list .arguments)) (placeAt at) j)
-    unfolding stepped
-    found-read j a b s h = e ∙ rw (first-at cat cs (getLevels cat list (listRead cat list .arguments)) at j to a b s h)
+    fit : Fits s
+    fit = record { table = refl; position = w .good; area = w .long }
 
-    pub turn-without : r ≡ Done → Without (test cat tab list) at to
-    turn-without d = elim (first (test cat tab list) at to) [
-      | nothing h ↦ h
-      | found j a b s h ↦ absurd (got-done (cell j) (levelStatus cat cs (getLevels cat list (listRead cat list .arguments)) (placeAt at) j) (sym (found-read j a b s h) ∙ d))
-    ]
+    enough : ltb (length area) (cellSize cat - 1) ≡ false
+    enough = le-ltb (length area) (cellSize cat - 1) (omega (arith, w .long))
 
-    pub turn-none : r ≡ Done → between cat tab list at to ≡ []
-    turn-none d = hits-none (test cat tab list) at to (turn-without d)
+    -- the call of a get is the get itself
+    next-call : promised cat 2 list s ≡ landed cat tab (getNext cat cs pos area false ls)
+    unfolding outcome outcomeOf afterCall unless unsound afterSound misused called
+    next-call = simp (g .sound .catalogue, g .sound .table, w .good, g .read, enough)
 
-    pub turn-one : (c : CellNumber) (s : Status) → r ≡ Got c s → Turn at to c
-    turn-one c s d = elim (first (test cat tab list) at to) [
-      | nothing h ↦ absurd (got-done c s (sym d ∙ none-read h))
-      | found j a b p h ↦
-          let z : cell j ≡ c = got-same (cell j) c (levelStatus cat cs (getLevels cat list (listRead cat list .arguments)) (placeAt at) j) s (sym (found-read j a b p h) ∙ d) in
-          let y : j + 1 ≡ suc j = omega arith in
-          rw (← z) (record { later = a; inside = b; passes = p; before = h; rest = rw y (hits-first (test cat tab list) at j to a b p h) })
-    ]
+    within-call : (p : ℕ) → pos .parentage ≡ Of (cell p) → promised cat 3 list s ≡ landed cat tab (getNextWithin cat cs pos area false ls)
+    unfolding outcome outcomeOf afterCall unless unsound afterSound misused called
+    within-call p e = simp (g .sound .catalogue, g .sound .table, w .good, g .read, enough, e)
 
-  -- behind a cell that matches the path agrees as a whole
-  pub carried-on : (t : TypeCode) → t ≡ last → (i l : ℕ) → i < count tab → test cat tab list i ≡ true → l ≡ level cat t → l ≡ stretchBefore cat cs (levels cat list t) (i + 1)
-  carried-on t e i l h p q =
-      let G = given-good t e in
-      let m : matches cat cs (levels cat list t) i ≡ true = ap (λ (ls : List Level). matches cat cs ls i) (levels-test t e) ∙ p in
-      let w : (eqb (levelAt cat cs i) (length (levels cat list t)) && eqb (stretch cat cs (levels cat list t) i) (length (levels cat list t))) ≡ true =
-      sym (match-stretch G i h (given-type t e)) ∙ m in
-      let s : stretch cat cs (levels cat list t) i ≡ length (levels cat list t) = eqb-true (stretch cat cs (levels cat list t) i) (length (levels cat list t)) (both-right (eqb (levelAt cat cs i) (length (levels cat list t))) (eqb (stretch cat cs (levels cat list t) i) (length (levels cat list t))) w) in
-      before-next G i l (q ∙ sym (complete-length cat list (listRead cat list .arguments) t) ∙ sym s)
+    -- r and next are what the reader answered and wrote
+    module _ (r : Answer) (next : Bytes) (n : ℕ) (h : n ≡ number (r .status)) where
+      ended : 10 ≤ n → isLast (made r tab next) ≡ true
+      ended l = le-leb 10 (number (r .status)) (omega arith)
 
-  -- what the reader asks at a turn
-  pub turn-reading : (t : TypeCode) → t ≡ last → (long at to : ℕ) → long ≡ stretchBefore cat cs (levels cat list t) at → at ≤ to → to ≤ count tab → Reading cat tab list size (t .0) long at to
-  turn-reading t e long at to h a b = record { good = given-good t e; last = e; carried = λ z. h; within = b; passed = omega arith }
+      goes-on : n < 10 → isLast (made r tab next) ≡ false
+      goes-on l = lt-leb 10 (number (r .status)) (omega arith)
+
+      -- it found a cell before e, and moved onto it; the parentage is q now
+      pub record Moved (e : ℕ) (q : Parentage) : Type 0 where
+        pub turn : Turn (test cat tab list) (afterPlace (pos .place)) e (placeNumber (r .position .place)) (afterPlace (r .position .place))
+        pub stands : Stands cat tab (r .position) next
+        pub parentage : r .position .parentage ≡ q
+        pub small : afterPlace (r .position .place) ≤ 4096
+
+      moved : (e p : ℕ) → Turn (test cat tab list) (afterPlace (pos .place)) e (placeNumber (r .position .place)) (afterPlace (r .position .place))
+          → Unders p (handedOn (made r tab next)) → Moved e (Of (cell p))
+      moved e p t u = record {
+        turn = t;
+        stands = record { good = u .fit .position; long = u .fit .area };
+        parentage = u .parentage;
+        small = omega (arith, after-in cat tab (r .position) (u .fit .position), g .sound .sized .few);
+      }
+
+      -- LAW: GN seeks among all cells
+      module _ (e : left r next ≡ getNext cat cs pos area false ls) where
+        next-seeks : Seeks (seenAt cat tab) Fits Unders (test cat tab list) (length cs) (missStatus ls) (promised cat 2 list)
+        next-seeks = gn-seeks cat tab (g .sound .catalogue) (g .sound .table) list (g .read) (missStatus ls) refl
+
+        next-made : made r tab next ≡ promised cat 2 list s
+        next-made = ap (landed cat tab) e ∙ sym next-call
+
+        pub next-none : 10 ≤ n → Without (test cat tab list) (afterPlace (pos .place)) (length cs)
+        next-none l = sought-none cat tab next-seeks fit next-made (ended l) .0
+
+        pub next-one : n < 10 → Moved (length cs) (Of (cell (placeNumber (r .position .place))))
+        next-one l = let t = sought-one cat tab next-seeks fit next-made (goes-on l) in moved (length cs) (placeNumber (r .position .place)) (t .0) (t .1)
+
+      -- LAW: GNP seeks up to the end of the parentage's run
+      module _ (e : left r next ≡ getNextWithin cat cs pos area false ls) where
+        module _ (p : ℕ) (x : pos .parentage ≡ Of (cell p)) where
+          within-seeks : Seeks (seenAt cat tab) (Unders p) (λ j. Unders p) (test cat tab list) (endAt cat cs p) GE (promised cat 3 list)
+          within-seeks =
+              gnp-seeks cat tab (g .sound .catalogue) (g .sound .table) list (g .read) p
+              (omega (arith, parent-in cat tab pos (w .good) (cell p) x, listing-length cat tab))
+
+          within-made : made r tab next ≡ promised cat 3 list s
+          within-made = ap (landed cat tab) e ∙ sym (within-call p x)
+
+          under : Unders p s
+          under = record { fit = fit; parentage = x; later = around cat tab pos (w .good) (cell p) x .0 }
+
+        pub within-none : (q : Parentage) → pos .parentage ≡ q → isAbsent q ≡ false → 10 ≤ n
+            → Without (test cat tab list) (afterPlace (pos .place)) (parentEnd cat cs q)
+            × (afterPlace (r .position .place) ≡ afterPlace (pos .place)) × (goodPosition cat cs (r .position) ≡ true)
+        within-none Absent x y l = absurd (clash true refl y)
+        within-none (Of p) x y l =
+            let t = sought-none cat tab (within-seeks (p .0) x) (under (p .0) x) (within-made (p .0) x) (ended l) in
+            (t .0, t .1 .stays, t .1 .fit .fit .position)
+
+        pub within-one : (q : Parentage) → pos .parentage ≡ q → isAbsent q ≡ false → n < 10 → Moved (parentEnd cat cs q) q
+        within-one Absent x y l = absurd (clash true refl y)
+        within-one (Of p) x y l =
+            let t = sought-one cat tab (within-seeks (p .0) x) (under (p .0) x) (within-made (p .0) x) (goes-on l) in
+            moved (endAt cat cs (p .0)) (p .0) (t .0) (t .1)
+
+-- a good place has not left the run of the parentage
+pub within-start : (cat tab : Bytes) (pos : Position) → goodPosition cat (listing cat tab) pos ≡ true → isAbsent (pos .parentage) ≡ false
+    → afterPlace (pos .place) ≤ parentEnd cat (listing cat tab) (pos .parentage)
+within-start cat tab pos g y = from (pos .parentage) refl y
+  where
+    from : (q : Parentage) → pos .parentage ≡ q → isAbsent q ≡ false → afterPlace (pos .place) ≤ parentEnd cat (listing cat tab) q
+    from Absent x y = absurd (clash true refl y)
+    from (Of p) x y = around cat tab pos g p x .1

@@ -34,7 +34,7 @@ use Rattle.report_loops.proofs.Asked.{asked-heeds}
 use Rattle.report_loops.proofs.Hits.{hits, hits-none, hits-first, hits-from}
 use Rattle.reports.specs.Shown.{putHit, shownFrom}
 use Rattle.reports.specs.Given.{Given}
-use Rattle.reports.proofs.Steps.{sound-list, given-good}
+use Rattle.reports.proofs.Given.{sound-list, given-good}
 use Rattle.reports.proofs.Written.{put-length, show-none, show-next}
 
 every-here : (p : ℕ → Bool) (x : ℕ) (xs : List ℕ) → p x ≡ false → every p (x ∷ xs) ≡ false

@@ -68,8 +68,8 @@ fn found_by(
         × (now (out .exit) ≡ shownFrom 0 (picked (now (cat .entry)) (now (tab .entry)) (now (one .entry) ++ now (two .entry))) (now (out .entry))) ⌝ }
 {
     match way {
-        Way::Nested => nested_sound(cat, tab, size, one, two, out),
-        Way::Joined => joined_sound(cat, tab, size, list, out),
+        Way::Nested => nested_sound(cat, tab, one, two, out),
+        Way::Joined => joined_sound(cat, tab, list, out),
         Way::Plain => plain_sound(cat, tab, size, list, out),
     }
 }

@@ -1,5 +1,5 @@
 use native.Mathlib.Omega.{arith}
-use Rattle.listing.proofs.Lines.{size-small, list-ready, answer-short, area-long, listed-last, listed-cell}
+use Rattle.listing.proofs.Lines.{size-small, list-ready, answer-short, listed-last, listed-cell}
 use borrow.Author.Needs.{needs}
 use Rattle.listing.proofs.next_line.Statement.{statement}
 use Rattle.listing.proofs.next_line.Tie as tie
@@ -55,31 +55,14 @@ slice-aggregate-cell-line c = search needs
 
 -- src/lib.rt: let long = cell_line(out, a, &area);
 cell-line-requires : tie.Need-cell-line-requires
-cell-line-requires c κs = (
-  omega (
-    arith,
-    answer-short _ _ _
-        (c .before .before .before .before .before .before .before .before .before .before .before .before .pre .0)
-        (c .before .before .before .before .before .before .read-next .result) _
-        (c .before .before .before .before .before .before .read-next .ensures),
-    area-long _ _ _
-        (c .before .before .before .before .before .before .before .before .before .before .before .before .pre .0)
-        (c .before .before .before .before .before .before .read-next .result) _
-        (c .before .before .before .before .before .before .read-next .ensures)
-        (λ i. omega (
-          arith,
-          c .before .before .before .before .before .before .before .before .before .before
-              .shared-slice-known2 .given i,
-        )),
-  ),
-  omega (
-    arith,
-    c .before .before .before .before .before .before .before .before .before .before .before .before .pre .1,
-    answer-short _ _ _ (c .before .before .before .before .before .before .before .before .before .before .before
-        .before .pre .0) (c .before .before .before .before .before .before .read-next .result) _
-        (c .before .before .before .before .before .before .read-next .ensures),
-  ),
-)
+cell-line-requires c κs = let short = answer-short _ _ _
+    (c .before .before .before .before .before .before .before .before .before .before .before .before .pre .0)
+    (c .before .before .before .before .before .before .read-next .result) _
+    (c .before .before .before .before .before .before .read-next .ensures) in (
+      omega (arith, c .before .before .before .before .before .area2 .given),
+      omega
+          (arith, c .before .before .before .before .before .before .before .before .before .before .before .before .pre .1),
+    )
 
 -- src/lib.rt: pub fn next_line(cat: &[u8], tab: &[u8], pos: Position, out: &mut [u8]) -> Line
 same-length-2 : tie.Need-same-length-2

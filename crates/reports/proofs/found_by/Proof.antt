@@ -1,47 +1,62 @@
+use Rattle.reports.proofs.Given.{told-size}
 use borrow.Author.Needs.{needs}
 use Rattle.reports.proofs.found_by.Statement.{statement}
 use Rattle.reports.proofs.found_by.Tie as tie
 
+-- src/lib.rt: Way::Nested => nested_sound(cat, tab, one, two, out),
 enum-told : tie.Need-enum-told
 enum-told c = search needs
 
+-- src/lib.rt: Way::Nested => nested_sound(cat, tab, one, two, out),
 nested-sound-requires : tie.Need-nested-sound-requires
-nested-sound-requires c κs = search needs
+nested-sound-requires c κs =
+    let ·pre = c .before .before .before .before .before .before .before .before .before .pre in
+    rw (told-size (·pre .0 .first)) at (·pre .0)
 
+-- src/lib.rt: Way::Joined => joined_sound(cat, tab, list, out),
 enum-told-2 : tie.Need-enum-told-2
 enum-told-2 c = search needs
 
+-- src/lib.rt: Way::Joined => joined_sound(cat, tab, list, out),
 joined-sound-requires : tie.Need-joined-sound-requires
 joined-sound-requires c κs =
     let ·pre = c .before .before .before .before .before .before .before .before .before .pre in
-    rw (·pre .1) (·pre .0 .joined)
+    rw (·pre .1) (rw (told-size (·pre .0 .first)) at (·pre .0 .joined))
 
+-- src/lib.rt: Way::Plain => plain_sound(cat, tab, size, list, out),
 enum-told-3 : tie.Need-enum-told-3
 enum-told-3 c = search needs
 
+-- src/lib.rt: Way::Plain => plain_sound(cat, tab, size, list, out),
 plain-sound-requires : tie.Need-plain-sound-requires
 plain-sound-requires c κs =
     let ·pre = c .before .before .before .before .before .before .before .before .before .pre in
     rw (·pre .1) (·pre .0 .joined)
 
+-- src/lib.rt: fn found_by(
 same-length : tie.Need-same-length
 same-length c = search needs
 
+-- src/lib.rt: fn found_by(
 returns : tie.Need-returns
 returns c = search needs
 
+-- src/lib.rt: fn found_by(
 same-length-2 : tie.Need-same-length-2
 same-length-2 c = search needs
 
+-- src/lib.rt: fn found_by(
 returns-2 : tie.Need-returns-2
 returns-2 c =
     let ·pre = c .before .before .before .before .before .before .before .before .before .before .before .before .pre in
     let ·joined-sound = c .before .before .joined-sound in
     rw (·pre .1) at (·joined-sound .ensures)
 
+-- src/lib.rt: fn found_by(
 same-length-3 : tie.Need-same-length-3
 same-length-3 c = search needs
 
+-- src/lib.rt: fn found_by(
 returns-3 : tie.Need-returns-3
 returns-3 c =
     let ·pre = c .before .before .before .before .before .before .before .before .before .before .before .before .pre in

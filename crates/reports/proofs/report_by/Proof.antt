@@ -6,28 +6,35 @@ use borrow.Author.Needs.{needs}
 use Rattle.reports.proofs.report_by.Statement.{statement}
 use Rattle.reports.proofs.report_by.Tie as tie
 
+-- src/lib.rt: let s = refusal(cat, tab, one, two);
 refusal-requires : tie.Need-refusal-requires
 refusal-requires c κs = search needs
 
+-- src/lib.rt: if number(s) != 0 {
 number-requires : tie.Need-number-requires
 number-requires c κs = search needs
 
+-- src/lib.rt: return shows_nothing(s);
 shows-nothing-requires : tie.Need-shows-nothing-requires
 shows-nothing-requires c κs = search needs
 
+-- src/lib.rt: return shows_nothing(s);
 returns : tie.Need-returns
 returns c = let ·refusal = c .before .before .before .refusal in let ·number = c .before .before .number in
     whole-refused _ _ _ _ _ _ (·refusal .ensures) (·number .ensures) _ _ (c .shows-nothing .ensures)
     (c .before .if1 .taken)
 
+-- src/lib.rt: let long = join(&mut list, one, two);
 slice-aggregate-join : tie.Need-slice-aggregate-join
 slice-aggregate-join c = search needs
 
+-- src/lib.rt: let long = join(&mut list, one, two);
 join-requires : tie.Need-join-requires
 join-requires c κs = let ·args = c .before .before .before .before .before .before .before .before .before .args in
     let ·refusal = c .before .before .before .refusal in let ·number = c .before .before .number in
     whole-joins _ (·args .tab .now) _ _ _ _ (·refusal .ensures) (·number .ensures) (c .before .if1 .left)
 
+-- src/lib.rt: let size = wide(tab[5]);
 shared-slice-read-wide : tie.Need-shared-slice-read-wide
 shared-slice-read-wide c =
     let ·args = c .before .before .before .before .before .before .before .before .before .before .before .before .args
@@ -36,9 +43,11 @@ shared-slice-read-wide c =
     let ·if1 = c .before .before .before .before .if1 in
     five-in _ _ (·args .one .now) (·args .two .now) _ _ (·refusal .ensures) (·number .ensures) (·if1 .left)
 
+-- src/lib.rt: let size = wide(tab[5]);
 wide-requires : tie.Need-wide-requires
 wide-requires c κs = search needs
 
+-- src/lib.rt: shown_by(way, cat, tab, size, one, two, &list[..long], out)
 array-share-prefix-list : tie.Need-array-share-prefix-list
 array-share-prefix-list c =
     let ·args = c .before .before .before .before .before .before .before .before .before .before .before .before
@@ -53,12 +62,14 @@ array-share-prefix-list c =
           (c .before .before .before .before .before .if1 .left),
     )
 
+-- src/lib.rt: shown_by(way, cat, tab, size, one, two, &list[..long], out)
 slice-aggregate-shown-by : tie.Need-slice-aggregate-shown-by
 slice-aggregate-shown-by c = let ·join = c .before .before .before .before .join in
     let ·args = c .before .before .before .before .before .before .before .before .before .before .before .before
     .before .before .args in
     ·join .ensures .0 ∙ sym (ap length (·join .ensures .1) ∙ length-append (·args .one .now) (·args .two .now))
 
+-- src/lib.rt: shown_by(way, cat, tab, size, one, two, &list[..long], out)
 shown-by-requires : tie.Need-shown-by-requires
 shown-by-requires c κs =
     let ·refusal = c .before .before .before .before .before .before .before .before .before .refusal in
@@ -69,9 +80,11 @@ shown-by-requires c κs =
       ·join .ensures .1,
     )
 
+-- src/lib.rt: fn report_by(way: Way, cat: &[u8], tab: &[u8], one: &[u8], two: &[u8], out: &mut [u8]) -> Report
 same-length : tie.Need-same-length
 same-length c = search needs
 
+-- src/lib.rt: fn report_by(way: Way, cat: &[u8], tab: &[u8], one: &[u8], two: &[u8], out: &mut [u8]) -> Report
 returns-2 : tie.Need-returns-2
 returns-2 c = let ·shown-by = c .before .before .shown-by in
     let ·refusal = c .before .before .before .before .before .before .before .before .before .before .before .before

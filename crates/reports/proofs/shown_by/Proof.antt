@@ -5,21 +5,27 @@ use borrow.Author.Needs.{needs}
 use Rattle.reports.proofs.shown_by.Statement.{statement}
 use Rattle.reports.proofs.shown_by.Tie as tie
 
+-- src/lib.rt: if 2 * count(tab) <= out.len() {
 count-requires : tie.Need-count-requires
 count-requires c κs = search needs
 
+-- src/lib.rt: if 2 * count(tab) <= out.len() {
 mul-if1 : tie.Need-mul-if1
 mul-if1 c = search needs
 
+-- src/lib.rt: return shows(found_by(way, cat, tab, size, one, two, list, out));
 found-by-requires : tie.Need-found-by-requires
 found-by-requires c κs = search needs
 
+-- src/lib.rt: return shows(found_by(way, cat, tab, size, one, two, list, out));
 shows-requires : tie.Need-shows-requires
 shows-requires c κs = search needs
 
+-- src/lib.rt: return shows(found_by(way, cat, tab, size, one, two, list, out));
 same-length : tie.Need-same-length
 same-length c = search needs
 
+-- src/lib.rt: return shows(found_by(way, cat, tab, size, one, two, list, out));
 returns : tie.Need-returns
 returns c =
     let ·args = c .before .before .before .before .before .before .before .before .before .before .before .before
@@ -34,15 +40,19 @@ returns c =
           (·args .one .now ++ ·args .two .now),
     ))
 
+-- src/lib.rt: let all = found_by(way, cat, tab, size, one, two, list, &mut out[..0]);
 slice-relend-prefix-found-by : tie.Need-slice-relend-prefix-found-by
 slice-relend-prefix-found-by c = search needs
 
+-- src/lib.rt: let all = found_by(way, cat, tab, size, one, two, list, &mut out[..0]);
 slice-aggregate-found-by : tie.Need-slice-aggregate-found-by
 slice-aggregate-found-by c = search needs
 
+-- src/lib.rt: let all = found_by(way, cat, tab, size, one, two, list, &mut out[..0]);
 found-by-requires-2 : tie.Need-found-by-requires-2
 found-by-requires-2 c κs = search needs
 
+-- src/lib.rt: if out.len() < 2 * all {
 mul-if2 : tie.Need-mul-if2
 mul-if2 c =
     let ·args = c .before .before .before .before .before .before .before .before .before .before .before .before .args
@@ -55,12 +65,15 @@ mul-if2 c =
       picked-few (·args .cat .now) (·args .tab .now) (·args .one .now ++ ·args .two .now),
     )
 
+-- src/lib.rt: return shows_nothing(Status::AB);
 shows-nothing-requires : tie.Need-shows-nothing-requires
 shows-nothing-requires c κs = search needs
 
+-- src/lib.rt: return shows_nothing(Status::AB);
 same-length-2 : tie.Need-same-length-2
 same-length-2 c = search needs
 
+-- src/lib.rt: return shows_nothing(Status::AB);
 returns-2 : tie.Need-returns-2
 returns-2 c =
     let ·args = c .before .before .before .before .before .before .before .before .before .before .before .before
@@ -68,15 +81,19 @@ returns-2 c =
     counted-short _ (·args .out .now) _ (·found-by2 .ensures .1) _ (c .shows-nothing .ensures) _
     (·found-by2 .ensures .0) (c .before .if2 .taken)
 
+-- src/lib.rt: shows(found_by(way, cat, tab, size, one, two, list, out))
 found-by-requires-3 : tie.Need-found-by-requires-3
 found-by-requires-3 c κs = search needs
 
+-- src/lib.rt: shows(found_by(way, cat, tab, size, one, two, list, out))
 shows-requires-2 : tie.Need-shows-requires-2
 shows-requires-2 c κs = search needs
 
+-- src/lib.rt: fn shown_by(
 same-length-3 : tie.Need-same-length-3
 same-length-3 c = search needs
 
+-- src/lib.rt: fn shown_by(
 returns-3 : tie.Need-returns-3
 returns-3 c =
     let ·args = c .before .before .before .before .before .before .before .before .before .before .before .before

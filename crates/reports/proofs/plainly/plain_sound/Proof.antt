@@ -3,7 +3,7 @@ use Prim.Native.Nat.{_-_}
 use native.Mathlib.Omega.{arith}
 use borrow.Author.Needs.{needs}
 use Rattle.terms.specs.declared.Argument.{Argument}
-use Rattle.reports.proofs.Steps.{sound-list}
+use Rattle.reports.proofs.Given.{sound-list}
 use Rattle.reports.proofs.Tested.{Passed, passed-none, passed-small, passed-next, passed-all}
 use Rattle.reports.proofs.plainly.plain_sound.Statement.{statement}
 use Rattle.reports.proofs.plainly.plain_sound.Tie as tie
