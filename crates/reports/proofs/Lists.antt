@@ -1,32 +1,28 @@
 -- What is refused before a report begins, test by test. Assumes nothing.
 use mathlib.Core.Path.{_≡_, refl, ap, sym, _∙_}
-use mathlib.Core.Bool.{Bool, true, false, _||_, not}
-use mathlib.Core.List.{List, [], _∷_, _++_}
-use Prim.Native.Nat.{ℕ, _+_, _<_, _≤_}
+use mathlib.Core.Bool.{Bool, true, false, _||_}
+use mathlib.Core.List.{List, [], _∷_}
+use Prim.Native.Nat.{ℕ}
 use native.Mathlib.Omega.{arith}
 use lib.Dec.{eqb}
-use lib.ListN.{length, length-append}
+use lib.ListN.{length}
 use borrow.Author.Tests.{eq-eqb, ne-eqb}
 use Rattle.terms.specs.declared.TypeCode.{TypeCode}
 use Rattle.terms.specs.declared.Argument.{Argument}
 use Rattle.terms.specs.declared.Status.{Status}
 use Rattle.terms.specs.declared.Status.the-variants.{Blank, CX, TX, AC}
-use Rattle.terms.specs.Choice.{pick}
 use Rattle.terms.specs.Names.{code}
 use Rattle.terms.specs.Statuses.{number}
 use Rattle.forest.specs.Good.{on, off, is, isNil}
 use Rattle.rules.specs.Block.{Bytes}
 use Rattle.rules.specs.Catalogue.{goodCatalogue}
-use Rattle.rules.specs.Table.{goodTable, cellSize}
+use Rattle.rules.specs.Table.{goodTable}
 use Rattle.rules.specs.Arguments.{listRead, lastArgument}
-use Rattle.rules.specs.Outcome.{isBlank, checkTable}
-use Rattle.cells.specs.Sound.{Sound}
-use Rattle.cells.proofs.Located.{good-sized, good-housed}
+use Rattle.rules.specs.Outcome.{checkTable}
 use Rattle.arguments.specs.Sound.{SoundList, rest}
 use Rattle.arguments.proofs.Sound.{list-filled}
-use Rattle.arguments.proofs.Short.{sound-short}
 use Rattle.answers.proofs.Statuses.{blank-is}
-use Rattle.report_loops.proofs.Cut.{behind, joined-fault, parts}
+use Rattle.report_loops.proofs.Cut.{behind, joined-fault}
 use Rattle.report_loops.proofs.Asked.{last-code}
 use Rattle.reports.specs.Report.{listsFault, refusal}
 

@@ -21,7 +21,7 @@ use Rattle.report_loops.proofs.Nest.{Nests, none-joined, none-under, closed-nex
 use Rattle.report_loops.proofs.Demand.{hits-picked, nests}
 use Rattle.reports.specs.declared.nesting.Onward.{Onward}
 use Rattle.reports.specs.Shown.{shownFrom}
-use Rattle.reports.specs.Onward.{test, between, beneath, Went}
+use Rattle.reports.specs.Onward.{test, beneath, Went}
 use Rattle.reports.specs.Given.{GivenBoth}
 use Rattle.reports.proofs.Steps.{Turn}
 use Rattle.reports.proofs.OneList.{room, accepted}
@@ -55,7 +55,7 @@ module _ {cat tab one two : Bytes} {size : ℕ} (g : GivenBoth cat tab one two s
   abbrev both : ℕ → Bool
   both = test cat tab (one ++ two)
 
-  pub nest : Nests n end outer inner both
+  nest : Nests n end outer inner both
   nest = nests cat tab room one two (accepted (g .joined)) (record { first = g .first .some; second = g .second .some; between = g .first .read })
 
   all : hits both 0 n ≡ picked cat tab (one ++ two)
@@ -85,9 +85,6 @@ module _ {cat tab one two : Bytes} {size : ℕ} (g : GivenBoth cat tab one two s
 
     -- under cell p, which GN found and moved onto
     module _ {p : ℕ} (pos : Position) (t : Turn outer at n p (afterPlace (pos .place))) (b : pos .parentage ≡ Of (cell p)) where
-      in-run : p < n
-      in-run = t .inside
-
       from-outer : o .e ≤ p
       from-outer = elim (side p (o .e)) [
         | inside h ↦ absurd (clash (outer p) (t .passes) (o .none p (t .later) h))
@@ -97,25 +94,24 @@ module _ {cat tab one two : Bytes} {size : ℕ} (g : GivenBoth cat tab one two s
       free : Without outer (o .e) p
       free j x y = t .before j (omega (arith, o .later)) y
 
-      -- the run of p ends among the cells
       end-is : parentEnd cat (listing cat tab) (pos .parentage) ≡ end p
       end-is = ap (parentEnd cat (listing cat tab)) b
 
       under-is : beneath cat tab two pos ≡ hits both (suc p) (end p)
-      under-is = rw (t .moves, b) (hits-same inner both (suc p) (end p) (λ j x y. nest .below p j (omega (arith, nest .among p in-run)) (t .passes) x y))
+      under-is = rw (t .moves, b) (hits-same inner both (suc p) (end p) (λ j x y. nest .below p j (omega (arith, nest .among p (t .inside))) (t .passes) x y))
 
       pub outer-next : (u : Onward) (next : Bytes) → Went cat tab two pos k out u next
           → Outer cat tab one two before (u .hits) (afterPlace (u .position .place)) next
       outer-next u next w =
-          let run = joined-run n end outer inner both nest (o .e) p (o .closed) from-outer in-run free in
+          let run = joined-run n end outer inner both nest (o .e) p (o .closed) from-outer (t .inside) free in
           let x = ap length under-is in
           let y = ap length run ∙ length-append (hits both (suc p) (end p)) (hits both (end p) n) in
           record {
             e = end p;
             later = omega (arith, w .inside, end-is);
-            inside = nest .among p in-run;
-            none = λ j a c. none-under n end outer inner both nest p j in-run (t .passes) (omega (arith, w .later, t .moves)) c;
-            closed = closed-next n end outer inner both nest (o .e) p (o .closed) from-outer in-run (t .passes) free;
+            inside = nest .among p (t .inside);
+            none = λ j a c. none-under n end outer inner both nest p j (t .inside) (t .passes) (omega (arith, w .later, t .moves)) c;
+            closed = closed-next n end outer inner both nest (o .e) p (o .closed) from-outer (t .inside) (t .passes) free;
             fewer = w .fewer;
             left = omega (arith, w .hits, o .left);
             shown = rw (w .out, w .hits, under-is) (show-append k (hits both (suc p) (end p)) (hits both (end p) n) out)

@@ -15,7 +15,7 @@ use Rattle.terms.specs.declared.Found.the-variants.{At, Nothing}
 use Rattle.terms.specs.Choice.{pick}
 use Rattle.terms.specs.Names.{code, sameType}
 use Rattle.forest.specs.Good.{on, off, is, isNil}
-use Rattle.forest.specs.Numbers.{range, ancestors}
+use Rattle.forest.specs.Numbers.{ancestors}
 use Rattle.rules.specs.Block.{Bytes, every}
 use Rattle.rules.specs.Cells.{Segment, segment, levelAt, rowAt}
 use Rattle.rules.specs.Table.{count, listing}

@@ -1,9 +1,8 @@
 use mathlib.Core.Path.{_≡_, refl, ap, _∙_}
-use Prim.Native.Nat.{ℕ, _-_}
+use Prim.Native.Nat.{_-_}
 use native.Mathlib.Omega.{arith}
 use lib.ListN.{length}
 use Rattle.terms.specs.declared.CellNumber.{CellNumber}
-use Rattle.terms.specs.declared.Parentage.{Parentage}
 use Rattle.terms.specs.Moves.{afterPlace, isAbsent}
 use Rattle.rules.specs.Table.{listing}
 use Rattle.rules.specs.Calls.{parentEnd}
