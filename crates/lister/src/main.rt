@@ -2,8 +2,8 @@
 use cells::lookup::count;
 use libc::STDOUT_FILENO;
 use listing::last_line;
+use listing::listing_refusal;
 use listing::next_line;
-use listing::refusal;
 use terms::Position;
 use terms::statuses::number;
 ghost use Prim.Native.Nat.{_≤_};
@@ -25,7 +25,7 @@ fn load(path: &[u8], buf: &mut [u8]) -> usize
 // The listing of these two blocks, a line at a time: at most n + 1 of them.
 fn list(cat: &[u8], tab: &[u8]) {
     let mut out = [0u8; 262];
-    let s = refusal(cat, tab);
+    let s = listing_refusal(cat, tab);
     if number(s) != 0 {
         let end = last_line(&mut out, s);
         io::write_all(STDOUT_FILENO, &out[..end]);

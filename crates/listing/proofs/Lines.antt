@@ -43,7 +43,7 @@ use Rattle.gets.proofs.Gotten.{data-fits}
 use Rattle.dli.proofs.Calls.{sound-blocks, did-next}
 use Rattle.listing.specs.declared.Line.{Line}
 use Rattle.listing.specs.Written.{Wrote}
-use Rattle.listing.specs.Lines.{issued, isLast, lineOf, Listed, refusal}
+use Rattle.listing.specs.Lines.{issued, endsListing, lineOf, Listed, listingRefusal}
 use Rattle.listing.proofs.Written.{written-is, wrote-as}
 
 abbrev zeroArea : Bytes
@@ -118,11 +118,11 @@ module _ (cat tab : Bytes) (pos : Position) (f : SoundFor cat tab pos) where
         pub listed-last : 10 ≤ n → Wrote 0 (lastLine (r .status)) before end after → Listed cat tab pos before (record { position = r .position; long = end; done = true }) after
         unfolding lineOf
         listed-last l w =
-            let q : isLast (made r tab area) ≡ true = le-leb 10 (number (r .status)) (omega arith) in
+            let q : endsListing (made r tab area) ≡ true = le-leb 10 (number (r .status)) (omega arith) in
             let t : lastLine (r .status) ≡ lineOf (made r tab area) = rw q in
             record {
               position = ap (λ (o : Outcome). o .answer .position) made-is;
-              done = sym q ∙ ap isLast made-is;
+              done = sym q ∙ ap endsListing made-is;
               text = wrote-as w (t ∙ ap lineOf made-is);
               fits = fits;
               sound = sound-next;
@@ -131,17 +131,17 @@ module _ (cat tab : Bytes) (pos : Position) (f : SoundFor cat tab pos) where
         pub listed-cell : n < 10 → Wrote 0 (cellLine r area) before end after → Listed cat tab pos before (record { position = r .position; long = end; done = false }) after
         unfolding lineOf
         listed-cell l w =
-            let q : isLast (made r tab area) ≡ false = lt-leb 10 (number (r .status)) (omega arith) in
+            let q : endsListing (made r tab area) ≡ false = lt-leb 10 (number (r .status)) (omega arith) in
             let t : cellLine r area ≡ lineOf (made r tab area) = rw q in
             record {
               position = ap (λ (o : Outcome). o .answer .position) made-is;
-              done = sym q ∙ ap isLast made-is;
+              done = sym q ∙ ap endsListing made-is;
               text = wrote-as w (t ∙ ap lineOf made-is);
               fits = fits;
               sound = sound-next;
             }
 
-lines-stop : (cat tab : Bytes) (pos : Position) (k : ℕ) → isLast (issued cat tab pos) ≡ true → linesFrom (suc k) cat tab pos ≡ lastLine (issued cat tab pos .answer .status)
+lines-stop : (cat tab : Bytes) (pos : Position) (k : ℕ) → endsListing (issued cat tab pos) ≡ true → linesFrom (suc k) cat tab pos ≡ lastLine (issued cat tab pos .answer .status)
 unfolding linesFrom
 lines-stop cat tab pos k q = rw (linesFrom, q)
 
@@ -157,20 +157,20 @@ module _ {cat tab : Bytes} {pos : Position} {before : Bytes} {r : Line} {after :
   pub lines-last : (k : ℕ) → r .done ≡ true → linesFrom (suc k) cat tab pos ≡ take (r .long) after
   unfolding linesFrom lineOf
   lines-last k d =
-      let q : isLast (issued cat tab pos) ≡ true = sym (l .done) ∙ d in
+      let q : endsListing (issued cat tab pos) ≡ true = sym (l .done) ∙ d in
       rw (line-bytes, linesFrom, q)
 
   pub lines-next : (k : ℕ) → r .done ≡ false → linesFrom (suc k) cat tab pos ≡ take (r .long) after ++ linesFrom k cat tab (r .position)
   unfolding linesFrom lineOf
   lines-next k d =
-      let q : isLast (issued cat tab pos) ≡ false = sym (l .done) ∙ d in
+      let q : endsListing (issued cat tab pos) ≡ false = sym (l .done) ∙ d in
       rw (line-bytes, l .position, linesFrom, q)
 
 -- what is refused, test by test
 module _ (cat tab : Bytes) where
   module _ (s : Status) (n : ℕ) (e : s ≡ checkCatalogue cat) (h : n ≡ number s) where
-    pub refused-first : (n ≡ 0 → ⊥) → s ≡ refusal cat tab
-    unfolding refusal checkCatalogue
+    pub refused-first : (n ≡ 0 → ⊥) → s ≡ listingRefusal cat tab
+    unfolding listingRefusal checkCatalogue
     refused-first z = elim (is (goodCatalogue cat)) [
       | on g ↦ (let y : s ≡ Blank = rw g at e in absurd (z (h ∙ ap number y)))
       | off g ↦ (let y : s ≡ CX = rw g at e in rw g y)
@@ -183,12 +183,12 @@ module _ (cat tab : Bytes) where
       | off g ↦ (let y : s ≡ CX = rw g at e in absurd (omega (arith, ap number y)))
     ]
 
-    pub refused-long : n ≡ 0 → 65536 < length tab → TX ≡ refusal cat tab
-    unfolding refusal
+    pub refused-long : n ≡ 0 → 65536 < length tab → TX ≡ listingRefusal cat tab
+    unfolding listingRefusal
     refused-long z l = rw (good-first z, lt-ltb 65536 (length tab))
 
-    pub refused-table : n ≡ 0 → length tab ≤ 65536 → (t : Status) → t ≡ checkTable cat tab → t ≡ refusal cat tab
-    unfolding refusal
+    pub refused-table : n ≡ 0 → length tab ≤ 65536 → (t : Status) → t ≡ checkTable cat tab → t ≡ listingRefusal cat tab
+    unfolding listingRefusal
     refused-table z l t y = rw (good-first z, le-ltb 65536 (length tab)) y
 
   table-refused : goodCatalogue cat ≡ true → goodTable cat tab ≡ false → issued cat tab fresh ≡ landed cat tab (refused TX fresh zeroArea)
@@ -198,11 +198,11 @@ module _ (cat tab : Bytes) where
   first-refused : goodCatalogue cat ≡ true → goodTable cat tab ≡ false → (k : ℕ) → linesFrom (suc k) cat tab fresh ≡ lastLine TX
   first-refused g t k =
       let o = table-refused g t in
-      lines-stop cat tab fresh k (ap isLast o) ∙ ap (λ (x : Outcome). lastLine (x .answer .status)) o
+      lines-stop cat tab fresh k (ap endsListing o) ∙ ap (λ (x : Outcome). lastLine (x .answer .status)) o
 
   -- LAW: a refusal is the whole text
-  pub listing-refused : (number (refusal cat tab) ≡ 0 → ⊥) → listingText cat tab ≡ lastLine (refusal cat tab)
-  unfolding refusal listingText checkTable
+  pub listing-refused : (number (listingRefusal cat tab) ≡ 0 → ⊥) → listingText cat tab ≡ lastLine (listingRefusal cat tab)
+  unfolding listingRefusal listingText checkTable
   listing-refused z = elim (is (goodCatalogue cat)) [
     | off g ↦ rw g
     | on g ↦ elim (is (ltb 65536 (length tab))) [
@@ -215,8 +215,8 @@ module _ (cat tab : Bytes) where
   ]
 
   -- LAW: otherwise the text is the lines from a fresh position on, which is sound
-  pub listing-starts : number (refusal cat tab) ≡ 0 → (listingText cat tab ≡ linesFrom (suc (count tab)) cat tab fresh) × SoundFor cat tab fresh
-  unfolding refusal listingText checkTable goodPosition
+  pub listing-starts : number (listingRefusal cat tab) ≡ 0 → (listingText cat tab ≡ linesFrom (suc (count tab)) cat tab fresh) × SoundFor cat tab fresh
+  unfolding listingRefusal listingText checkTable goodPosition
   listing-starts z = elim (is (goodCatalogue cat)) [
     | off g ↦ absurd (let y : 20 ≡ 0 = rw g at z in omega arith)
     | on g ↦ elim (is (ltb 65536 (length tab))) [

@@ -23,20 +23,20 @@ abbrev pub issued : Bytes → Bytes → Position → Outcome
 issued cat tab pos = outcome cat tab pos 2 [] (replicate 120 0)
 
 -- "to the first GB or refusal"
-abbrev pub isLast : Outcome → Bool
-isLast o = leb 10 (number (o .answer .status))
+abbrev pub endsListing : Outcome → Bool
+endsListing o = leb 10 (number (o .answer .status))
 
 unfoldable pub lineOf : Outcome → Bytes
-lineOf o = pick (isLast o) (lastLine (o .answer .status)) (cellLine (o .answer) (o .area))
+lineOf o = pick (endsListing o) (lastLine (o .answer .status)) (cellLine (o .answer) (o .area))
 
 -- a line in the buffer, and what the next one needs
 pub record Listed (cat tab : Bytes) (pos : Position) (before : Bytes) (r : Line) (after : Bytes) : Type 0 where
   pub position : r .position ≡ issued cat tab pos .answer .position
-  pub done : r .done ≡ isLast (issued cat tab pos)
+  pub done : r .done ≡ endsListing (issued cat tab pos)
   pub text : Wrote 0 (lineOf (issued cat tab pos)) before (r .long) after
   pub fits : r .long ≤ length after
   pub sound : SoundFor cat tab (r .position)
 
 -- what is refused before the first call, as the checks say it
-unfoldable pub refusal : Bytes → Bytes → Status
-refusal cat tab = pick (not (goodCatalogue cat)) CX (pick (ltb 65536 (length tab)) TX (checkTable cat tab))
+unfoldable pub listingRefusal : Bytes → Bytes → Status
+listingRefusal cat tab = pick (not (goodCatalogue cat)) CX (pick (ltb 65536 (length tab)) TX (checkTable cat tab))

@@ -17,7 +17,7 @@ ghost use lib.ListN.{length};
 ghost use Rattle.rules.specs.Listing.{cellLine, lastLine};
 ghost use Rattle.answers.specs.Ready.{SoundFor};
 ghost use Rattle.listing.specs.Written.{Wrote};
-ghost use Rattle.listing.specs.Lines.{Listed, refusal};
+ghost use Rattle.listing.specs.Lines.{Listed, listingRefusal};
 
 // A line that was written: the position after its call, how many bytes it has, and whether it is the last.
 pub struct Line {
@@ -56,8 +56,8 @@ pub fn last_line(out: &mut [u8], s: Status) -> usize
 }
 
 // CX, or TX, or blank where the lines can be listed: "a longer file is TX, after CX"
-pub fn refusal(cat: &[u8], tab: &[u8]) -> Status
-    ensures { λ r. ⌜ r ≡ refusal (now (cat .entry)) (now (tab .entry)) ⌝ }
+pub fn listing_refusal(cat: &[u8], tab: &[u8]) -> Status
+    ensures { λ r. ⌜ r ≡ listingRefusal (now (cat .entry)) (now (tab .entry)) ⌝ }
 {
     let s = catalogue_check::check::check(cat);
     if number(s) != 0 {

@@ -32,7 +32,7 @@ module _ (get₁ get₂ : State → Outcome) (m k : ℕ) (s : State) where
   nested-last e = rw (nestedLoop, e)
 
   nested-on : isLast (get₁ s) ≡ false → loop get₂ m (handedOn (get₁ s)) .last ≡ some GE
-      → nestedLoop get₁ get₂ m (suc k) s ≡ behind (loop get₂ m (handedOn (get₁ s)) .seen) (nestedLoop get₁ get₂ m k (loop get₂ m (handedOn (get₁ s)) .left))
+      → nestedLoop get₁ get₂ m (suc k) s ≡ behind (loop get₂ m (handedOn (get₁ s)) .seen) (nestedLoop get₁ get₂ m k (loop get₂ m (handedOn (get₁ s)) .handed))
   unfolding nestedLoop
   nested-on e f = rw (nestedLoop, e, f)
 
@@ -96,7 +96,7 @@ module _ (n : ℕ) (end : ℕ → ℕ) (outer inner joined : ℕ → Bool) (N : 
           let b₁ : end i ≤ n = N .among i v in
           let s₁ : State = handedOn (get₁ s) in
           let r = loop-seeks see (Under i) (λ j. Under i) inner (end i) GE get₂ (S₂ i v) (λ j q x. x) m s₁ (o .fit) (omega (arith, o .moves)) (omega (arith, o .moves)) in
-          let s₂ : State = loop get₂ m s₁ .left in
+          let s₂ : State = loop get₂ m s₁ .handed in
           let z : loop get₂ m s₁ .seen ≡ map see (hits joined (suc i) (end i)) =
           r .seen ∙ ap (λ (q : ℕ). map see (hits inner q (end i))) (o .moves) ∙ ap (map see) (hits-same inner joined (suc i) (end i) (λ q x y. N .below i q (omega arith) t x y)) in
           let ih = nested-from k (end i) s₂ (again i s₂ (r .fit)) (r .within) b₁ (λ q x y. none-under i q v t (omega (arith, r .on, o .moves)) y) (closed-next e i w u v t g) (omega arith) in

@@ -39,9 +39,9 @@ pub record Seeks (see : ℕ → Seen) (Fit : State → Type 0) (Then : ℕ → S
 pub record Done (see : ℕ → Seen) (Fit : State → Type 0) (t : ℕ → Bool) (e : ℕ) (miss : Status) (s : State) (r : Shown) : Type 0 where
   pub seen : r .seen ≡ map see (hits t (after s) e)
   pub last : r .last ≡ some miss
-  pub fit : Fit (r .left)
-  pub on : after s ≤ after (r .left)
-  pub within : after (r .left) ≤ e
+  pub fit : Fit (r .handed)
+  pub on : after s ≤ after (r .handed)
+  pub within : after (r .handed) ≤ e
 
 -- one call of a loop
 module _ (get : State → Outcome) (k : ℕ) (s : State) where

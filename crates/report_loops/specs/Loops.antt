@@ -50,16 +50,16 @@ isLast o = leb 10 (number (o .answer .status))
 pub record Shown : Type 0 where
   pub seen : List Seen
   pub last : Option Status
-  pub left : State
+  pub handed : State
 
 abbrev pub ended : Outcome → Shown
-ended o = record { seen = []; last = some (o .answer .status); left = handedOn o }
+ended o = record { seen = []; last = some (o .answer .status); handed = handedOn o }
 
 abbrev pub outOfCalls : State → Shown
-outOfCalls s = record { seen = []; last = none; left = s }
+outOfCalls s = record { seen = []; last = none; handed = s }
 
 abbrev pub behind : List Seen → Shown → Shown
-behind xs r = record { seen = xs ++ r .seen; last = r .last; left = r .left }
+behind xs r = record { seen = xs ++ r .seen; last = r .last; handed = r .handed }
 
 abbrev pub isGE : Option Status → Bool
 isGE none = false
@@ -80,7 +80,7 @@ nestedLoop outer inner m zero s = outOfCalls s
 nestedLoop outer inner m (suc k) s = elim (isLast (outer s)) [
   | true ↦ ended (outer s)
   | false ↦ elim (isGE (loop inner m (handedOn (outer s)) .last)) [
-    | true ↦ behind (loop inner m (handedOn (outer s)) .seen) (nestedLoop outer inner m k (loop inner m (handedOn (outer s)) .left))
+    | true ↦ behind (loop inner m (handedOn (outer s)) .seen) (nestedLoop outer inner m k (loop inner m (handedOn (outer s)) .handed))
     | false ↦ loop inner m (handedOn (outer s))
   ]
 ]

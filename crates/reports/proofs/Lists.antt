@@ -24,7 +24,7 @@ use Rattle.arguments.proofs.Sound.{list-filled}
 use Rattle.answers.proofs.Statuses.{blank-is}
 use Rattle.report_loops.proofs.Cut.{behind, joined-fault}
 use Rattle.report_loops.proofs.Asked.{last-code}
-use Rattle.reports.specs.Report.{listsFault, refusal}
+use Rattle.reports.specs.Report.{listsFault, reportRefusal}
 
 last-behind : (ar : List Argument) → isNil ar ≡ false → lastArgument ar .code ≡ behind (code 0) ar
 last-behind [] e = absurd (let z : _≡_ {A = ℕ} 0 1 = cc in omega arith)
@@ -81,16 +81,16 @@ checked-good cat tab h = elim (is (goodCatalogue cat)) [
 ]
 
 module _ (cat tab : Bytes) (s : Status) (n : ℕ) (e : s ≡ checkTable cat tab) (m : n ≡ number s) where
-  pub refused-blocks : (one two : Bytes) → (n ≡ 0 → ⊥) → s ≡ refusal cat tab one two
-  unfolding refusal
+  pub refused-blocks : (one two : Bytes) → (n ≡ 0 → ⊥) → s ≡ reportRefusal cat tab one two
+  unfolding reportRefusal
   refused-blocks one two z = rw (← e, ne-eqb (number s) 0 (λ y. z (m ∙ y)))
 
   module _ (z : n ≡ 0) where
     none-blocks : eqb (number (checkTable cat tab)) 0 ≡ true
     none-blocks = eq-eqb (number (checkTable cat tab)) 0 (sym (ap number e) ∙ sym m ∙ z)
 
-    pub refused-lists : (one two : Bytes) (r : Status) → r ≡ listsFault cat one two → r ≡ refusal cat tab one two
-    unfolding refusal
+    pub refused-lists : (one two : Bytes) (r : Status) → r ≡ listsFault cat one two → r ≡ reportRefusal cat tab one two
+    unfolding reportRefusal
     refused-lists one two r q = rw none-blocks q
 
     pub blocks-good : (goodCatalogue cat ≡ true) × (goodTable cat tab ≡ true)

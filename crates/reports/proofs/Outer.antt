@@ -21,7 +21,7 @@ use Rattle.report_loops.proofs.Nest.{Nests, none-joined, none-under, closed-nex
 use Rattle.report_loops.proofs.Demand.{hits-picked, nests}
 use Rattle.reports.specs.declared.nesting.Onward.{Onward}
 use Rattle.reports.specs.Shown.{shownFrom}
-use Rattle.reports.specs.Onward.{test, beneath, Went}
+use Rattle.reports.specs.Onward.{test, foundBeneath, Went}
 use Rattle.reports.specs.Given.{GivenBoth}
 use Rattle.reports.proofs.Steps.{Turn}
 use Rattle.reports.proofs.OneList.{room, accepted}
@@ -97,7 +97,7 @@ module _ {cat tab one two : Bytes} {size : ℕ} (g : GivenBoth cat tab one two s
       end-is : parentEnd cat (listing cat tab) (pos .parentage) ≡ end p
       end-is = ap (parentEnd cat (listing cat tab)) b
 
-      under-is : beneath cat tab two pos ≡ hits both (suc p) (end p)
+      under-is : foundBeneath cat tab two pos ≡ hits both (suc p) (end p)
       under-is = rw (t .moves, b) (hits-same inner both (suc p) (end p) (λ j x y. nest .below p j (omega (arith, nest .among p (t .inside))) (t .passes) x y))
 
       pub outer-next : (u : Onward) (next : Bytes) → Went cat tab two pos k out u next
@@ -116,5 +116,5 @@ module _ {cat tab one two : Bytes} {size : ℕ} (g : GivenBoth cat tab one two s
             left = omega (arith, w .hits, o .left);
             shown = rw (w .out, w .hits, under-is) (show-append k (hits both (suc p) (end p)) (hits both (end p) n) out)
                 ∙ ap (λ (xs : List ℕ). shownFrom k xs out) (sym run) ∙ o .shown;
-            room = ap length (w .out) ∙ show-length k (beneath cat tab two pos) out ∙ o .room;
+            room = ap length (w .out) ∙ show-length k (foundBeneath cat tab two pos) out ∙ o .room;
           }

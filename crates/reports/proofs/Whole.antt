@@ -25,7 +25,7 @@ use Rattle.report_loops.specs.Plain.{filter, meets, picked}
 use Rattle.report_loops.proofs.Cut.{parts}
 use Rattle.reports.specs.declared.Report.{Report}
 use Rattle.reports.specs.Shown.{shownFrom}
-use Rattle.reports.specs.Report.{reported, without, listsFault, refusal, showing, report}
+use Rattle.reports.specs.Report.{reported, nothingShown, listsFault, reportRefusal, showing, report}
 use Rattle.reports.specs.Given.{GivenBoth}
 use Rattle.reports.proofs.Lists.{checked-good}
 use Rattle.reports.proofs.Written.{show-whole, show-empty}
@@ -98,20 +98,20 @@ lists-blank cat one two h = elim (is (eqb (number (listRead cat one .fault)) 0))
   ]
 ]
 
-refusal-blank : (cat tab one two : Bytes) → number (refusal cat tab one two) ≡ 0 → (eqb (number (checkTable cat tab)) 0 ≡ true) × (number (listsFault cat one two) ≡ 0)
-unfolding refusal
+refusal-blank : (cat tab one two : Bytes) → number (reportRefusal cat tab one two) ≡ 0 → (eqb (number (checkTable cat tab)) 0 ≡ true) × (number (listsFault cat one two) ≡ 0)
+unfolding reportRefusal
 refusal-blank cat tab one two h = elim (is (eqb (number (checkTable cat tab)) 0)) [
   | off a ↦ absurd (let y : number (checkTable cat tab) ≡ 0 = rw a at h in let z = eq-eqb (number (checkTable cat tab)) 0 y in let w : _≡_ {A = ℕ} 0 1 = cc in omega arith)
   | on a ↦ (a, (rw a at h))
 ]
 
-module _ (cat tab one two : Bytes) (s : Status) (n : ℕ) (e : s ≡ refusal cat tab one two) (m : n ≡ number s) where
+module _ (cat tab one two : Bytes) (s : Status) (n : ℕ) (e : s ≡ reportRefusal cat tab one two) (m : n ≡ number s) where
   pub whole-refused : (out : Bytes) (r : Report) → r ≡ record { status = s; hits = 0 } → (n ≡ 0 → ⊥) → reported r out ≡ report cat tab one two out
   unfolding report
   whole-refused out r q z = rw (q, ← e, ne-eqb (number s) 0 (λ y. z (m ∙ y)))
 
   module _ (z : n ≡ 0) where
-    none : number (refusal cat tab one two) ≡ 0
+    none : number (reportRefusal cat tab one two) ≡ 0
     none = sym (ap number e) ∙ sym m ∙ z
 
     pub whole-good : (goodCatalogue cat ≡ true) × (goodTable cat tab ≡ true)
@@ -143,7 +143,7 @@ module _ (cat tab one two : Bytes) (s : Status) (n : ℕ) (e : s ≡ refusal cat
 
     pub whole-shows : (out : Bytes) → showing (picked cat tab (one ++ two)) out ≡ report cat tab one two out
     unfolding report
-    whole-shows out = rw (eq-eqb (number (refusal cat tab one two)) 0 none)
+    whole-shows out = rw (eq-eqb (number (reportRefusal cat tab one two)) 0 none)
 
 -- LAW: no report shows more cells than a table has
 showing-few : (cells : List ℕ) (out : Bytes) → length cells ≤ 4096 → showing cells out .answer .hits ≤ 4096
@@ -152,10 +152,10 @@ showing-few cells out l = elim (is (ltb (length out) (2 * length cells))) [ on e
 
 pub report-few : (cat tab one two out : Bytes) → report cat tab one two out .answer .hits ≤ 4096
 unfolding report
-report-few cat tab one two out = elim (is (eqb (number (refusal cat tab one two)) 0)) [
+report-few cat tab one two out = elim (is (eqb (number (reportRefusal cat tab one two)) 0)) [
   | off e ↦ rw e (omega arith)
   | on e ↦
-      let z : number (refusal cat tab one two) ≡ 0 = eqb-true (number (refusal cat tab one two)) 0 e in
+      let z : number (reportRefusal cat tab one two) ≡ 0 = eqb-true (number (reportRefusal cat tab one two)) 0 e in
       let g = checked-good cat tab (refusal-blank cat tab one two z .0) in
       rw e (showing-few (picked cat tab (one ++ two)) out (omega (arith, picked-few cat tab (one ++ two), good-sized cat tab (g .0) (g .1) .few)))
 ]

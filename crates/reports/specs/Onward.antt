@@ -26,13 +26,13 @@ abbrev pub between : Bytes → Bytes → Bytes → ℕ → ℕ → List ℕ
 between cat tab list i e = filter (test cat tab list) (range i (e - i))
 
 -- the cells that match after the place and beneath the parentage
-abbrev pub beneath : Bytes → Bytes → Bytes → Position → List ℕ
-beneath cat tab list pos = between cat tab list (afterPlace (pos .place)) (parentEnd cat (listing cat tab) (pos .parentage))
+abbrev pub foundBeneath : Bytes → Bytes → Bytes → Position → List ℕ
+foundBeneath cat tab list pos = between cat tab list (afterPlace (pos .place)) (parentEnd cat (listing cat tab) (pos .parentage))
 
 -- they are shown as the hits from k on, and the position is a good one, on the last of them
 pub record Went (cat tab list : Bytes) (pos : Position) (k : ℕ) (before : Bytes) (r : Onward) (after : Bytes) : Type 0 where
-  pub hits : r .hits ≡ k + length (beneath cat tab list pos)
-  pub out : after ≡ shownFrom k (beneath cat tab list pos) before
+  pub hits : r .hits ≡ k + length (foundBeneath cat tab list pos)
+  pub out : after ≡ shownFrom k (foundBeneath cat tab list pos) before
   pub good : goodPosition cat (listing cat tab) (r .position) ≡ true
   pub later : afterPlace (pos .place) ≤ afterPlace (r .position .place)
   pub inside : afterPlace (r .position .place) ≤ parentEnd cat (listing cat tab) (pos .parentage)

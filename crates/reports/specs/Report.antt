@@ -33,21 +33,21 @@ listsFault cat one two =
     (listRead cat (one ++ two) .fault))
 
 -- CX, TX, then the lists
-unfoldable pub refusal : Bytes → Bytes → Bytes → Bytes → Status
-refusal cat tab one two = pick (not (isBlank (checkTable cat tab))) (checkTable cat tab) (listsFault cat one two)
+unfoldable pub reportRefusal : Bytes → Bytes → Bytes → Bytes → Status
+reportRefusal cat tab one two = pick (not (isBlank (checkTable cat tab))) (checkTable cat tab) (listsFault cat one two)
 
 -- nothing is shown
-abbrev pub without : Status → Bytes → Reported
-without s out = reported (record { status = s; hits = 0 }) out
+abbrev pub nothingShown : Status → Bytes → Reported
+nothingShown s out = reported (record { status = s; hits = 0 }) out
 
 -- these cells are shown; AB where there is no room for all of them
 unfoldable pub showing : List ℕ → Bytes → Reported
 showing cells out =
-    pick (ltb (length out) (2 * length cells)) (without AB out)
+    pick (ltb (length out) (2 * length cells)) (nothingShown AB out)
     (reported (record { status = Blank; hits = length cells }) (over (hitBytes cells) out))
 
 -- the promise of each of the three
 unfoldable pub report : Bytes → Bytes → Bytes → Bytes → Bytes → Reported
 report cat tab one two out =
-    pick (not (isBlank (refusal cat tab one two))) (without (refusal cat tab one two) out)
+    pick (not (isBlank (reportRefusal cat tab one two))) (nothingShown (reportRefusal cat tab one two) out)
     (showing (picked cat tab (one ++ two)) out)

@@ -10,7 +10,7 @@ mod single;
 use crate::joining::join;
 use crate::nesting::nested_sound;
 use crate::plainly::plain_sound;
-use crate::refused::refusal;
+use crate::refused::report_refusal;
 use crate::single::joined_sound;
 use blocks::wide;
 use cells::lookup::count;
@@ -103,7 +103,7 @@ fn shown_by(
 fn report_by(way: Way, cat: &[u8], tab: &[u8], one: &[u8], two: &[u8], out: &mut [u8]) -> Report
     ensures { λ r. ⌜ reported r (now (out .exit)) ≡ report (now (cat .entry)) (now (tab .entry)) (now (one .entry)) (now (two .entry)) (now (out .entry)) ⌝ }
 {
-    let s = refusal(cat, tab, one, two);
+    let s = report_refusal(cat, tab, one, two);
     if number(s) != 0 {
         return shows_nothing(s);
     }

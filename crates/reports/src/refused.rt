@@ -8,7 +8,7 @@ use terms::statuses::number;
 ghost use mathlib.Core.Path.{_≡_};
 ghost use mathlib.Core.Bool.{true};
 ghost use Rattle.rules.specs.Catalogue.{goodCatalogue};
-ghost use Rattle.reports.specs.Report.{listsFault, refusal};
+ghost use Rattle.reports.specs.Report.{listsFault, reportRefusal};
 
 // The second list is read on behind the last type of the first.
 fn lists_fault(cat: &[u8], one: &[u8], two: &[u8]) -> Status
@@ -28,8 +28,8 @@ fn lists_fault(cat: &[u8], one: &[u8], two: &[u8]) -> Status
     fault_behind(cat, two, last_of(cat, one).code)
 }
 
-pub(crate) fn refusal(cat: &[u8], tab: &[u8], one: &[u8], two: &[u8]) -> Status
-    ensures { λ r. ⌜ r ≡ refusal (now (cat .entry)) (now (tab .entry)) (now (one .entry)) (now (two .entry)) ⌝ }
+pub(crate) fn report_refusal(cat: &[u8], tab: &[u8], one: &[u8], two: &[u8]) -> Status
+    ensures { λ r. ⌜ r ≡ reportRefusal (now (cat .entry)) (now (tab .entry)) (now (one .entry)) (now (two .entry)) ⌝ }
 {
     let s = check(cat, tab);
     if number(s) != 0 {

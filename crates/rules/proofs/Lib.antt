@@ -12,5 +12,6 @@ pub mod Listing
 pub mod Outcome
 pub mod Bench
 pub mod Cases
+pub mod Forest
 pub mod Change
 pub mod Block

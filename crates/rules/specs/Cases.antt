@@ -18,7 +18,7 @@ use Rattle.terms.specs.Statuses.{number}
 use Rattle.rules.specs.Block.{Bytes}
 use Rattle.rules.specs.Table.{count, segmentAt}
 use Rattle.rules.specs.Position.{positionBytes, positionOf}
-use Rattle.rules.specs.Outcome.{Outcome, outcome, blockAfter, checkCatalogue, checkTable, makeStatus, madeTable}
+use Rattle.rules.specs.Outcome.{Outcome, Store, outcome, blockAfter, checkCatalogue, checkTable, makeStatus, madeTable}
 use Rattle.rules.specs.Listing.{decimal, listingText}
 
 -- the bytes of a text
@@ -137,21 +137,26 @@ met cat lent o (leaves n) = eqb (count (o .table)) n
 met cat lent o (contains i t b) = eqb (segmentAt cat (o .table) i .code .0) t && same (segmentAt cat (o .table) i .bytes) b
 met cat lent o (bytes b) = same (o .table) b
 
-abbrev pub runs : Bytes → Bytes → Bytes → Position → List Step → Bool
-runs cat tab lent pos [] = true
-runs cat tab lent pos (s ∷ ss) =
-    let o = outcome cat tab pos (s .call) (s .list) (s .area) in
-    all (met cat lent o) (s .says) && runs cat (o .table) (blockAfter lent (o .answer)) (o .answer .position) ss
+-- calls of a store
+abbrev pub runs : Store → Bytes → Bytes → Bytes → Position → List Step → Bool
+runs store cat tab lent pos [] = true
+runs store cat tab lent pos (s ∷ ss) =
+    let o = store cat tab pos (s .call) (s .list) (s .area) in
+    all (met cat lent o) (s .says) && runs store cat (o .table) (blockAfter lent (o .answer)) (o .answer .position) ss
+
+-- by the outcome of the calls over the cells or over the forest
+abbrev pub rightBy : Store → Case → Bool
+rightBy store (lists cat tab out) = same (listingText cat tab) out
+rightBy store (calls cat tab pos steps) = runs store cat tab (positionBytes pos) pos steps
+rightBy store (lends cat tab lent steps) = runs store cat tab lent (positionOf lent) steps
+rightBy store (catalogueIs cat s) = sameStatus (checkCatalogue cat) s
+rightBy store (tableIs cat tab s) = sameStatus (checkTable cat tab) s
+rightBy store (makes cat tab s made) = sameStatus (makeStatus cat tab) s && same (madeTable cat tab) made
+rightBy store (blockIs p b) = same (positionBytes p) b && samePosition p (positionOf b)
+rightBy store (writes n b) = same (decimal n) b
 
 abbrev pub right : Case → Bool
-right (lists cat tab out) = same (listingText cat tab) out
-right (calls cat tab pos steps) = runs cat tab (positionBytes pos) pos steps
-right (lends cat tab lent steps) = runs cat tab lent (positionOf lent) steps
-right (catalogueIs cat s) = sameStatus (checkCatalogue cat) s
-right (tableIs cat tab s) = sameStatus (checkTable cat tab) s
-right (makes cat tab s made) = sameStatus (makeStatus cat tab) s && same (madeTable cat tab) made
-right (blockIs p b) = same (positionBytes p) b && samePosition p (positionOf b)
-right (writes n b) = same (decimal n) b
+right c = rightBy outcome c
 
 -- what is told where nothing was got or changed: "For status 10 and above all four are 0."
 abbrev pub nothingTold : Says

@@ -36,7 +36,7 @@ use Rattle.position.specs.Block.{parentageNumber}
 use Rattle.answers.specs.Told.{stoppedAnswer}
 use Rattle.answers.specs.Ready.{SoundFor, made}
 use Rattle.dli.proofs.Calls.{call-stopped, call-on}
-use Rattle.umbristal.specs.Face.{left, leftOf, face, soundFace, packed, Fitting}
+use Rattle.umbristal.specs.Face.{handedBack, handedBackOf, face, soundFace, packed, Fitting}
 
 -- the cell numbers of a good position are no greater than the count
 module _ (cat : Bytes) (cs : List Segment) where
@@ -131,10 +131,10 @@ module _ (cat tab block : Bytes) (c : ℕ) (list area : Bytes) where
         (fit-outcome bytes full)
 
     module _ (n : ℕ) (b : Bytes) (w : n ≡ packed a) (x : b ≡ blockAfter block a) where
-      pub call-left : made a t r ≡ outcome cat tab p c list area → left n t b r ≡ face cat tab block c list area
+      pub call-left : made a t r ≡ outcome cat tab p c list area → handedBack n t b r ≡ face cat tab block c list area
       unfolding face
-      call-left h = rw (w, x) (ap (leftOf block) (h ∙ ap (λ (q : Position). outcome cat tab q c list area) e))
+      call-left h = rw (w, x) (ap (handedBackOf block) (h ∙ ap (λ (q : Position). outcome cat tab q c list area) e))
 
-      pub sound-left : made a t r ≡ soundOutcome cat tab p c list area → left n t b r ≡ soundFace cat tab block c list area
+      pub sound-left : made a t r ≡ soundOutcome cat tab p c list area → handedBack n t b r ≡ soundFace cat tab block c list area
       unfolding soundFace
-      sound-left h = rw (w, x) (ap (leftOf block) (h ∙ ap (λ (q : Position). soundOutcome cat tab q c list area) e))
+      sound-left h = rw (w, x) (ap (handedBackOf block) (h ∙ ap (λ (q : Position). soundOutcome cat tab q c list area) e))

@@ -12,7 +12,7 @@ use Rattle.model.specs.Kept.{Kept}
 use Rattle.model.proofs.Kept.{tables-stay-good}
 use Rattle.model.proofs.Session.{sound-same}
 use Rattle.demands.proofs.Demand1.{demand1}
-use Rattle.umbristal.specs.Face.{Left, leftOf, face, soundFace}
+use Rattle.umbristal.specs.Face.{HandedBack, handedBackOf, face, soundFace}
 use Rattle.umbristal.specs.Session.{faceSession, FaceCheckedOnce}
 
 -- THEOREM: a session on good blocks is the session without the checks
@@ -28,6 +28,6 @@ face-checked-once cat tab block (k ∷ ks) g bytes full good here =
     block-read block (o .answer) (λ h. demand1 .answers cat tab pos (k .call) (k .list) (k .area) .refusal h .position) in
     let there : goodPosition cat (listing cat (o .table)) (positionOf next) ≡ true =
     subst (λ (p : Position). goodPosition cat (listing cat (o .table)) p ≡ true) (sym read) (kept .position) in
-    ap (_∷_ (leftOf block o)) (face-checked-once cat (o .table) next ks g (kept .bytes) (full .1) (kept .table) there)
-    ∙ ap (λ (p : Outcome). leftOf block p ∷ faceSession soundFace cat (leftOf block p .table) (leftOf block p .block) ks)
+    ap (_∷_ (handedBackOf block o)) (face-checked-once cat (o .table) next ks g (kept .bytes) (full .1) (kept .table) there)
+    ∙ ap (λ (p : Outcome). handedBackOf block p ∷ faceSession soundFace cat (handedBackOf block p .table) (handedBackOf block p .block) ks)
     (sound-same cat tab pos g good here (k .call) (k .list) (k .area))

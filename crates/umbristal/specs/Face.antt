@@ -17,24 +17,24 @@ unfoldable pub packed : Answer → ℕ
 packed a = number (a .status) + 256 * (a .code .0) + 65536 * a .level + 16777216 * a .length + 4294967296 * a .removed
 
 -- all that a call leaves
-pub record Left : Type 0 where
+pub record HandedBack : Type 0 where
   pub result : ℕ
   pub table : Bytes
   pub block : Bytes
   pub area : Bytes
 
-abbrev pub left : ℕ → Bytes → Bytes → Bytes → Left
-left result table block area = record { result = result; table = table; block = block; area = area }
+abbrev pub handedBack : ℕ → Bytes → Bytes → Bytes → HandedBack
+handedBack result table block area = record { result = result; table = table; block = block; area = area }
 
-abbrev pub leftOf : Bytes → Outcome → Left
-leftOf block o = left (packed (o .answer)) (o .table) (blockAfter block (o .answer)) (o .area)
+abbrev pub handedBackOf : Bytes → Outcome → HandedBack
+handedBackOf block o = handedBack (packed (o .answer)) (o .table) (blockAfter block (o .answer)) (o .area)
 
 -- the promise, and that to a caller whose blocks and position are sound
-unfoldable pub face : Bytes → Bytes → Bytes → ℕ → Bytes → Bytes → Left
-face cat tab block c list area = leftOf block (outcome cat tab (positionOf block) c list area)
+unfoldable pub face : Bytes → Bytes → Bytes → ℕ → Bytes → Bytes → HandedBack
+face cat tab block c list area = handedBackOf block (outcome cat tab (positionOf block) c list area)
 
-unfoldable pub soundFace : Bytes → Bytes → Bytes → ℕ → Bytes → Bytes → Left
-soundFace cat tab block c list area = leftOf block (soundOutcome cat tab (positionOf block) c list area)
+unfoldable pub soundFace : Bytes → Bytes → Bytes → ℕ → Bytes → Bytes → HandedBack
+soundFace cat tab block c list area = handedBackOf block (soundOutcome cat tab (positionOf block) c list area)
 
 -- GN with an empty list and an area that is long enough: on sound blocks no refusal is left
 unfoldable pub isStep : Bytes → ℕ → Bytes → Bytes → Bool
@@ -50,13 +50,13 @@ unfoldable pub packedReport : Report → ℕ
 packedReport r = number (r .status) + 4294967296 * r .hits
 
 -- all that a report leaves
-pub record Shown : Type 0 where
+pub record ReportedBack : Type 0 where
   pub result : ℕ
   pub out : Bytes
 
-abbrev pub shown : ℕ → Bytes → Shown
-shown result out = record { result = result; out = out }
+abbrev pub reportedBack : ℕ → Bytes → ReportedBack
+reportedBack result out = record { result = result; out = out }
 
 -- the promise of the three
-unfoldable pub reportFace : Bytes → Bytes → Bytes → Bytes → Bytes → Shown
-reportFace cat tab one two out = shown (packedReport (report cat tab one two out .answer)) (report cat tab one two out .out)
+unfoldable pub reportFace : Bytes → Bytes → Bytes → Bytes → Bytes → ReportedBack
+reportFace cat tab one two out = reportedBack (packedReport (report cat tab one two out .answer)) (report cat tab one two out .out)

@@ -11,13 +11,13 @@ use Rattle.rules.specs.Table.{listing, goodTable}
 use Rattle.rules.specs.Position.{goodPosition, positionOf}
 use Rattle.encoding.specs.Determined.{IsBytes, All}
 use Rattle.model.specs.Session.{Ask}
-use Rattle.umbristal.specs.Face.{Left, face, soundFace}
+use Rattle.umbristal.specs.Face.{HandedBack, face, soundFace}
 
 -- a call on catalogue, table, block, call number, list and area
 abbrev pub Face : Type 0
-Face = Bytes → Bytes → Bytes → ℕ → Bytes → Bytes → Left
+Face = Bytes → Bytes → Bytes → ℕ → Bytes → Bytes → HandedBack
 
-unfoldable pub faceSession : Face → Bytes → Bytes → Bytes → List Ask → List Left
+unfoldable pub faceSession : Face → Bytes → Bytes → Bytes → List Ask → List HandedBack
 faceSession step cat tab block [] = []
 faceSession step cat tab block (k ∷ ks) =
     let l = step cat tab block (k .call) (k .list) (k .area) in

@@ -13,7 +13,7 @@ ghost use Rattle.terms.specs.Statuses.{number};
 ghost use Rattle.rules.specs.Position.{positionOf};
 ghost use Rattle.rules.specs.Outcome.{checkCatalogue, checkTable, makeStatus, madeTable};
 ghost use Rattle.answers.specs.Ready.{SoundFor};
-ghost use Rattle.umbristal.specs.Face.{left, face, soundFace, isStep, shown, reportFace};
+ghost use Rattle.umbristal.specs.Face.{handedBack, face, soundFace, isStep, reportedBack, reportFace};
 
 // "The check of a catalogue answers 0 or CX"
 #[no_mangle]
@@ -49,7 +49,7 @@ pub extern "C" fn umbristal_call(
     list: &[u8],
     area: &mut [u8],
 ) -> u64
-    ensures { λ r. ⌜ left r (now (tab .exit)) (now (pos .exit)) (now (area .exit))
+    ensures { λ r. ⌜ handedBack r (now (tab .exit)) (now (pos .exit)) (now (area .exit))
         ≡ face (now (cat .entry)) (now (tab .entry)) (now (pos .entry)) number (now (list .entry)) (now (area .entry)) ⌝ }
 {
     let p = position_of(pos);
@@ -74,7 +74,7 @@ fn is_step(tab: &[u8], number: u8, list: &[u8], area: &[u8]) -> bool
 // One step of a reading of the whole table. The calls would answer the same; here no block is handed on, and that is most of what a step costs.
 fn step(cat: &[u8], tab: &[u8], pos: &mut [u8], list: &[u8], area: &mut [u8]) -> u64
     requires { ⌜ SoundFor (now cat) (now tab) (positionOf (now pos)) × (isStep (now tab) 2 (now list) (now area) ≡ true) ⌝ }
-    ensures { λ r. ⌜ left r (now (tab .entry)) (now (pos .exit)) (now (area .exit))
+    ensures { λ r. ⌜ handedBack r (now (tab .entry)) (now (pos .exit)) (now (area .exit))
         ≡ soundFace (now (cat .entry)) (now (tab .entry)) (now (pos .entry)) 2 (now (list .entry)) (now (area .entry)) ⌝ }
 {
     let size = wide(tab[5]);
@@ -94,7 +94,7 @@ pub extern "C" fn umbristal_call_sound(
     area: &mut [u8],
 ) -> u64
     requires { ⌜ SoundFor (now cat) (now tab) (positionOf (now pos)) ⌝ }
-    ensures { λ r. ⌜ left r (now (tab .exit)) (now (pos .exit)) (now (area .exit))
+    ensures { λ r. ⌜ handedBack r (now (tab .exit)) (now (pos .exit)) (now (area .exit))
         ≡ soundFace (now (cat .entry)) (now (tab .entry)) (now (pos .entry)) number (now (list .entry)) (now (area .entry)) ⌝ }
 {
     if is_step(tab, number, list, area) {
@@ -114,7 +114,7 @@ pub extern "C" fn umbristal_report_nested(
     two: &[u8],
     out: &mut [u8],
 ) -> u64
-    ensures { λ r. ⌜ shown r (now (out .exit)) ≡ reportFace (now (cat .entry)) (now (tab .entry)) (now (one .entry)) (now (two .entry)) (now (out .entry)) ⌝ }
+    ensures { λ r. ⌜ reportedBack r (now (out .exit)) ≡ reportFace (now (cat .entry)) (now (tab .entry)) (now (one .entry)) (now (two .entry)) (now (out .entry)) ⌝ }
 {
     packed_report(reports::nested(cat, tab, one, two, out))
 }
@@ -128,7 +128,7 @@ pub extern "C" fn umbristal_report_joined(
     two: &[u8],
     out: &mut [u8],
 ) -> u64
-    ensures { λ r. ⌜ shown r (now (out .exit)) ≡ reportFace (now (cat .entry)) (now (tab .entry)) (now (one .entry)) (now (two .entry)) (now (out .entry)) ⌝ }
+    ensures { λ r. ⌜ reportedBack r (now (out .exit)) ≡ reportFace (now (cat .entry)) (now (tab .entry)) (now (one .entry)) (now (two .entry)) (now (out .entry)) ⌝ }
 {
     packed_report(reports::joined(cat, tab, one, two, out))
 }
@@ -142,7 +142,7 @@ pub extern "C" fn umbristal_report_plain(
     two: &[u8],
     out: &mut [u8],
 ) -> u64
-    ensures { λ r. ⌜ shown r (now (out .exit)) ≡ reportFace (now (cat .entry)) (now (tab .entry)) (now (one .entry)) (now (two .entry)) (now (out .entry)) ⌝ }
+    ensures { λ r. ⌜ reportedBack r (now (out .exit)) ≡ reportFace (now (cat .entry)) (now (tab .entry)) (now (one .entry)) (now (two .entry)) (now (out .entry)) ⌝ }
 {
     packed_report(reports::plain(cat, tab, one, two, out))
 }

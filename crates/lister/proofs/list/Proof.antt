@@ -15,9 +15,9 @@ Inv-loop cat tab out₀ pos₀ left₀ out pos left = SoundFor cat tab pos × (l
 abbrev μ-loop : tie.MeasureT-loop
 μ-loop cat tab out₀ pos₀ left₀ out pos left = left
 
--- src/main.rt: let s = refusal(cat, tab);
-refusal-requires : tie.Need-refusal-requires Inv-loop μ-loop
-refusal-requires c κs = search needs
+-- src/main.rt: let s = listing_refusal(cat, tab);
+listing-refusal-requires : tie.Need-listing-refusal-requires Inv-loop μ-loop
+listing-refusal-requires c κs = search needs
 
 -- src/main.rt: if number(s) != 0 {
 number-requires : tie.Need-number-requires Inv-loop μ-loop
@@ -63,10 +63,10 @@ add-left c = search needs
 
 -- src/main.rt: while 0 < left {
 loop-holds : tie.Need-loop-holds Inv-loop μ-loop
-loop-holds c = let ·refusal = c .before .before .before .before .refusal in
+loop-holds c = let ·listing-refusal = c .before .before .before .before .listing-refusal in
     let ·number = c .before .before .before .number in let ·if1 = c .before .before .if1 in (
       rw (c .before .fresh .ensures) (listing-starts _ _
-          (sym (ap number (·refusal .ensures)) ∙ sym (·number .ensures) ∙ ·if1 .left) .1),
+          (sym (ap number (·listing-refusal .ensures)) ∙ sym (·number .ensures) ∙ ·if1 .left) .1),
       refl,
     )
 
@@ -119,7 +119,7 @@ list-spec =
     (tie.spec
     Inv-loop
     μ-loop
-    refusal-requires
+    listing-refusal-requires
     number-requires
     slice-aggregate-last-line
     last-line-requires

@@ -6,9 +6,9 @@ use borrow.Author.Needs.{needs}
 use Rattle.reports.proofs.report_by.Statement.{statement}
 use Rattle.reports.proofs.report_by.Tie as tie
 
--- src/lib.rt: let s = refusal(cat, tab, one, two);
-refusal-requires : tie.Need-refusal-requires
-refusal-requires c κs = search needs
+-- src/lib.rt: let s = report_refusal(cat, tab, one, two);
+report-refusal-requires : tie.Need-report-refusal-requires
+report-refusal-requires c κs = search needs
 
 -- src/lib.rt: if number(s) != 0 {
 number-requires : tie.Need-number-requires
@@ -20,8 +20,8 @@ shows-nothing-requires c κs = search needs
 
 -- src/lib.rt: return shows_nothing(s);
 returns : tie.Need-returns
-returns c = let ·refusal = c .before .before .before .refusal in let ·number = c .before .before .number in
-    whole-refused _ _ _ _ _ _ (·refusal .ensures) (·number .ensures) _ _ (c .shows-nothing .ensures)
+returns c = let ·report-refusal = c .before .before .before .report-refusal in let ·number = c .before .before .number in
+    whole-refused _ _ _ _ _ _ (·report-refusal .ensures) (·number .ensures) _ _ (c .shows-nothing .ensures)
     (c .before .if1 .taken)
 
 -- src/lib.rt: let long = join(&mut list, one, two);
@@ -31,17 +31,17 @@ slice-aggregate-join c = search needs
 -- src/lib.rt: let long = join(&mut list, one, two);
 join-requires : tie.Need-join-requires
 join-requires c κs = let ·args = c .before .before .before .before .before .before .before .before .before .args in
-    let ·refusal = c .before .before .before .refusal in let ·number = c .before .before .number in
-    whole-joins _ (·args .tab .now) _ _ _ _ (·refusal .ensures) (·number .ensures) (c .before .if1 .left)
+    let ·report-refusal = c .before .before .before .report-refusal in let ·number = c .before .before .number in
+    whole-joins _ (·args .tab .now) _ _ _ _ (·report-refusal .ensures) (·number .ensures) (c .before .if1 .left)
 
 -- src/lib.rt: let size = wide(tab[5]);
 shared-slice-read-wide : tie.Need-shared-slice-read-wide
 shared-slice-read-wide c =
     let ·args = c .before .before .before .before .before .before .before .before .before .before .before .before .args
-    in let ·refusal = c .before .before .before .before .before .before .refusal in
+    in let ·report-refusal = c .before .before .before .before .before .before .report-refusal in
     let ·number = c .before .before .before .before .before .number in
     let ·if1 = c .before .before .before .before .if1 in
-    five-in _ _ (·args .one .now) (·args .two .now) _ _ (·refusal .ensures) (·number .ensures) (·if1 .left)
+    five-in _ _ (·args .one .now) (·args .two .now) _ _ (·report-refusal .ensures) (·number .ensures) (·if1 .left)
 
 -- src/lib.rt: let size = wide(tab[5]);
 wide-requires : tie.Need-wide-requires
@@ -57,7 +57,7 @@ array-share-prefix-list c =
       c .before .before .before .join .ensures .0,
       c .before .before .before .join .ensures .2,
       whole-joins
-          _ (·args .tab .now) _ _ _ _ (c .before .before .before .before .before .before .before .refusal .ensures)
+          _ (·args .tab .now) _ _ _ _ (c .before .before .before .before .before .before .before .report-refusal .ensures)
           (c .before .before .before .before .before .before .number .ensures)
           (c .before .before .before .before .before .if1 .left),
     )
@@ -72,11 +72,11 @@ slice-aggregate-shown-by c = let ·join = c .before .before .before .before .joi
 -- src/lib.rt: shown_by(way, cat, tab, size, one, two, &list[..long], out)
 shown-by-requires : tie.Need-shown-by-requires
 shown-by-requires c κs =
-    let ·refusal = c .before .before .before .before .before .before .before .before .before .refusal in
+    let ·report-refusal = c .before .before .before .before .before .before .before .before .before .report-refusal in
     let ·number = c .before .before .before .before .before .before .before .before .number in
     let ·if1 = c .before .before .before .before .before .before .before .if1 in let ·wide = c .before .before .wide in
     let ·join = c .before .before .before .before .before .join in (
-      whole-given _ _ _ _ _ _ (·refusal .ensures) (·number .ensures) (·if1 .left) _ (·wide .ensures .0),
+      whole-given _ _ _ _ _ _ (·report-refusal .ensures) (·number .ensures) (·if1 .left) _ (·wide .ensures .0),
       ·join .ensures .1,
     )
 
@@ -87,17 +87,17 @@ same-length c = search needs
 -- src/lib.rt: fn report_by(way: Way, cat: &[u8], tab: &[u8], one: &[u8], two: &[u8], out: &mut [u8]) -> Report
 returns-2 : tie.Need-returns-2
 returns-2 c = let ·shown-by = c .before .before .shown-by in
-    let ·refusal = c .before .before .before .before .before .before .before .before .before .before .before .before
-    .refusal in
+    let ·report-refusal = c .before .before .before .before .before .before .before .before .before .before .before .before
+    .report-refusal in
     let ·number = c .before .before .before .before .before .before .before .before .before .before .before .number in
     let ·if1 = c .before .before .before .before .before .before .before .before .before .before .if1 in
-    ·shown-by .ensures ∙ whole-shows _ _ _ _ _ _ (·refusal .ensures) (·number .ensures) (·if1 .left) _
+    ·shown-by .ensures ∙ whole-shows _ _ _ _ _ _ (·report-refusal .ensures) (·number .ensures) (·if1 .left) _
 
 pub report-by-spec : {M : Type 1} → statement M
 report-by-spec =
     tie.close
     (tie.spec
-    refusal-requires
+    report-refusal-requires
     number-requires
     shows-nothing-requires
     returns

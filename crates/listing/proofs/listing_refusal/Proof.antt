@@ -1,7 +1,7 @@
 use Rattle.listing.proofs.Lines.{refused-first, refused-long, refused-table}
 use borrow.Author.Needs.{needs}
-use Rattle.listing.proofs.refusal.Statement.{statement}
-use Rattle.listing.proofs.refusal.Tie as tie
+use Rattle.listing.proofs.listing_refusal.Statement.{statement}
+use Rattle.listing.proofs.listing_refusal.Tie as tie
 
 -- src/lib.rt: let s = catalogue_check::check::check(cat);
 check-requires : tie.Need-check-requires
@@ -25,15 +25,15 @@ returns-2 c = let ·check = c .before .before .before .check in let ·number = c
 check-requires-2 : tie.Need-check-requires-2
 check-requires-2 c κs = search needs
 
--- src/lib.rt: pub fn refusal(cat: &[u8], tab: &[u8]) -> Status
+-- src/lib.rt: pub fn listing_refusal(cat: &[u8], tab: &[u8]) -> Status
 returns-3 : tie.Need-returns-3
 returns-3 c = let ·check = c .before .before .before .before .check in
     let ·number = c .before .before .before .number in let ·if1 = c .before .before .if1 in
     refused-table _ _ _ _ (·check .ensures) (·number .ensures) (·if1 .left) (c .before .if2 .left) _
     (c .check2 .ensures)
 
-pub refusal-spec : {M : Type 1} → statement M
-refusal-spec =
+pub listing-refusal-spec : {M : Type 1} → statement M
+listing-refusal-spec =
     tie.close
     (tie.spec
     check-requires

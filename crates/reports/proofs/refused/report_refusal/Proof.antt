@@ -1,7 +1,7 @@
 use Rattle.reports.proofs.Lists.{refused-blocks, refused-lists, blocks-good}
 use borrow.Author.Needs.{needs}
-use Rattle.reports.proofs.refused.refusal.Statement.{statement}
-use Rattle.reports.proofs.refused.refusal.Tie as tie
+use Rattle.reports.proofs.refused.report_refusal.Statement.{statement}
+use Rattle.reports.proofs.refused.report_refusal.Tie as tie
 
 -- src/refused.rt: let s = check(cat, tab);
 check-requires : tie.Need-check-requires
@@ -22,13 +22,13 @@ lists-fault-requires c κs = let ·args = c .before .before .before .before .bef
     let ·check = c .before .before .check in
     blocks-good _ (·args .tab .now) _ _ (·check .ensures) (c .before .number .ensures) (c .if1 .left) .0
 
--- src/refused.rt: pub(crate) fn refusal(cat: &[u8], tab: &[u8], one: &[u8], two: &[u8]) -> Status
+-- src/refused.rt: pub(crate) fn report_refusal(cat: &[u8], tab: &[u8], one: &[u8], two: &[u8]) -> Status
 returns-2 : tie.Need-returns-2
 returns-2 c = let ·check = c .before .before .before .check in let ·number = c .before .before .number in
     refused-lists _ _ _ _ (·check .ensures) (·number .ensures) (c .before .if1 .left) _ _ _ (c .lists-fault .ensures)
 
-pub refusal-spec : {M : Type 1} → statement M
-refusal-spec =
+pub report-refusal-spec : {M : Type 1} → statement M
+report-refusal-spec =
     tie.close
     (tie.spec
     check-requires
