@@ -16,7 +16,7 @@ use Rattle.terms.specs.Moves.{fresh, placeNumber}
 use Rattle.forest.specs.Good.{on, off, is, both-left, both-right}
 use Rattle.rules.specs.Block.{Bytes, byte, every}
 use Rattle.rules.specs.Computed.{computed}
-use Rattle.rules.specs.Bench.{catalogue, table, area, onCell}
+use Rattle.rules.specs.Bench.{catalogue, table, onCell}
 use Rattle.rules.specs.Outcome.{Store}
 use Rattle.encoding.specs.Determined.{IsBytes}
 use Rattle.report_loops.proofs.Wrong.{once}
@@ -42,6 +42,10 @@ are-bytes (x ∷ xs) e i = elim (is (ltb x 256)) [
     go : (i : ℕ) → x < 256 → IsBytes xs → byte (x ∷ xs) i < 256
     go zero h f = h
     go (suc i) h f = f i
+
+-- an area of C - 1 bytes
+abbrev area : Bytes
+area = 0 ∷ 0 ∷ 0 ∷ []
 
 table-bytes : IsBytes table
 unfolding computed table
