@@ -16,7 +16,7 @@ use Rattle.terms.specs.Moves.{fresh, placeNumber}
 use Rattle.forest.specs.Good.{on, off, is, both-left, both-right}
 use Rattle.rules.specs.Block.{Bytes, byte, every}
 use Rattle.rules.specs.Computed.{computed}
-use Rattle.rules.specs.Bench.{catalogue, table, onCell}
+use Rattle.rules.specs.Cases.Bench.{catalogue, table, onCell}
 use Rattle.rules.specs.Outcome.{Store}
 use Rattle.encoding.specs.Determined.{IsBytes}
 use Rattle.report_loops.proofs.Wrong.{once}

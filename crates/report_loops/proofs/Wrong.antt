@@ -14,7 +14,7 @@ use Rattle.rules.specs.Block.{Bytes}
 use Rattle.rules.specs.Calls.{missed}
 use Rattle.rules.specs.Outcome.{Outcome, Store, landed, outcome}
 use Rattle.rules.specs.Computed.{computed}
-use Rattle.rules.specs.Bench.{catalogue, table}
+use Rattle.rules.specs.Cases.Bench.{catalogue, table}
 use Rattle.report_loops.specs.Loops.{loop, nestedLoop}
 use Rattle.report_loops.specs.Plain.{filter, picked}
 use Rattle.report_loops.specs.Demand3.{Accepted, Cut, Demand3}

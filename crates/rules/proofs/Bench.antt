@@ -2,9 +2,9 @@
 -- definitions. Assumes nothing.
 use lib.Dec.{T}
 use Rattle.rules.specs.Cases.{all, right}
-use Rattle.rules.specs.Bench.{cases, catalogue, table, empty, output}
-use Rattle.rules.specs.Further.{further, multiple, twoSegments, full, stepNote, sameKeys, pastData, notFree}
-use Rattle.rules.specs.Catalogues.{ruled}
+use Rattle.rules.specs.Cases.Bench.{cases, catalogue, table, empty, output}
+use Rattle.rules.specs.Cases.Further.{further, multiple, twoSegments, full, stepNote, sameKeys, pastData, notFree}
+use Rattle.rules.specs.Cases.Catalogues.{ruled}
 use Rattle.rules.specs.Computed.{computed}
 
 -- the one claim

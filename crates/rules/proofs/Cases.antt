@@ -3,18 +3,18 @@
 use mathlib.Core.Bool.{not}
 use lib.Dec.{T}
 use Rattle.rules.specs.Cases.{all, right}
-use Rattle.rules.specs.Bench.{catalogue, table, empty, output}
-use Rattle.rules.specs.Positions.{positionCases}
-use Rattle.rules.specs.Lists.{listCases}
-use Rattle.rules.specs.Compared.{comparisonCases, apart, fiveKeys, several}
-use Rattle.rules.specs.Tables.{tableCases, makerCases, threeLengths}
-use Rattle.rules.specs.Gets.{getCases, missCases, levelCases}
-use Rattle.rules.specs.Along.{alongCases, line, lineTable}
-use Rattle.rules.specs.Changes.{insertCases, replaceCases, deleteCases}
-use Rattle.rules.specs.Refusals.{refusalCases, orderCases}
-use Rattle.rules.specs.Listings.{listingCases}
-use Rattle.rules.specs.Untrue.{untrueCases}
-use Rattle.rules.specs.Further.{stepNote, full, multiple, twoSegments}
+use Rattle.rules.specs.Cases.Bench.{catalogue, table, empty, output}
+use Rattle.rules.specs.Cases.Positions.{positionCases}
+use Rattle.rules.specs.Cases.Lists.{listCases}
+use Rattle.rules.specs.Cases.Compared.{comparisonCases, apart, fiveKeys, several}
+use Rattle.rules.specs.Cases.Tables.{tableCases, makerCases, threeLengths}
+use Rattle.rules.specs.Cases.Gets.{getCases, missCases, levelCases}
+use Rattle.rules.specs.Cases.Along.{alongCases, line, lineTable}
+use Rattle.rules.specs.Cases.Changes.{insertCases, replaceCases, deleteCases}
+use Rattle.rules.specs.Cases.Refusals.{refusalCases, orderCases}
+use Rattle.rules.specs.Cases.Listings.{listingCases}
+use Rattle.rules.specs.Cases.Untrue.{untrueCases}
+use Rattle.rules.specs.Cases.Further.{stepNote, full, multiple, twoSegments}
 use Rattle.rules.specs.Computed.{computed}
 
 pub position-cases : T (all right positionCases)

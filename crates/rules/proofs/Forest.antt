@@ -3,11 +3,11 @@
 use lib.Dec.{T}
 use Rattle.rules.specs.Tree.{treeOutcome}
 use Rattle.rules.specs.Cases.{all, rightBy}
-use Rattle.rules.specs.Bench.{cases, catalogue, table, empty, output}
-use Rattle.rules.specs.Gets.{getCases, missCases, levelCases}
-use Rattle.rules.specs.Along.{alongCases, line, lineTable}
-use Rattle.rules.specs.Changes.{insertCases, replaceCases, deleteCases}
-use Rattle.rules.specs.Further.{stepNote, full}
+use Rattle.rules.specs.Cases.Bench.{cases, catalogue, table, empty, output}
+use Rattle.rules.specs.Cases.Gets.{getCases, missCases, levelCases}
+use Rattle.rules.specs.Cases.Along.{alongCases, line, lineTable}
+use Rattle.rules.specs.Cases.Changes.{insertCases, replaceCases, deleteCases}
+use Rattle.rules.specs.Cases.Further.{stepNote, full}
 use Rattle.rules.specs.Computed.{computed}
 
 pub bench-forest : T (all (rightBy treeOutcome) cases)

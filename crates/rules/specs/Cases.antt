@@ -1,5 +1,18 @@
 -- What a case says of a call, a check, the maker, the listing, and the test of a case. None of these is a rule: the tables of cases say what 01 says, each
 -- in a file of its own, and the claims stand in proofs/. Assumes nothing: these are definitions.
+pub mod Bench
+pub mod Further
+pub mod Catalogues
+pub mod Positions
+pub mod Lists
+pub mod Compared
+pub mod Tables
+pub mod Gets
+pub mod Along
+pub mod Changes
+pub mod Refusals
+pub mod Listings
+pub mod Untrue
 use mathlib.Core.Bool.{Bool, true, false, _&&_, not}
 use mathlib.Core.List.{List, [], _∷_, _++_}
 use Prim.Native.Nat.{ℕ}

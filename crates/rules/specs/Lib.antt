@@ -15,16 +15,3 @@ pub mod Paths
 pub mod Tree
 pub mod Computed
 pub mod Cases
-pub mod Bench
-pub mod Further
-pub mod Catalogues
-pub mod Positions
-pub mod Lists
-pub mod Compared
-pub mod Tables
-pub mod Gets
-pub mod Along
-pub mod Changes
-pub mod Refusals
-pub mod Listings
-pub mod Untrue

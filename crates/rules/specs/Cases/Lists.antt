@@ -8,9 +8,9 @@ use Rattle.terms.specs.declared.Status.the-variants.{Blank, GE, AC, AJ, AK}
 use Rattle.terms.specs.Moves.{fresh}
 use Rattle.rules.specs.Block.{Bytes}
 use Rattle.rules.specs.Cases.{Case, tableOf, calls, gives, place, stands, nothingTold, ascii, upon, parent, position, gu}
-use Rattle.rules.specs.Bench.{catalogue, table, named, unit07, step14}
-use Rattle.rules.specs.Further.{multiple, twoSegments}
-use Rattle.rules.specs.Catalogues.{fieldCatalogue}
+use Rattle.rules.specs.Cases.Bench.{catalogue, table, named, unit07, step14}
+use Rattle.rules.specs.Cases.Further.{multiple, twoSegments}
+use Rattle.rules.specs.Cases.Catalogues.{fieldCatalogue}
 
 -- GU with this list, held on cell 3: the fault, and nothing changed
 abbrev fault : Status → Bytes → Case

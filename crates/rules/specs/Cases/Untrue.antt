@@ -9,7 +9,7 @@ use Rattle.terms.specs.Moves.{fresh}
 use Rattle.rules.specs.Cases.{Case, Says, lists, calls, lends, catalogueIs, tableIs, makes, blockIs, writes}
 use Rattle.rules.specs.Cases.{gives, tells, removes, place, held, stands, block, shows, fills, leaves, contains, bytes}
 use Rattle.rules.specs.Cases.{ascii, upon, gap, parent, position, gn, dlet}
-use Rattle.rules.specs.Bench.{catalogue, table, onCell, output}
+use Rattle.rules.specs.Cases.Bench.{catalogue, table, onCell, output}
 
 -- said of GN from fresh in the bench table, which is done, on cell 0
 abbrev first : Says → Case

@@ -5,9 +5,9 @@ use Prim.Native.Nat.{ℕ, zero, suc}
 use lib.ListN.{set, take}
 use Rattle.terms.specs.declared.Status.the-variants.{Blank, CX}
 use Rattle.rules.specs.Block.{Bytes}
-use Rattle.rules.specs.Bench.{catalogue}
+use Rattle.rules.specs.Cases.Bench.{catalogue}
 use Rattle.rules.specs.Cases.{Case, catalogueIs}
-use Rattle.rules.specs.Further.{deepCatalogue}
+use Rattle.rules.specs.Cases.Further.{deepCatalogue}
 
 -- the bench catalogue with v for byte i: type k begins at byte 8k, field f at byte 36 + 4f
 abbrev pub withByte : ℕ → ℕ → Bytes

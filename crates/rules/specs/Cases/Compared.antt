@@ -8,7 +8,7 @@ use Rattle.terms.specs.Moves.{fresh}
 use Rattle.rules.specs.Block.{Bytes}
 use Rattle.rules.specs.Cases.{Case, Step, calls, catalogueIs, tableIs, gives, place, leaves, contains, bytes, ascii, upon, parent, position}
 use Rattle.rules.specs.Cases.{tableOf, gu, gn, isrt, repl}
-use Rattle.rules.specs.Bench.{named}
+use Rattle.rules.specs.Cases.Bench.{named}
 
 -- one type of 4 bytes, with a unique key in bytes 2 and 3; fields 1 (the key), 2 (byte 4) and 3 (byte 1); C = 5
 unfoldable pub apart : Bytes

@@ -9,8 +9,8 @@ use Rattle.terms.specs.declared.Status.the-variants.{Blank, GE}
 use Rattle.terms.specs.Moves.{fresh}
 use Rattle.rules.specs.Block.{Bytes}
 use Rattle.rules.specs.Cases.{Case, calls, catalogueIs, gives, place, stands, leaves, ascii, tableOf, upon, gap, parent, position, gu, ghu, isrt}
-use Rattle.rules.specs.Bench.{catalogue, table, empty, onCell, named, unit07, step14, tryT}
-use Rattle.rules.specs.Gets.{step13, unit09}
+use Rattle.rules.specs.Cases.Bench.{catalogue, table, empty, onCell, named, unit07, step14, tryT}
+use Rattle.rules.specs.Cases.Gets.{step13, unit09}
 
 -- GU with this list from p, in the bench table
 abbrev finds : Position → Bytes → ℕ → Case

@@ -12,9 +12,9 @@ use Rattle.terms.specs.Moves.{fresh}
 use Rattle.rules.specs.Block.{Bytes}
 use Rattle.rules.specs.Cases.{Case, Step, calls, gives, removes, stands, block, fills, leaves, bytes, nothingTold}
 use Rattle.rules.specs.Cases.{ascii, upon, gap, parent, position}
-use Rattle.rules.specs.Bench.{catalogue, table, onCell, named, unit07, step14}
-use Rattle.rules.specs.Further.{full}
-use Rattle.rules.specs.Gets.{unit09}
+use Rattle.rules.specs.Cases.Bench.{catalogue, table, onCell, named, unit07, step14}
+use Rattle.rules.specs.Cases.Further.{full}
+use Rattle.rules.specs.Cases.Gets.{unit09}
 
 -- call c with this list and area
 abbrev calling : ℕ → Bytes → Bytes → Status → List Step

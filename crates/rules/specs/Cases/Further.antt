@@ -9,7 +9,7 @@ use Rattle.rules.specs.Block.{Bytes}
 use Rattle.rules.specs.Table.{tableBytes}
 use Rattle.rules.specs.Cases.{Case, calls, catalogueIs, tableIs, gives, place, held, leaves, shows, contains, ascii, upon}
 use Rattle.rules.specs.Cases.{gn, gnp, ghu, ghnp, isrt, dlet}
-use Rattle.rules.specs.Bench.{catalogue, table, onCell, named}
+use Rattle.rules.specs.Cases.Bench.{catalogue, table, onCell, named}
 
 -- a row of k types from type u on, each beneath the one before: as many levels
 abbrev pub typesFrom : ℕ → ℕ → Bytes

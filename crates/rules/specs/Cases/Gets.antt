@@ -11,8 +11,8 @@ use Rattle.terms.specs.Moves.{fresh}
 use Rattle.rules.specs.Block.{Bytes}
 use Rattle.rules.specs.Cases.{Case, Says, calls, gives, tells, removes, place, held, stands, block, shows, fills, bytes, nothingTold, ascii, dots}
 use Rattle.rules.specs.Cases.{upon, gap, parent, position, get, gu, gn, gnp, ghu, ghn, ghnp}
-use Rattle.rules.specs.Bench.{catalogue, table, empty, onCell, named, unit07, step14}
-use Rattle.rules.specs.Further.{stepNote, full}
+use Rattle.rules.specs.Cases.Bench.{catalogue, table, empty, onCell, named, unit07, step14}
+use Rattle.rules.specs.Cases.Further.{stepNote, full}
 
 abbrev pub step13 : Bytes
 step13 = 2 ∷ 1 ∷ 2 ∷ ascii "13"

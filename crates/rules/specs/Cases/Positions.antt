@@ -7,7 +7,7 @@ use Rattle.terms.specs.declared.Position.{Position}
 use Rattle.terms.specs.declared.Status.the-variants.{Blank, GB, PX}
 use Rattle.rules.specs.Block.{Bytes}
 use Rattle.rules.specs.Cases.{Case, calls, lends, blockIs, gives, removes, stands, block, nothingTold, upon, gap, parent, position, gu, gn, ghnp, dlet}
-use Rattle.rules.specs.Bench.{catalogue, table, empty}
+use Rattle.rules.specs.Cases.Bench.{catalogue, table, empty}
 
 -- in the bench table: PX, and nothing changed; or the call is done
 abbrev badFrom : Position → Case

@@ -3,9 +3,9 @@
 use mathlib.Core.List.{List, [], _∷_, _++_}
 use lib.ListN.{set}
 use Rattle.rules.specs.Cases.{Case, lists, writes, ascii, tableOf}
-use Rattle.rules.specs.Bench.{catalogue, table, empty}
-use Rattle.rules.specs.Further.{stepNote, full}
-use Rattle.rules.specs.Tables.{benchOf}
+use Rattle.rules.specs.Cases.Bench.{catalogue, table, empty}
+use Rattle.rules.specs.Cases.Further.{stepNote, full}
+use Rattle.rules.specs.Cases.Tables.{benchOf}
 
 unfoldable pub listingCases : List Case
 listingCases =

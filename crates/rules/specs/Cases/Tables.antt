@@ -10,9 +10,9 @@ use Rattle.terms.specs.declared.Status.the-variants.{Blank, GB, CX, TX}
 use Rattle.rules.specs.Block.{Bytes}
 use Rattle.rules.specs.Cases.{Case, Says, tableIs, calls, makes, gives, stands, fills, bytes, nothingTold, ascii, upon, gap, parent, position, dots}
 use Rattle.rules.specs.Cases.{tableOf, gu, gn, isrt, repl, dlet}
-use Rattle.rules.specs.Bench.{catalogue, table, named}
-use Rattle.rules.specs.Catalogues.{fieldCatalogue}
-use Rattle.rules.specs.Further.{deepCatalogue}
+use Rattle.rules.specs.Cases.Bench.{catalogue, table, named}
+use Rattle.rules.specs.Cases.Catalogues.{fieldCatalogue}
+use Rattle.rules.specs.Cases.Further.{deepCatalogue}
 
 -- cells of the bench: each its type code, its data, and zeros to C = 4
 abbrev pub unit : String → Bytes

@@ -12,11 +12,11 @@ use Rattle.terms.specs.Moves.{fresh}
 use Rattle.rules.specs.Block.{Bytes}
 use Rattle.rules.specs.Cases.{Case, Says, calls, gives, tells, removes, place, held, stands, block, fills, leaves, contains, bytes, nothingTold, ascii}
 use Rattle.rules.specs.Cases.{upon, gap, parent, position, gu, gn, gnp, ghu, isrt, repl, dlet}
-use Rattle.rules.specs.Bench.{catalogue, table, empty, onCell, named, unit07, step14}
-use Rattle.rules.specs.Further.{full}
-use Rattle.rules.specs.Gets.{unit09}
-use Rattle.rules.specs.Along.{becomes}
-use Rattle.rules.specs.Tables.{unit, step, try, note, free, benchOf}
+use Rattle.rules.specs.Cases.Bench.{catalogue, table, empty, onCell, named, unit07, step14}
+use Rattle.rules.specs.Cases.Further.{full}
+use Rattle.rules.specs.Cases.Gets.{unit09}
+use Rattle.rules.specs.Cases.Along.{becomes}
+use Rattle.rules.specs.Cases.Tables.{unit, step, try, note, free, benchOf}
 
 -- the two units of the bench table with all beneath them, and its last free cells
 abbrev firstUnit : Bytes
