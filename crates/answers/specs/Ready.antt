@@ -4,25 +4,20 @@ use mathlib.Core.Bool.{Bool, true}
 use mathlib.Core.Option.{none}
 use mathlib.Core.List.{List}
 use Prim.Native.Nat.{ℕ}
-use lib.Dec.{leb, eqb}
-use lib.ListN.{length}
-use Rattle.terms.specs.declared.TypeCode.{TypeCode}
 use Rattle.terms.specs.declared.Position.{Position}
 use Rattle.terms.specs.declared.Parentage.{Parentage}
 use Rattle.terms.specs.declared.Status.{Status}
-use Rattle.terms.specs.declared.Status.the-variants.{Blank, GB, GE}
+use Rattle.terms.specs.declared.Status.the-variants.{Blank}
 use Rattle.terms.specs.declared.Answer.{Answer}
-use Rattle.terms.specs.Choice.{pick}
-use Rattle.terms.specs.Statuses.{number}
 use Rattle.terms.specs.Moves.{movedOnto}
 use Rattle.rules.specs.Block.{Bytes}
-use Rattle.rules.specs.Catalogue.{goodCatalogue, lengthOf, level}
+use Rattle.rules.specs.Catalogue.{goodCatalogue}
 use Rattle.rules.specs.Table.{goodTable, listing}
 use Rattle.rules.specs.Cells.{Segment, segment, shownBytes}
 use Rattle.rules.specs.Position.{goodPosition}
 use Rattle.rules.specs.Arguments.{listRead}
 use Rattle.rules.specs.Change.{nothing}
-use Rattle.rules.specs.Calls.{After, bare, afterMiss, over, answerOf}
+use Rattle.rules.specs.Calls.{After, over, answerOf}
 use Rattle.rules.specs.Outcome.{Outcome}
 use Rattle.cells.specs.Sound.{Sound}
 
@@ -55,7 +50,3 @@ left r area = record { answer = r; change = nothing; cells = none; area = area }
 abbrev pub gotAt : Bytes → List Segment → Status → Parentage → Bool → ℕ → Bytes → After
 gotAt cat cs s parentage hold i area =
     left (answerOf cat s (movedOnto i parentage hold) (segment cs i) 0) (over (shownBytes cat (segment cs i)) area)
-
--- GB for an empty list, GE for another
-abbrev pub missedStatus : Bytes → Status
-missedStatus list = pick (eqb (length list) 0) GB GE

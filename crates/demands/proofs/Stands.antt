@@ -1,7 +1,7 @@
 -- The position after every call is what the table of specs/PositionTable.antt says. Assumes nothing.
 use mathlib.Core.Path.{_≡_, refl, ap, sym, _∙_, subst}
-use mathlib.Core.Bool.{Bool, true, false, _&&_, _||_, not}
-use mathlib.Core.List.{List, [], _∷_}
+use mathlib.Core.Bool.{Bool, true, false, _&&_, not}
+use mathlib.Core.List.{List, []}
 use Prim.Native.Nat.{ℕ, suc, _+_, _-_, _<_, _≤_}
 use native.Mathlib.Omega.{arith}
 use lib.Dec.{ltb, leb, eqb}
@@ -14,7 +14,6 @@ use Rattle.terms.specs.declared.Place.the-variants.{On, Before}
 use Rattle.terms.specs.declared.Parentage.{Parentage}
 use Rattle.terms.specs.declared.Parentage.the-variants.{Absent, Of}
 use Rattle.terms.specs.declared.Position.{Position}
-use Rattle.terms.specs.declared.Argument.{Argument}
 use Rattle.terms.specs.declared.Status.{Status}
 use Rattle.terms.specs.declared.Status.the-variants.{Blank, GA, GK, GB, GE, GP, CX, TX, PX, AD, AC, AJ, AK, AH, AB, DJ, DA, II, FX}
 use Rattle.terms.specs.declared.Found.{Found}
@@ -22,8 +21,7 @@ use Rattle.terms.specs.declared.Found.the-variants.{At, Nothing}
 use Rattle.terms.specs.Choice.{pick}
 use Rattle.terms.specs.Names.{code, cell}
 use Rattle.terms.specs.Statuses.{number}
-use Rattle.terms.specs.Moves.{placeNumber, afterPlace, movedOnto, afterInsert, without, afterDelete}
-use Rattle.forest.specs.Good.{on, off, is}
+use Rattle.terms.specs.Moves.{placeNumber, afterPlace, movedOnto, without}
 use Rattle.forest.specs.Insert.{spot}
 use Rattle.forest.specs.Numbers.{isIn}
 use Rattle.rules.specs.Block.{Bytes, sameBytes}

@@ -1,6 +1,6 @@
 -- The stores of specs/WrongStores.antt meet no demand: each is refuted on the bench table. And no second store meets demand 2. Assumes nothing.
 use mathlib.Core.Path.{_≡_, refl, ap, sym, _∙_}
-use mathlib.Core.Bool.{Bool, true, false, _&&_}
+use mathlib.Core.Bool.{Bool, true, false}
 use mathlib.Core.List.{[], _∷_}
 use Prim.Native.Nat.{ℕ, zero, suc, _<_}
 use native.Mathlib.Omega.{arith}
@@ -9,11 +9,10 @@ use borrow.Author.Tests.{ltb-true}
 use Rattle.terms.specs.declared.Place.the-variants.{On}
 use Rattle.terms.specs.declared.Parentage.the-variants.{Of}
 use Rattle.terms.specs.declared.Position.{Position}
-use Rattle.terms.specs.declared.Status.{Status}
 use Rattle.terms.specs.Names.{cell}
 use Rattle.terms.specs.Statuses.{number}
 use Rattle.terms.specs.Moves.{fresh, placeNumber}
-use Rattle.forest.specs.Good.{on, off, is, both-left, both-right}
+use Rattle.forest.specs.Good.{on, off, is}
 use Rattle.rules.specs.Block.{Bytes, byte, every}
 use Rattle.rules.specs.Computed.{computed}
 use Rattle.rules.specs.Cases.Bench.{catalogue, table, onCell}
@@ -21,7 +20,6 @@ use Rattle.rules.specs.Outcome.{Store}
 use Rattle.encoding.specs.Determined.{IsBytes}
 use Rattle.report_loops.proofs.Wrong.{once}
 use Rattle.demands.specs.StatusTable.{firstGiven}
-use Rattle.demands.specs.PositionTable.{firstOf}
 use Rattle.demands.specs.Demand1.{Demand1}
 use Rattle.demands.specs.Demand2.{Demand2}
 use Rattle.demands.specs.WrongStores.{refusesAll, alwaysFirst, leavesTable, inventsRemoved, inventsCount}

@@ -1,7 +1,7 @@
 -- The position afterwards, row by row: for each of the nine calls and each way it can end, what document 01 says of the place, the parentage and the hold.
 -- Nothing here is taken from what the calls make of a position (terms, Moves; rules, Calls and Paths). Assumes nothing: these are definitions.
 use mathlib.Core.Bool.{Bool, true, false, _&&_, not}
-use mathlib.Core.List.{List, [], _∷_}
+use mathlib.Core.List.{[]}
 use Prim.Native.Nat.{ℕ, zero, suc, _-_}
 use lib.Dec.{ltb, leb, eqb}
 use lib.ListN.{length}

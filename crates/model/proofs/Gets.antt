@@ -1,13 +1,13 @@
 -- GU, GN and GNP over the forest are those over the cells: the same cell, the same status, and paths that are the same position. Assumes nothing.
 use mathlib.Core.Path.{_≡_, refl, ap, sym, _∙_}
-use mathlib.Core.Bool.{Bool, true, false, _&&_, not, and-true}
+use mathlib.Core.Bool.{Bool, true, _&&_, and-true}
 use mathlib.Core.Option.{none, some}
 use mathlib.Core.List.{List, [], _∷_}
-use Prim.Native.Nat.{ℕ, suc, _<_, _≤_}
+use Prim.Native.Nat.{ℕ, suc, _<_}
 use native.Mathlib.Omega.{arith}
-use lib.Dec.{ltb, leb, eqb}
+use lib.Dec.{ltb, leb}
 use lib.ListN.{length}
-use borrow.Author.Tests.{lt-ltb, le-ltb, le-leb, lt-leb, ltb-true}
+use borrow.Author.Tests.{lt-ltb, le-leb, lt-leb, ltb-true}
 use Rattle.terms.specs.declared.CellNumber.{CellNumber}
 use Rattle.terms.specs.declared.Place.{Place}
 use Rattle.terms.specs.declared.Place.the-variants.{On, Before}
@@ -15,11 +15,10 @@ use Rattle.terms.specs.declared.Parentage.{Parentage}
 use Rattle.terms.specs.declared.Parentage.the-variants.{Of}
 use Rattle.terms.specs.declared.Position.{Position}
 use Rattle.terms.specs.declared.Status.{Status}
-use Rattle.terms.specs.declared.Status.the-variants.{Blank, GA, GK, GE}
+use Rattle.terms.specs.declared.Status.the-variants.{Blank, GE}
 use Rattle.terms.specs.declared.Found.{Found}
-use Rattle.terms.specs.Choice.{pick}
-use Rattle.terms.specs.Names.{cell, sameType}
-use Rattle.terms.specs.Moves.{afterPlace, movedOnto, holdDropped}
+use Rattle.terms.specs.Names.{cell}
+use Rattle.terms.specs.Moves.{afterPlace, movedOnto}
 use Rattle.forest.specs.Forest.{inside, outside, side}
 use Rattle.forest.specs.Shape.{Levelled}
 use Rattle.rules.specs.Block.{Bytes}
@@ -29,7 +28,7 @@ use Rattle.rules.specs.Position.{goodPlace}
 use Rattle.rules.specs.Arguments.{Level}
 use Rattle.rules.specs.Matching.{pathTo, firstMatch, along}
 use Rattle.rules.specs.Calls.{After, missed, over, answerOf, gotten, missStatus, levelStatus, parentEnd, getUnique, getNext, getNextWithin}
-use Rattle.rules.specs.Paths.{Path, end, isPrefix, Current, onPath, inGap, Standing, follows, beneath, movedTo, movedWithin, parentageOf, numbered}
+use Rattle.rules.specs.Paths.{Path, Standing, follows, beneath, movedTo, movedWithin, parentageOf, numbered}
 use Rattle.rules.specs.Tree.{select, dataPart, eval, evalAlong, stepStatus, retrieved, intGu, intGn, intGnp}
 use Rattle.rules.proofs.Cells.{row-run}
 use Rattle.rules.proofs.Paths.{end-path, prefix-row}

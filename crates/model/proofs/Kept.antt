@@ -8,7 +8,7 @@ use native.Mathlib.Omega.{arith}
 use lib.Dec.{ltb, leb, eqb}
 use lib.ListN.{length, take, drop, set, length-append, length-drop, length-set}
 use lib.Seq.{length-take-le, take-at, take-set-le, getD-drop, set-split}
-use borrow.Author.Tests.{ltb-true, leb-true, lt-ltb, le-leb, eq-eqb, ne-eqb, eqb-true, eqb-false}
+use borrow.Author.Tests.{ltb-true, leb-true, lt-ltb, le-leb, eq-eqb, eqb-true, eqb-false}
 use Rattle.terms.specs.declared.TypeCode.{TypeCode}
 use Rattle.terms.specs.declared.CellNumber.{CellNumber}
 use Rattle.terms.specs.declared.Place.{Place}
@@ -40,7 +40,7 @@ use Rattle.rules.specs.Arguments.{Level, complete, listRead, lastArgument, getL
 use Rattle.rules.specs.Matching.{matches, seek, firstMatch, along}
 use Rattle.rules.specs.Change.{Change}
 use Rattle.rules.specs.Calls.{After, refused, missed, over, isOneOf, missStatus, levelStatus, parentEnd, answerOf, changed, keyTaken, gotten, getUnique, getNext, getNextWithin, inserted, insertAmong, insertUnder, insert, replaced, replacement, replace, deleted, delete, called}
-use Rattle.rules.specs.Outcome.{isBlank, isIsrt, isHeld, unsound, misused, stopped, unless, afterSound, afterCall, landed, outcomeOf, outcome}
+use Rattle.rules.specs.Outcome.{isBlank, isIsrt, unsound, misused, stopped, unless, afterSound, afterCall, landed, outcomeOf, outcome}
 use Rattle.rules.proofs.Search.{seek-none, seek-here, seek-next}
 use Rattle.rules.proofs.Cells.{listing-length}
 use Rattle.encoding.specs.Determined.{IsBytes, All, Fits}

@@ -6,15 +6,14 @@ use Prim.Native.Nat.{ℕ, suc, _-_, _<_, _≤_}
 use native.Mathlib.Omega.{arith}
 use lib.Dec.{eqb}
 use lib.ListN.{length}
-use borrow.Author.Tests.{eq-eqb, eqb-true, eqb-false}
+use borrow.Author.Tests.{eqb-true, eqb-false}
 use Rattle.terms.specs.declared.TypeCode.{TypeCode}
 use Rattle.terms.specs.declared.CellNumber.{CellNumber}
 use Rattle.terms.specs.declared.Parentage.{Parentage}
 use Rattle.terms.specs.declared.Parentage.the-variants.{Absent, Of}
 use Rattle.terms.specs.declared.Position.{Position}
 use Rattle.terms.specs.declared.Argument.{Argument}
-use Rattle.terms.specs.declared.Status.the-variants.{Blank, GE}
-use Rattle.terms.specs.declared.Found.{Found}
+use Rattle.terms.specs.declared.Status.the-variants.{GE}
 use Rattle.terms.specs.declared.Found.the-variants.{At}
 use Rattle.terms.specs.Names.{code, cell}
 use Rattle.terms.specs.Moves.{isAbsent, placeNumber, afterPlace}
@@ -32,9 +31,9 @@ use Rattle.rules.specs.Matching.{matches, pathTo, along}
 use Rattle.rules.specs.Calls.{missed, getNextWithin, insertAmong, insertUnder, insert, called}
 use Rattle.rules.specs.Outcome.{isBlank, isGnp, isIsrt, isHeld, unsound, misused, stopped, unless, afterSound, afterCall, landed, outcomeOf, outcome}
 use Rattle.rules.specs.Paths.{Path, Standing, currentPath}
-use Rattle.rules.specs.Tree.{dataPart, evalAlong, standing, segments, intGnp, insertRec, insertAt, intIsrt, intRepl, intDlet, callOf, interpreted, treeOutcome}
+use Rattle.rules.specs.Tree.{dataPart, evalAlong, segments, intGnp, insertRec, insertAt, intIsrt, callOf, interpreted, treeOutcome}
 use Rattle.rules.proofs.Paths.{end-path}
-use Rattle.rules.proofs.Tree.{Heads, missing, leading, segments-cells}
+use Rattle.rules.proofs.Tree.{missing, leading, segments-cells}
 use Rattle.encoding.proofs.Bytes.{table-listing}
 use Rattle.model.specs.Model.{ModelIsCells}
 use Rattle.model.proofs.Paths.{kids-map, size-map, placed, paths}

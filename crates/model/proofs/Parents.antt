@@ -12,7 +12,7 @@ use Rattle.terms.specs.declared.Argument.{Argument}
 use Rattle.terms.specs.Choice.{pick}
 use Rattle.terms.specs.Names.{code, sameType}
 use Rattle.forest.specs.Forest.{Forest, forestOf}
-use Rattle.forest.specs.Good.{on, off, is, both-left, both-right, Wf, formed, formed-wf, levelled}
+use Rattle.forest.specs.Good.{on, off, is, both-left, both-right, Wf, formed-wf, levelled}
 use Rattle.forest.specs.Shape.{Levelled}
 use Rattle.forest.specs.Rows.{map-append}
 use Rattle.forest.specs.Numbers.{range, isIn}

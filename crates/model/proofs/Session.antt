@@ -1,17 +1,16 @@
 -- Checked once, sound for good: what specs/Session.antt states. Assumes nothing.
 use mathlib.Core.Path.{_≡_, refl, ap, _∙_}
-use mathlib.Core.Bool.{true, not}
+use mathlib.Core.Bool.{true}
 use mathlib.Core.List.{[], _∷_}
 use Prim.Native.Nat.{ℕ}
 use Rattle.terms.specs.declared.Position.{Position}
-use Rattle.terms.specs.declared.Status.{Status}
 use Rattle.terms.specs.declared.Status.the-variants.{Blank}
 use Rattle.rules.specs.Block.{Bytes}
 use Rattle.rules.specs.Catalogue.{goodCatalogue}
 use Rattle.rules.specs.Table.{listing, goodTable}
 use Rattle.rules.specs.Position.{goodPosition}
-use Rattle.rules.specs.Calls.{called}
-use Rattle.rules.specs.Outcome.{Outcome, unsound, unless, afterSound, afterCall, landed, outcomeOf, outcome, soundOutcome}
+use Rattle.rules.specs.Outcome.{Outcome, unsound, outcome, soundOutcome}
+use Rattle.rules.proofs.Outcome.{sound-outcome}
 use Rattle.model.specs.Kept.{Kept}
 use Rattle.model.specs.Session.{session, CheckedOnce}
 use Rattle.model.proofs.Kept.{tables-stay-good}
@@ -24,9 +23,7 @@ module _ (cat tab : Bytes) (pos : Position) (g : goodCatalogue cat ≡ true) (go
 
   -- LAW: so the call that does not look at them has the same outcome
   pub sound-same : (c : ℕ) (list area : Bytes) → outcome cat tab pos c list area ≡ soundOutcome cat tab pos c list area
-  unfolding outcome outcomeOf afterCall unless soundOutcome
-  sound-same c list area =
-      ap (λ (s : Status). landed cat tab (unless s pos area (afterSound called cat tab pos c list area))) sound-blank
+  sound-same c list area = sound-outcome cat tab pos c list area sound-blank
 
 -- THEOREM: a session on good blocks is the session without the checks
 pub checked-once : CheckedOnce outcome

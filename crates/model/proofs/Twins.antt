@@ -6,7 +6,7 @@ use mathlib.Core.List.{List, [], _∷_, _++_}
 use Prim.Native.Nat.{ℕ, zero, suc, _+_, _-_, _<_, min}
 use native.Mathlib.Omega.{arith}
 use lib.Dec.{ltb, eqb}
-use lib.ListN.{length, getD, take, drop, length-take, length-drop, List·getD-append}
+use lib.ListN.{length, getD, drop, length-take, length-drop, List·getD-append}
 use borrow.Author.Tests.{ltb-true, lt-ltb, le-ltb, eq-eqb, eqb-true}
 use Rattle.terms.specs.declared.Position.{Position}
 use Rattle.terms.specs.declared.Order.{Order}

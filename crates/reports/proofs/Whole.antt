@@ -25,7 +25,7 @@ use Rattle.report_loops.specs.Plain.{filter, meets, picked}
 use Rattle.report_loops.proofs.Cut.{parts}
 use Rattle.reports.specs.declared.Report.{Report}
 use Rattle.reports.specs.Shown.{shownFrom}
-use Rattle.reports.specs.Report.{reported, nothingShown, listsFault, reportRefusal, showing, report}
+use Rattle.reports.specs.Report.{reported, listsFault, reportRefusal, showing, report}
 use Rattle.reports.specs.Given.{GivenBoth}
 use Rattle.reports.proofs.Lists.{checked-good}
 use Rattle.reports.proofs.Written.{show-whole, show-empty}

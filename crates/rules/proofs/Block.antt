@@ -1,5 +1,5 @@
 -- The position's block: what specs/Canonical.antt states, and what a call leaves of a block that is lent to it. Assumes nothing.
-use mathlib.Core.Path.{_≡_, refl, ap, sym, _∙_, subst}
+use mathlib.Core.Path.{_≡_, refl, ap, sym, _∙_}
 use mathlib.Core.Bool.{Bool, true, false, true≢false, _&&_}
 use mathlib.Core.List.{List, [], _∷_, _++_}
 use Prim.Native.Nat.{ℕ, zero, suc, _+_, _*_, _/_, _%_, _<_, _≤_}
@@ -19,9 +19,9 @@ use Rattle.terms.specs.Names.{cell}
 use Rattle.terms.specs.Moves.{placeNumber, holdDropped}
 use Rattle.terms.specs.Statuses.{number}
 use Rattle.forest.specs.Good.{on, off, is, both-right}
-use Rattle.rules.specs.Block.{Bytes, byte, word, wordBytes}
+use Rattle.rules.specs.Block.{Bytes, byte, word}
 use Rattle.rules.specs.Cells.{Segment}
-use Rattle.rules.specs.Position.{goodPosition, placeBytes, parentageBytes, positionBytes, nowhere, goodBlock, positionOf}
+use Rattle.rules.specs.Position.{goodPosition, placeBytes, parentageBytes, positionBytes, goodBlock, positionOf}
 use Rattle.rules.specs.Outcome.{blockAfter}
 use Rattle.rules.specs.Canonical.{parentNumber, Canonical}
 use Rattle.rules.proofs.Joined.{six}

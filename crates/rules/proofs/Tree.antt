@@ -1,27 +1,25 @@
 -- Forest and cells: the search of document 000 finds exactly what document 01 calls a match. Assumes nothing.
 use mathlib.Core.Path.{_≡_, refl, ap, sym, _∙_}
-use mathlib.Core.Bool.{Bool, true, false, _&&_, _||_, and-true, or-false}
-use mathlib.Core.List.{List, [], _∷_, _++_, map, reverse, reverseAux, append-assoc, reverse-cons, map-map, map-id}
+use mathlib.Core.Bool.{Bool, true, false, _&&_}
+use mathlib.Core.List.{List, [], _∷_, _++_, map, reverse, append-assoc, reverse-cons, map-map, map-id}
 use Prim.Native.Nat.{ℕ, zero, suc, _+_, _-_, _<_, _≤_}
 use native.Mathlib.Omega.{arith}
-use lib.ListN.{length, getD, take, drop, length-drop}
+use lib.ListN.{length, getD, drop, length-drop}
 use lib.Seq.{getD-drop}
-use lib.Dec.{ltb, leb, eqb}
+use lib.Dec.{ltb, leb}
 use borrow.Author.Tests.{lt-ltb, le-ltb, le-leb, lt-leb}
 use Rattle.terms.specs.declared.Found.{Found}
 use Rattle.terms.specs.declared.Found.the-variants.{At, Nothing}
-use Rattle.forest.specs.Forest.{Forest, void, node, cellsOf, forestOf, inside, outside, side}
+use Rattle.forest.specs.Forest.{Forest, void, node, forestOf, inside, outside, side}
 use Rattle.forest.specs.Good.{on, off, is}
 use Rattle.forest.specs.Rows.{rows, map-append, forest-map}
-use Rattle.forest.specs.Edit.{size, kids}
-use Rattle.forest.specs.Runs.{under, under-in, under-out, runLen, run-length, prune, cells-prune, swap, cells-swap}
-use Rattle.forest.specs.Numbers.{range, isIn, ancestors, length-range, row-number, length-rows}
+use Rattle.forest.specs.Runs.{under, under-in, under-out, runLen}
+use Rattle.forest.specs.Numbers.{range, row-number, length-rows}
 use Rattle.rules.specs.Block.{Bytes}
-use Rattle.rules.specs.Cells.{Segment, segment, blank, segmentLevel, levelAt, runAt, endAt, rowAt}
+use Rattle.rules.specs.Cells.{Segment, segment, blank, segmentLevel, levelAt, runAt, rowAt}
 use Rattle.terms.specs.Names.{cell}
 use Rattle.rules.specs.Arguments.{Level}
 use Rattle.rules.specs.Matching.{agrees, agree, pathTo, matches, seek, firstMatch}
-use Rattle.rules.proofs.Cells.{row-run}
 use Rattle.rules.proofs.Search.{seek-none, seek-here, seek-next}
 use Rattle.rules.specs.Paths.{Path}
 use Rattle.rules.specs.Tree.{select, allPaths, dataPart, search, eval, segments}

@@ -1,6 +1,6 @@
 -- The cells beneath a parent in a good listing: a row of siblings with all beneath them, and behind it what is less deep. Assumes nothing.
 use mathlib.Core.Path.{_≡_, refl, ap, sym, _∙_, subst}
-use mathlib.Core.Bool.{Bool, true, false, _&&_, _||_, not}
+use mathlib.Core.Bool.{Bool, true, false, _&&_, _||_}
 use mathlib.Core.List.{List, [], _++_, append-nil}
 use Prim.Native.Nat.{ℕ, zero, suc, _+_, _-_, _<_, _≤_}
 use native.Mathlib.Omega.{arith}
@@ -15,7 +15,7 @@ use Rattle.forest.specs.Edit.{size, kids}
 use Rattle.forest.specs.Runs.{under, under-in, under-out, runLen, run-length, tail-split, levelled-kids}
 use Rattle.forest.specs.Keep.{wf-kids}
 use Rattle.forest.specs.Insert.{Low}
-use Rattle.forest.specs.Good.{on, off, is, both-right, Wf, formed-wf, levelled}
+use Rattle.forest.specs.Good.{both-right, Wf, formed-wf, levelled}
 use Rattle.forest.specs.Numbers.{range}
 use Rattle.forest.specs.Types as Types
 use Rattle.rules.specs.Block.{Bytes, byte, every, zeros, marked, anyOf}

@@ -12,7 +12,7 @@ use Rattle.model.specs.Kept.{Kept}
 use Rattle.model.proofs.Kept.{tables-stay-good}
 use Rattle.model.proofs.Session.{sound-same}
 use Rattle.demands.proofs.Demand1.{demand1}
-use Rattle.umbristal.specs.Face.{HandedBack, handedBackOf, face, soundFace}
+use Rattle.umbristal.specs.Face.{handedBackOf, face, soundFace}
 use Rattle.umbristal.specs.Session.{faceSession, FaceCheckedOnce}
 
 -- THEOREM: a session on good blocks is the session without the checks
