@@ -2,7 +2,7 @@
 use mathlib.Core.Path.{_≡_, refl, ap, sym, _∙_}
 use mathlib.Core.Bool.{Bool, true, false, not}
 use mathlib.Core.List.{List, [], _∷_, _++_}
-use Prim.Native.Nat.{ℕ, zero, suc, _+_, _-_, _<_, _≤_}
+use Prim.Native.Nat.{ℕ, suc, _-_, _<_, _≤_}
 use native.Mathlib.Omega.{arith}
 use lib.Dec.{ltb}
 use lib.ListN.{length, drop}
@@ -22,29 +22,26 @@ use Rattle.terms.specs.declared.Found.the-variants.{At, Nothing}
 use Rattle.terms.specs.Choice.{pick}
 use Rattle.terms.specs.Names.{code, cell, sameType}
 use Rattle.terms.specs.Moves.{afterPlace, isAbsent, movedOnto}
-use Rattle.forest.specs.Forest.{inside, outside, side}
-use Rattle.forest.specs.Good.{on, off, is}
-use Rattle.forest.specs.Runs.{under, under-in, under-out}
-use Rattle.forest.specs.Numbers.{range}
 use Rattle.rules.specs.Block.{Bytes, part}
-use Rattle.rules.specs.Catalogue.{types, parentOf, lengthOf, level, typeBeneath}
-use Rattle.rules.specs.Cells.{Segment, segment, shownBytes, long as segmentLong, levelAt, runAt, endAt}
+use Rattle.rules.specs.Catalogue.{types, parentOf, lengthOf, level}
+use Rattle.rules.specs.Cells.{Segment, segment, shownBytes, long as segmentLong, levelAt, endAt}
 use Rattle.rules.specs.Table.{count, listing}
 use Rattle.rules.specs.Arguments.{Level, ListRead, listRead, lastArgument, complete, getLevels}
 use Rattle.rules.specs.Matching.{firstMatch, along}
 use Rattle.rules.specs.Calls.{bare, afterMiss, answerOf, missStatus, levelStatus, getUnique, getNext, getNextWithin}
 use Rattle.rules.proofs.Cells.{listing-length}
-use Rattle.catalogue.proofs.Hierarchy.{type-range, cell-holds, level-child, level-least, beneath-later}
+use Rattle.catalogue.proofs.Hierarchy.{type-range, cell-holds, level-child, level-least}
 use Rattle.cells.specs.Sound.{Sound}
 use Rattle.cells.proofs.Located.{end-within}
 use Rattle.cells.proofs.Data.{data-long}
-use Rattle.cells.proofs.Ancestry.{sound-listing, own-type, run-beneath, sound-known, sound-data, sound-part}
+use Rattle.cells.proofs.Ancestry.{sound-listing, own-type, sound-known, sound-data, sound-part}
 use Rattle.arguments.specs.Sound.{SoundList}
 use Rattle.arguments.proofs.Sound.{list-empty, last-asks}
 use Rattle.arguments.proofs.Complete.{complete-length}
-use Rattle.search.specs.Good.{Good}
+use Rattle.search.specs.Good.{Good, Beneath}
 use Rattle.search.proofs.Branches.{first-none, all-match, known-last}
 use Rattle.search.proofs.Levels.{get-levels}
+use Rattle.gets.proofs.Found.{parent-in, around}
 use Rattle.answers.specs.Told.{told}
 use Rattle.answers.specs.Ready.{Ready, left, gotAt}
 
@@ -87,6 +84,19 @@ module _ {cat tab : Bytes} {size : ℕ} {pos : Position} {list : Bytes} (r : Rea
     sound = r .asked;
     known = rw e (known-last cat list sound-list);
   }
+
+  -- where a search beneath p begins: the list is not empty
+  pub search-beneath : (t : TypeCode) → t ≡ last → (length list ≡ 0 → ⊥) → (p : CellNumber) → pos .parentage ≡ Of p → (from : ℕ) → from ≡ afterPlace (pos .place)
+      → Beneath cat tab t (p .0) from
+  search-beneath t e n p f from z =
+      let k = type-range cat last (last-asks cat list sound-list (omega arith) .type) in
+      let a = around cat tab pos (r .position) p f in
+      record {
+        some = rw e (k .0);
+        cell = parent-in cat tab pos (r .position) p f;
+        later = rw z (a .0);
+        most = rw z (a .1);
+      }
 
   levels-of : (t : TypeCode) → t ≡ last → complete cat list (listRead cat list .arguments) t ≡ ls
   levels-of t e = rw e (sym (get-levels cat list (listRead cat list .arguments)))
@@ -256,47 +266,6 @@ module _ {cat tab : Bytes} {size : ℕ} {pos : Position} {list : Bytes} (r : Rea
   pub cell-missed : n ≤ i → left (bare GB (afterMiss GB pos)) area ≡ getNext cat (listing cat tab) pos area hold (getLevels cat list (listRead cat list .arguments))
   cell-missed l =
       next-missed r area hold lastCode Nothing refl i at n (first-none cat (listing cat tab) (complete cat list (listRead cat list .arguments) lastCode) i n l) GB to-end refl (miss-empty r none)
-
--- the cell that a run comes up to is in it where its type is beneath that of the run's first cell
-under-stop : (lev : ℕ → ℕ) (m n s : ℕ) → under lev m (range s n) < n → lev (s + under lev m (range s n)) ≤ m
-unfolding under
-under-stop lev m zero s l = absurd (omega arith)
-under-stop lev m (suc n) s l = elim (side m (lev s)) [
-  | inside h ↦
-      let e : under lev m (range s (suc n)) ≡ suc (under lev m (range (suc s) n)) = under-in lev m s (range (suc s) n) h in
-      let z : s + under lev m (range s (suc n)) ≡ suc s + under lev m (range (suc s) n) = omega arith in
-      rw z (under-stop lev m n (suc s) (omega arith))
-  | outside h ↦
-      let e : under lev m (range s (suc n)) ≡ 0 = under-out lev m s (range (suc s) n) h in
-      let z : s + under lev m (range s (suc n)) ≡ s = omega arith in
-      rw z h
-]
-
-end-stop : (cat : Bytes) (cs : List Segment) (p : ℕ) → endAt cat cs p < length cs → levelAt cat cs (endAt cat cs p) ≤ levelAt cat cs p
-unfolding endAt runAt
-end-stop cat cs p l =
-    let n : ℕ = length cs - suc p in
-    let z : p + suc (under (levelAt cat cs) (levelAt cat cs p) (range (suc p) (length cs - suc p))) ≡ suc p + under (levelAt cat cs) (levelAt cat cs p) (range (suc p) (length cs - suc p)) = omega arith in
-    rw z (under-stop (levelAt cat cs) (levelAt cat cs p) (length cs - suc p) (suc p) (omega arith))
-
-module _ {cat tab : Bytes} {size : ℕ} (s : Sound cat tab size) (p i : ℕ) (l : p < i) (m : i ≤ endAt cat (listing cat tab) p) (k : p < count tab) where
-  pub within-none : count tab ≤ i → false ≡ ltb i (endAt cat (listing cat tab) p)
-  within-none h = sym (le-ltb i (endAt cat (listing cat tab) p) (omega (arith, end-within cat (listing cat tab) p (omega (arith, listing-length cat tab)), listing-length cat tab)))
-
-  pub within-type : (t u : TypeCode) (b : Bool) → i < count tab → t ≡ segment (listing cat tab) i .code → u ≡ segment (listing cat tab) p .code → b ≡ typeBeneath cat t u → b ≡ ltb i (endAt cat (listing cat tab) p)
-  unfolding levelAt
-  within-type t u b h x y e = elim (side i (endAt cat (listing cat tab) p)) [
-    | inside w ↦ e ∙ rw (x, y) (run-beneath cat (listing cat tab) (s .catalogue) (sound-listing s) i (omega (arith, listing-length cat tab)) p l w) ∙ sym (lt-ltb i (endAt cat (listing cat tab) p) w)
-    | outside w ↦
-        let z : i ≡ endAt cat (listing cat tab) p = omega arith in
-        let o = own-type cat (listing cat tab) (s .catalogue) (sound-listing s) i (omega (arith, listing-length cat tab)) in
-        let v : levelAt cat (listing cat tab) i ≤ levelAt cat (listing cat tab) p = rw z (end-stop cat (listing cat tab) p (omega (arith, listing-length cat tab))) in
-        let f : typeBeneath cat t u ≡ false = (elim (is (typeBeneath cat t u)) [
-          | on q ↦ absurd (omega (arith, beneath-later cat (s .catalogue) t u (rw x (o .0)) (rw x (o .1)) q .2, ap (level cat) x, ap (level cat) y))
-          | off q ↦ q
-        ]) in
-        e ∙ f ∙ sym (le-ltb i (endAt cat (listing cat tab) p) w)
-  ]
 
 pub cell-in-run : (cat tab : Bytes) (p i : ℕ) → p < count tab → ltb i (endAt cat (listing cat tab) p) ≡ true → i < count tab
 cell-in-run cat tab p i k e = omega (arith, ltb-true i (endAt cat (listing cat tab) p) e, end-within cat (listing cat tab) p (omega (arith, listing-length cat tab)), listing-length cat tab)

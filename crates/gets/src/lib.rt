@@ -6,13 +6,13 @@ use blocks::moves::put;
 use blocks::wide;
 use catalogue::entries::data_length;
 use catalogue::entries::parent;
-use catalogue::lineage::is_beneath;
 use catalogue::lineage::level;
 use cells::lookup::code_at;
 use cells::lookup::count;
 use cells::lookup::data_part;
-use cells::runs::run_end;
 use search::along::along;
+use search::beneath::first_beneath;
+use search::beneath::is_within;
 use search::forward::first_match;
 use terms::Answer;
 use terms::CellNumber;
@@ -25,11 +25,9 @@ ghost use mathlib.Core.Path.{_≡_};
 ghost use mathlib.Core.Bool.{false};
 ghost use mathlib.Core.List.{[]};
 ghost use Prim.Native.Nat.{suc, _<_, _≤_};
-ghost use lib.Dec.{ltb};
 ghost use lib.ListN.{length};
 ghost use Rattle.terms.specs.declared.Parentage.the-variants.{Of};
 ghost use Rattle.terms.specs.Moves.{afterPlace, isAbsent};
-ghost use Rattle.rules.specs.Cells.{endAt};
 ghost use Rattle.rules.specs.Table.{count, listing};
 ghost use Rattle.rules.specs.Arguments.{listRead, getLevels};
 ghost use Rattle.rules.specs.Calls.{levelStatus, getUnique, getNext, getNextWithin};
@@ -189,19 +187,6 @@ pub fn get_next(
     got(cat, tab, size, c, s, Parentage::Of(c), hold, pos, area)
 }
 
-// Whether cell i lies in p's run, which comes up to it at least. Its type tells, so that the end of the run need not be sought.
-fn is_within(cat: &[u8], tab: &[u8], size: usize, p: CellNumber, i: usize) -> bool
-    requires { ⌜ Sound (now cat) (now tab) size × (p .0 < i) × (i ≤ endAt (now cat) (listing (now cat) (now tab)) (p .0)) × (p .0 < count (now tab)) ⌝ }
-    ensures { λ r. ⌜ r ≡ ltb i (endAt (now (cat .entry)) (listing (now (cat .entry)) (now (tab .entry))) (p .0)) ⌝ }
-{
-    if count(tab) <= i {
-        return false;
-    }
-    let t = code_at(cat, tab, size, CellNumber(i));
-    let u = code_at(cat, tab, size, p);
-    is_beneath(cat, t, u)
-}
-
 // GNP with an empty list: the next cell, if it is beneath p.
 fn get_next_cell_within(
     cat: &[u8],
@@ -253,8 +238,7 @@ pub fn get_next_within(
     }
     let t = last_of(cat, list).code;
     let from = after_place(place);
-    let to = run_end(cat, tab, size, p).0;
-    let Found::At(c) = first_match(cat, tab, size, list, t, from, to) else {
+    let Found::At(c) = first_beneath(cat, tab, size, list, t, p, from) else {
         return missed(Status::GE, pos);
     };
     let s = Status::Blank;

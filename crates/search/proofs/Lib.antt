@@ -4,3 +4,4 @@ pub mod Levels
 pub mod Fields
 pub mod Branches
 pub mod Climb
+pub mod Within

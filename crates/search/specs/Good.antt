@@ -14,7 +14,7 @@ use Rattle.terms.specs.Choice.{pick}
 use Rattle.forest.specs.Numbers.{ancestors}
 use Rattle.rules.specs.Block.{Bytes}
 use Rattle.rules.specs.Catalogue.{types, goodCatalogue}
-use Rattle.rules.specs.Cells.{Segment, segment, levelAt}
+use Rattle.rules.specs.Cells.{Segment, segment, levelAt, endAt}
 use Rattle.rules.specs.Table.{count, listing, goodTable}
 use Rattle.rules.specs.Arguments.{Level, listRead}
 use Rattle.rules.specs.Matching.{pathTo, firstMatch, keptOn}
@@ -44,6 +44,13 @@ pub record NextRoot (cs : List Segment) (from to r : ℕ) : Type 0 where
   pub least : from ≤ r
   pub most : r ≤ to
   pub others : (j : ℕ) → from ≤ j → j < r → segment cs j .code .0 ≡ 1 → ⊥
+
+-- where a search beneath cell p for a list that is not empty begins: behind p, and where p's run comes up to at least
+pub record Beneath (cat tab : Bytes) (t : TypeCode) (p from : ℕ) : Type 0 where
+  pub some : 0 < t .0
+  pub cell : p < count tab
+  pub later : p < from
+  pub most : from ≤ endAt cat (listing cat tab) p
 
 -- the lower of what two stretches keep, p below q
 abbrev pub lower : Found → Found → Found

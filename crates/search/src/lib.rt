@@ -4,6 +4,7 @@ use terms::Found;
 
 pub mod agree;
 pub mod along;
+pub mod beneath;
 pub mod forward;
 pub mod stretch;
 

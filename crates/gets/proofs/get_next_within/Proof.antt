@@ -1,16 +1,15 @@
-use mathlib.Core.Path.{_≡_, ap, sym, _∙_}
+use mathlib.Core.Path.{refl, ap, sym, _∙_}
 use native.Mathlib.Omega.{arith}
-use Prim.Native.Nat.{ℕ}
 use Rattle.answers.specs.Ready.{left}
 use Rattle.terms.specs.declared.Answer.{Answer}
 use Rattle.terms.specs.declared.Argument.{Argument}
 use Rattle.terms.specs.declared.Status.the-variants.{Blank}
 use Rattle.rules.specs.Table.{listing}
 use Rattle.rules.specs.Arguments.{complete, listRead}
-use Rattle.rules.proofs.Cells.{listing-length}
-use Rattle.cells.proofs.Located.{end-within}
+use Rattle.rules.specs.Cells.{endAt}
+use Rattle.search.proofs.Branches.{end-in}
 use Rattle.gets.proofs.Found.{after-in, first-in, parent-in}
-use Rattle.gets.proofs.Gotten.{search-good, within-found, within-missed, absent-not, status-named}
+use Rattle.gets.proofs.Gotten.{search-good, search-beneath, within-found, within-missed, absent-not, status-named}
 use borrow.Author.Needs.{needs}
 use Rattle.gets.proofs.get_next_within.Statement.{statement}
 use Rattle.gets.proofs.get_next_within.Tie as tie
@@ -60,41 +59,16 @@ after-place-requires c κs =
       c .before .before .before .before .before .before .before .before .before .before .pre .0 .sound .sized .few,
     )
 
--- src/lib.rt: let to = run_end(cat, tab, size, p).0;
-run-end-requires : tie.Need-run-end-requires
-run-end-requires c κs =
+-- src/lib.rt: let Found::At(c) = first_beneath(cat, tab, size, list, t, p, from) else {
+first-beneath-requires : tie.Need-first-beneath-requires
+first-beneath-requires c κs =
     let ·pre = c .before .before .before .before .before .before .before .before .before .before .before .pre in
-    let ·args = c .before .before .before .before .before .before .before .before .before .before .before .args in
+    let ·last-of = c .before .before .last-of in let ·if1 = c .before .before .before .if1 in
     let ·parentage = c .before .before .before .before .before .parentage in (
-      ·pre .0 .sound,
-      parent-in (·args .cat .now) (·args .tab .now) (·args .pos) (·pre .0 .position)
-          (·parentage .given .0 .0) (·parentage .given .1),
-    )
-
--- src/lib.rt: let Found::At(c) = first_match(cat, tab, size, list, t, from, to) else {
-first-match-requires : tie.Need-first-match-requires
-first-match-requires c κs =
-    let ·args = c .before .before .before .before .before .before .before .before .before .before .before .before .args
-    in (
-      search-good (c .before .before .before .before .before .before .before .before .before .before .before .before .pre
-          .0) (c .before .before .before .last-of .result .code)
-          (ap (λ (a : Argument). a .code) (c .before .before .before .last-of .ensures)),
-      omega (
-        arith,
-        c .run-end .ensures,
-        listing-length (·args .cat .now) (·args .tab .now),
-        end-within (·args .cat .now)
-            (listing (·args .cat .now) (·args .tab .now))
-            (c .before .before .before .before .before .before .parentage .given .0 .0 .0)
-            (omega (
-              arith,
-              listing-length (·args .cat .now) (·args .tab .now),
-              parent-in (·args .cat .now) (·args .tab .now)
-                  (·args .pos) (c .before .before .before .before .before .before .before .before .before .before .before .before .pre
-                  .0 .position) (c .before .before .before .before .before .before .parentage .given .0 .0)
-                  (c .before .before .before .before .before .before .parentage .given .1),
-            )),
-      ),
+      search-good (·pre .0) (·last-of .result .code) (ap (λ (a : Argument). a .code) (·last-of .ensures)),
+      search-beneath
+          (·pre .0) (·last-of .result .code) (ap (λ (a : Argument). a .code) (·last-of .ensures)) (·if1 .left)
+          (·parentage .given .0 .0) (·parentage .given .1) (c .after-place .result) (c .after-place .ensures),
     )
 
 -- src/lib.rt: let Found::At(c) = first_match(cat, tab, size, list, t, from, to) else {
@@ -113,49 +87,48 @@ missed-requires-2 c κs = search needs
 returns-3 : tie.Need-returns-3
 returns-3 c =
     let ·args = c .before .before .before .before .before .before .before .before .before .before .before .before
-    .before .before .before .before .args in
+    .before .before .before .args in
     let ·pre = c .before .before .before .before .before .before .before .before .before .before .before .before .before
-    .before .before .before .pre in let ·last-of = c .before .before .before .before .before .before .before .last-of in
-    let ·first-match = c .before .before .before .first-match in
-    let ·after-place = c .before .before .before .before .before .after-place in
-    let ·run-end = c .before .before .before .before .run-end in
-    let ·parentage = c .before .before .before .before .before .before .before .before .before .before .parentage in
+    .before .before .pre in let ·last-of = c .before .before .before .before .before .before .last-of in
+    let ·first-beneath = c .before .before .before .first-beneath in
+    let ·after-place = c .before .before .before .before .after-place in
+    let ·parentage = c .before .before .before .before .before .before .before .before .before .parentage in
     ap (λ (r : Answer). left r (·args .area .now)) (c .missed2 .ensures) ∙ within-missed (·pre .0) (·args .area .now)
-    (·args .hold) (·last-of .result .code) (·first-match .result) (ap (λ (a : Argument). a .code) (·last-of .ensures))
-    (·after-place .result) (·after-place .ensures) (·run-end .result .0) (·first-match .ensures)
-    (·parentage .given .0 .0) (·parentage .given .1) (·run-end .ensures) (c .before .enum-told2 .given .1)
+    (·args .hold) (·last-of .result .code) (·first-beneath .result) (ap (λ (a : Argument). a .code) (·last-of .ensures))
+    (·after-place .result) (·after-place .ensures) _ (·first-beneath .ensures) (·parentage .given .0 .0)
+    (·parentage .given .1) refl (c .before .enum-told2 .given .1)
 
 -- src/lib.rt: got(cat, tab, size, c, s, parentage, hold, pos, area)
 got-requires : tie.Need-got-requires
 got-requires c κs =
     let ·args = c .before .before .before .before .before .before .before .before .before .before .before .before
-    .before .before .before .before .before .args in (
+    .before .before .before .before .args in (
       c .before .before .before .before .before .before .before .before .before .before .before .before .before .before
-          .before .before .before .pre .0 .sound,
+          .before .before .pre .0 .sound,
       omega (
         arith,
-        first-in (·args .cat .now) (listing (·args .cat .now) (·args .tab .now))
+        first-in (·args .cat .now)
+            (listing (·args .cat .now) (·args .tab .now))
             (complete (·args .cat .now) (·args .list .now) (listRead (·args .cat .now) (·args .list .now) .arguments)
-            (c .before .before .before .before .before .before .before .before .last-of .result .code))
-            (c .before .before .before .before .before .before .after-place .result)
-            (c .before .before .before .before .before .run-end .result .0) (c .before .before .c .given .0 .0)
-            (sym (c .before .before .before .before .first-match .ensures) ∙ c .before .before .c .given .1),
-        c .before .before .before .before .before .run-end .ensures,
-        listing-length (·args .cat .now) (·args .tab .now),
-        end-within (·args .cat .now) (listing (·args .cat .now) (·args .tab .now))
-            (c .before .before .before .before .before .before .before .before .before .before .before .parentage .given .0 .0
-            .0) (omega (
-              arith,
-              listing-length (·args .cat .now) (·args .tab .now),
-              parent-in (·args .cat .now) (·args .tab .now)
-                  (·args .pos) (c .before .before .before .before .before .before .before .before .before .before .before .before
-                  .before .before .before .before .before .pre .0 .position)
-                  (c .before .before .before .before .before .before .before .before .before .before .before .parentage .given .0 .0)
-                  (c .before .before .before .before .before .before .before .before .before .before .before .parentage .given .1),
-            )),
+            (c .before .before .before .before .before .before .before .last-of .result .code))
+            (c .before .before .before .before .before .after-place .result)
+            (endAt (·args .cat .now) (listing (·args .cat .now) (·args .tab .now))
+            (c .before .before .before .before .before .before .before .before .before .before .parentage .given .0 .0 .0))
+            (c .before .before .c .given .0 .0) (sym (c .before .before .before .before .first-beneath .ensures) ∙
+            c .before .before .c .given .1),
+        end-in (search-good
+            (c .before .before .before .before .before .before .before .before .before .before .before .before .before .before
+            .before .before .pre .0) (c .before .before .before .before .before .before .before .last-of .result .code)
+            (ap (λ (a : Argument). a .code) (c .before .before .before .before .before .before .before .last-of .ensures)))
+            (c .before .before .before .before .before .before .before .before .before .before .parentage .given .0 .0 .0)
+            (parent-in (·args .cat .now) (·args .tab .now) (·args .pos)
+            (c .before .before .before .before .before .before .before .before .before .before .before .before .before .before
+            .before .before .pre .0 .position) (c .before .before .before .before .before .before .before .before .before
+            .before .parentage .given .0 .0) (c .before .before .before .before .before .before .before .before .before .before
+            .parentage .given .1)),
       ),
-      c .before .before .before .before .before .before .before .before .before .before .before .before .before .before
-          .before .before .before .pre .1,
+      c .before .before .before .before .before .before .before .before .before .before .before
+          .before .before .before .before .before .pre .1,
     )
 
 -- src/lib.rt: pub fn get_next_within(
@@ -166,21 +139,19 @@ same-length-2 c = search needs
 returns-4 : tie.Need-returns-4
 returns-4 c = let ·got = c .before .before .got in
     let ·pre = c .before .before .before .before .before .before .before .before .before .before .before .before .before
-    .before .before .before .before .before .before .before .pre in
+    .before .before .before .before .before .before .pre in
     let ·args = c .before .before .before .before .before .before .before .before .before .before .before .before
-    .before .before .before .before .before .before .before .before .args in
-    let ·last-of = c .before .before .before .before .before .before .before .before .before .before .before .last-of in
-    let ·first-match = c .before .before .before .before .before .before .before .first-match in
-    let ·after-place = c .before .before .before .before .before .before .before .before .before .after-place in
-    let ·run-end = c .before .before .before .before .before .before .before .before .run-end in
+    .before .before .before .before .before .before .before .args in
+    let ·last-of = c .before .before .before .before .before .before .before .before .before .before .last-of in
+    let ·first-beneath = c .before .before .before .before .before .before .before .first-beneath in
+    let ·after-place = c .before .before .before .before .before .before .before .before .after-place in
     let ·parentage = c .before .before .before .before .before .before .before .before .before .before .before .before
-    .before .before .parentage in let ·c = c .before .before .before .before .before .c in
-    let ·if1 = c .before .before .before .before .before .before .before .before .before .before .before .before .if1 in
+    .before .parentage in let ·c = c .before .before .before .before .before .c in
+    let ·if1 = c .before .before .before .before .before .before .before .before .before .before .before .if1 in
     ·got .ensures ∙ within-found (·pre .0) (·args .area .now) (·args .hold) (·last-of .result .code)
-    (·first-match .result) (ap (λ (a : Argument). a .code) (·last-of .ensures)) (·after-place .result)
-    (·after-place .ensures) (·run-end .result .0) (·first-match .ensures) (·parentage .given .0 .0) (·c .given .0 .0)
-    Blank (·parentage .given .1) (·run-end .ensures) (·c .given .1)
-    (status-named (·pre .0) (·c .given .0 .0 .0) (·if1 .left))
+    (·first-beneath .result) (ap (λ (a : Argument). a .code) (·last-of .ensures)) (·after-place .result)
+    (·after-place .ensures) _ (·first-beneath .ensures) (·parentage .given .0 .0) (·c .given .0 .0) Blank
+    (·parentage .given .1) refl (·c .given .1) (status-named (·pre .0) (·c .given .0 .0 .0) (·if1 .left))
 
 pub get-next-within-spec : {M : Type 1} → statement M
 get-next-within-spec =
@@ -195,8 +166,7 @@ get-next-within-spec =
     returns-2
     last-of-requires
     after-place-requires
-    run-end-requires
-    first-match-requires
+    first-beneath-requires
     enum-known-c
     enum-told-2
     missed-requires-2

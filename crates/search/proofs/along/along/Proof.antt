@@ -5,21 +5,27 @@ use borrow.Author.Needs.{needs}
 use Rattle.search.proofs.along.along.Statement.{statement}
 use Rattle.search.proofs.along.along.Tie as tie
 
+-- src/along.rt: let Found::At(c) = kept(cat, tab, size, list, t, place) else {
 kept-requires : tie.Need-kept-requires
 kept-requires c κs = search needs
 
+-- src/along.rt: let Found::At(c) = kept(cat, tab, size, list, t, place) else {
 enum-known-c : tie.Need-enum-known-c
 enum-known-c c = search needs
 
+-- src/along.rt: return first_match(cat, tab, size, list, t, 0, count(tab));
 enum-told : tie.Need-enum-told
 enum-told c = search needs
 
+-- src/along.rt: return first_match(cat, tab, size, list, t, 0, count(tab));
 count-requires : tie.Need-count-requires
 count-requires c κs = search needs
 
+-- src/along.rt: return first_match(cat, tab, size, list, t, 0, count(tab));
 first-match-requires : tie.Need-first-match-requires
 first-match-requires c κs = search needs
 
+-- src/along.rt: return first_match(cat, tab, size, list, t, 0, count(tab));
 returns : tie.Need-returns
 returns c = let ·pre = c .before .before .before .before .before .before .before .before .pre in
     let ·args = c .before .before .before .before .before .before .before .before .args in
@@ -27,15 +33,18 @@ returns c = let ·pre = c .before .before .before .before .before .before .befor
     c .first-match .ensures ∙ along-none (·pre .0) (·args .place) (c .before .count .result)
     (c .before .count .ensures .0) (sym (·enum-told .given .1) ∙ ·kept .ensures)
 
+-- src/along.rt: let l = level_at(cat, tab, size, c);
 level-at-requires : tie.Need-level-at-requires
 level-at-requires c κs = let ·pre = c .before .before .before .before .before .before .before .pre in
     let ·args = c .before .before .before .before .before .before .before .args in
     let ·kept = c .before .before .before .kept in
     (·pre .0 .sized, kept-place (·pre .0) (·args .place) _ (·pre .1) (sym (c .before .c .given .1) ∙ ·kept .ensures) .0)
 
+-- src/along.rt: if l == level(cat, t) {
 level-requires : tie.Need-level-requires
 level-requires c κs = search needs
 
+-- src/along.rt: return Found::At(c);
 returns-2 : tie.Need-returns-2
 returns-2 c = let ·pre = c .before .before .before .before .before .before .before .before .before .before .pre in
     let ·args = c .before .before .before .before .before .before .before .before .before .before .args in
@@ -44,6 +53,7 @@ returns-2 c = let ·pre = c .before .before .before .before .before .before .bef
     along-here (·pre .0) (·args .place) _ (·level-at .result) (sym (·c .given .1) ∙ ·kept .ensures) (·level-at .ensures)
     (c .if1 .taken ∙ c .before .level .ensures)
 
+-- src/along.rt: let end = run_end(cat, tab, size, c);
 run-end-requires : tie.Need-run-end-requires
 run-end-requires c κs =
     let ·pre = c .before .before .before .before .before .before .before .before .before .before .pre in
@@ -55,6 +65,7 @@ run-end-requires c κs =
           (·args .place) _ (·pre .1) (sym (·c .given .1) ∙ ·kept .ensures) .0,
     )
 
+-- src/along.rt: forward(cat, tab, size, list, t, l, i + 1, end.0)
 add-forward : tie.Need-add-forward
 add-forward c =
     let ·args = c .before .before .before .before .before .before .before .before .before .before .before .args in
@@ -67,6 +78,7 @@ add-forward c =
       c .before .before .before .before .before .before .before .before .before .before .before .pre .0 .sized .few,
     )
 
+-- src/along.rt: forward(cat, tab, size, list, t, l, i + 1, end.0)
 forward-requires : tie.Need-forward-requires
 forward-requires c κs =
     let ·args = c .before .before .before .before .before .before .before .before .before .before .before .args in
@@ -88,6 +100,7 @@ forward-requires c κs =
           (c .before .before .before .level-at .result) w (c .before .before .before .level-at .ensures),
     ))
 
+-- src/along.rt: pub fn along(cat: &[u8], tab: &[u8], size: usize, list: &[u8], t: TypeCode, place: Place) -> Found
 returns-3 : tie.Need-returns-3
 returns-3 c =
     let ·pre = c .before .before .before .before .before .before .before .before .before .before .before .before .pre in

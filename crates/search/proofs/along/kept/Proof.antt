@@ -3,20 +3,25 @@ use borrow.Author.Needs.{needs}
 use Rattle.search.proofs.along.kept.Statement.{statement}
 use Rattle.search.proofs.along.kept.Tie as tie
 
+-- src/along.rt: let Place::On(c) = place else {
 enum-known-place : tie.Need-enum-known-place
 enum-known-place c = search needs
 
+-- src/along.rt: return Found::Nothing;
 enum-told : tie.Need-enum-told
 enum-told c = search needs
 
+-- src/along.rt: return Found::Nothing;
 returns : tie.Need-returns
 returns c = search needs
 
+-- src/along.rt: let reached = path_to(cat, tab, size, list, t, c);
 path-to-requires : tie.Need-path-to-requires
 path-to-requires c κs = let ·pre = c .before .before .before .before .before .before .pre in
     let ·args = c .before .before .before .before .before .before .args in
     (·pre .0, on-cell (·pre .0) (·args .place) _ (·pre .1) (c .before .place .given .1))
 
+-- src/along.rt: fn kept(cat: &[u8], tab: &[u8], size: usize, list: &[u8], t: TypeCode, place: Place) -> Found
 returns-2 : tie.Need-returns-2
 returns-2 c = let ·pre = c .before .before .before .before .before .before .before .pre in
     let ·args = c .before .before .before .before .before .before .before .args in

@@ -4,26 +4,33 @@ use borrow.Author.Needs.{needs}
 use Rattle.search.proofs.forward.first_match.Statement.{statement}
 use Rattle.search.proofs.forward.first_match.Tie as tie
 
+-- src/forward.rt: return Found::Nothing;
 returns : tie.Need-returns
 returns c = first-none _ _ _ _ _ (c .if1 .taken)
 
+-- src/forward.rt: return Found::At(CellNumber(from));
 returns-2 : tie.Need-returns-2
 returns-2 c = let ·pre = c .before .before .before .before .before .before .pre in
     let ·args = c .before .before .before .before .before .before .args in let ·if1 = c .before .before .if1 in
     all-match (·pre .0) (·args .from) (·args .to) (c .if2 .taken) (·if1 .left)
 
+-- src/forward.rt: return forward(cat, tab, size, list, t, 0, from, to);
 forward-requires : tie.Need-forward-requires
 forward-requires c κs = search needs
 
+-- src/forward.rt: return forward(cat, tab, size, list, t, 0, from, to);
 returns-3 : tie.Need-returns-3
 returns-3 c = search needs
 
+-- src/forward.rt: let before = path_to(cat, tab, size, list, t, CellNumber(from - 1));
 sub-t11 : tie.Need-sub-t11
 sub-t11 c = search needs
 
+-- src/forward.rt: let before = path_to(cat, tab, size, list, t, CellNumber(from - 1));
 path-to-requires : tie.Need-path-to-requires
 path-to-requires c κs = search needs
 
+-- src/forward.rt: forward(cat, tab, size, list, t, before.long, from, to)
 forward-requires-2 : tie.Need-forward-requires-2
 forward-requires-2 c κs = let ·args = c .before .before .before .before .before .before .before .before .args in (
   c .before .before .before .before .before .before .before .before .pre .0,
@@ -34,6 +41,7 @@ forward-requires-2 c κs = let ·args = c .before .before .before .before .befor
       (c .before .if3 .left) (c .path-to .ensures),
 )
 
+-- src/forward.rt: pub fn first_match(
 returns-4 : tie.Need-returns-4
 returns-4 c = search needs
 

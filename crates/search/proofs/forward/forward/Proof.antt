@@ -19,13 +19,16 @@ Inv-loop cat tab size list t k from to last long₀ i₀ long i =
 abbrev μ-loop : tie.MeasureT-loop
 μ-loop cat tab size list t k from to last long₀ i₀ long i = to - i
 
+-- src/forward.rt: let last = level(cat, t);
 level-requires : tie.Need-level-requires Inv-loop μ-loop
 level-requires c κs = search needs
 
+-- src/forward.rt: while i < to {
 loop-holds : tie.Need-loop-holds Inv-loop μ-loop
 loop-holds c = let ·pre = c .before .before .before .before .pre in
     (·pre .3, refl)
 
+-- src/forward.rt: i = upcoming(cat, tab, size, list, t, long, i, to);
 upcoming-requires : tie.Need-upcoming-requires Inv-loop μ-loop
 upcoming-requires c κs = (
   c .before .before .before .before .before .before .pre .0,
@@ -36,10 +39,12 @@ upcoming-requires c κs = (
       (arith, c .loop-test .taken),
 )
 
+-- src/forward.rt: return Found::Nothing;
 returns : tie.Need-returns Inv-loop μ-loop
 returns c = let ·loop = c .before .before .before .loop in
     first-none _ _ _ _ _ (c .if1 .taken) ∙ c .before .upcoming .ensures .3 ∙ ·loop .inv .1
 
+-- src/forward.rt: let l = level_at(cat, tab, size, c);
 level-at-requires : tie.Need-level-at-requires Inv-loop μ-loop
 level-at-requires c κs = (
   c .before .before .before .before .before .before .before .before .pre .0 .sized,
@@ -47,6 +52,7 @@ level-at-requires c κs = (
       (arith, c .before .before .before .before .before .before .before .before .pre .2, c .if1 .left),
 )
 
+-- src/forward.rt: long = stretched(cat, tab, size, list, t, long, l, c);
 stretched-requires : tie.Need-stretched-requires Inv-loop μ-loop
 stretched-requires c κs = (
   c .before .before .before .before .before .before .before .before .before .pre .0,
@@ -62,6 +68,7 @@ stretched-requires c κs = (
       )) (c .before .before .upcoming .ensures .2),
 )
 
+-- src/forward.rt: return Found::At(c);
 returns-2 : tie.Need-returns-2 Inv-loop μ-loop
 returns-2 c =
     let ·pre = c .before .before .before .before .before .before .before .before .before .before .before .before .pre in
@@ -75,6 +82,7 @@ returns-2 c =
     (·if1 .left) (·pre .2) (·pre .1) (·level-at .ensures) (·stretched .ensures) (·level .ensures)
     (c .before .if2 .taken) (c .if3 .taken) ∙ ·upcoming .ensures .3 ∙ ·loop .inv .1
 
+-- src/forward.rt: i += 1;
 add-i : tie.Need-add-i Inv-loop μ-loop
 add-i c = omega (
   arith,
@@ -83,6 +91,7 @@ add-i c = omega (
   c .before .before .before .if1 .left,
 )
 
+-- src/forward.rt: while i < to {
 loop-less : tie.Need-loop-less Inv-loop μ-loop
 loop-less c = omega (
   arith,
@@ -90,6 +99,7 @@ loop-less c = omega (
   c .before .before .before .if1 .left,
 )
 
+-- src/forward.rt: while i < to {
 loop-again : tie.Need-loop-again Inv-loop μ-loop
 loop-again c =
     let ·pre = c .before .before .before .before .before .before .before .before .before .before .before .pre in
@@ -104,6 +114,7 @@ loop-again c =
           (⊎-elim (λ w a b. w .1 .left b) (λ w a b. w .left a) (c .if2 .came)) ∙ ·upcoming .ensures .3 ∙ ·loop .inv .1,
     )
 
+-- src/forward.rt: pub fn forward(
 returns-3 : tie.Need-returns-3 Inv-loop μ-loop
 returns-3 c = first-none _ _ _ _ _ (c .loop-test .left) ∙ c .before .loop .inv .1
 

@@ -1,33 +1,33 @@
-use Rattle.gets.proofs.Gotten.{within-none, within-type}
+use Rattle.search.proofs.Within.{within-none, within-type}
 use native.Mathlib.Omega.{arith}
 use borrow.Author.Needs.{needs}
-use Rattle.gets.proofs.is_within.Statement.{statement}
-use Rattle.gets.proofs.is_within.Tie as tie
+use Rattle.search.proofs.beneath.is_within.Statement.{statement}
+use Rattle.search.proofs.beneath.is_within.Tie as tie
 
--- src/lib.rt: if count(tab) <= i {
+-- src/beneath.rt: if count(tab) <= i {
 count-requires : tie.Need-count-requires
 count-requires c κs = search needs
 
--- src/lib.rt: return false;
+-- src/beneath.rt: return false;
 returns : tie.Need-returns
 returns c = let ·args = c .before .before .before .before .args in
     within-none (c .before .before .before .before .pre .0) (·args .p .0) (·args .i)
     (c .before .before .before .before .pre .1) (c .before .before .before .before .pre .2)
     (c .before .before .before .before .pre .3) (omega (arith, c .if1 .taken, c .before .count .ensures .0))
 
--- src/lib.rt: let t = code_at(cat, tab, size, CellNumber(i));
+-- src/beneath.rt: let t = code_at(cat, tab, size, CellNumber(i));
 code-at-requires : tie.Need-code-at-requires
 code-at-requires c κs = search needs
 
--- src/lib.rt: let u = code_at(cat, tab, size, p);
+-- src/beneath.rt: let u = code_at(cat, tab, size, p);
 code-at-requires-2 : tie.Need-code-at-requires-2
 code-at-requires-2 c κs = search needs
 
--- src/lib.rt: is_beneath(cat, t, u)
+-- src/beneath.rt: is_beneath(cat, t, u)
 is-beneath-requires : tie.Need-is-beneath-requires
 is-beneath-requires c κs = search needs
 
--- src/lib.rt: fn is_within(cat: &[u8], tab: &[u8], size: usize, p: CellNumber, i: usize) -> bool
+-- src/beneath.rt: pub fn is_within(cat: &[u8], tab: &[u8], size: usize, p: CellNumber, i: usize) -> bool
 returns-2 : tie.Need-returns-2
 returns-2 c = let ·args = c .before .before .before .before .before .before .before .args in
     within-type (c .before .before .before .before .before .before .before .pre .0) (·args .p .0) (·args .i)

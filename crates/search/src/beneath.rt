@@ -1,0 +1,88 @@
+// "Beneath p": in a good table a cell's type tells whether p's run has come to its end, so that the end is not sought.
+use crate::stretch::path_to;
+use crate::stretch::stretched;
+use catalogue::lineage::is_beneath;
+use catalogue::lineage::level;
+use cells::lookup::code_at;
+use cells::lookup::count;
+use cells::lookup::level_at;
+use terms::CellNumber;
+use terms::Found;
+use terms::TypeCode;
+ghost use mathlib.Core.Path.{_≡_};
+ghost use Prim.Native.Nat.{_≤_, _<_};
+ghost use lib.Dec.{ltb};
+ghost use Rattle.rules.specs.Cells.{endAt};
+ghost use Rattle.rules.specs.Matching.{firstMatch};
+ghost use Rattle.rules.specs.Table.{count, listing};
+ghost use Rattle.cells.specs.Sound.{Sound};
+ghost use Rattle.search.specs.Good.{Good, Beneath};
+ghost use Rattle.search.specs.Stretch.{levels, stretchBefore};
+
+// Whether cell i lies in p's run, which comes up to it at least.
+pub fn is_within(cat: &[u8], tab: &[u8], size: usize, p: CellNumber, i: usize) -> bool
+    requires { ⌜ Sound (now cat) (now tab) size × (p .0 < i) × (i ≤ endAt (now cat) (listing (now cat) (now tab)) (p .0)) × (p .0 < count (now tab)) ⌝ }
+    ensures { λ r. ⌜ r ≡ ltb i (endAt (now (cat .entry)) (listing (now (cat .entry)) (now (tab .entry))) (p .0)) ⌝ }
+{
+    if count(tab) <= i {
+        return false;
+    }
+    let t = code_at(cat, tab, size, CellNumber(i));
+    let u = code_at(cat, tab, size, p);
+    is_beneath(cat, t, u)
+}
+
+// The first match from cell `from` on that lies beneath p; k is the stretch of the cell before.
+fn forward_beneath(
+    cat: &[u8],
+    tab: &[u8],
+    size: usize,
+    list: &[u8],
+    t: TypeCode,
+    p: CellNumber,
+    k: u8,
+    from: usize,
+) -> Found
+    requires { ⌜ Good (now cat) (now tab) (now list) size t × Beneath (now cat) (now tab) t (p .0) from
+        × (k ≡ stretchBefore (now cat) (listing (now cat) (now tab)) (levels (now cat) (now list) t) from) ⌝ }
+    ensures { λ r. ⌜ r ≡ firstMatch (now (cat .entry)) (listing (now (cat .entry)) (now (tab .entry)))
+        (levels (now (cat .entry)) (now (list .entry)) t) from (endAt (now (cat .entry)) (listing (now (cat .entry)) (now (tab .entry))) (p .0)) ⌝ }
+{
+    let last = level(cat, t);
+    let top = count(tab);
+    let mut long = k;
+    let mut i = from;
+    while i < top {
+        if !is_within(cat, tab, size, p, i) {
+            return Found::Nothing;
+        }
+        let c = CellNumber(i);
+        let l = level_at(cat, tab, size, c);
+        long = stretched(cat, tab, size, list, t, long, l, c);
+        if l == last {
+            if long == last {
+                return Found::At(c);
+            }
+        }
+        i += 1;
+    }
+    Found::Nothing
+}
+
+// The same from any cell behind p: it climbs once, for the cell before.
+pub fn first_beneath(
+    cat: &[u8],
+    tab: &[u8],
+    size: usize,
+    list: &[u8],
+    t: TypeCode,
+    p: CellNumber,
+    from: usize,
+) -> Found
+    requires { ⌜ Good (now cat) (now tab) (now list) size t × Beneath (now cat) (now tab) t (p .0) from ⌝ }
+    ensures { λ r. ⌜ r ≡ firstMatch (now (cat .entry)) (listing (now (cat .entry)) (now (tab .entry)))
+        (levels (now (cat .entry)) (now (list .entry)) t) from (endAt (now (cat .entry)) (listing (now (cat .entry)) (now (tab .entry))) (p .0)) ⌝ }
+{
+    let before = path_to(cat, tab, size, list, t, CellNumber(from - 1));
+    forward_beneath(cat, tab, size, list, t, p, before.long, from)
+}
