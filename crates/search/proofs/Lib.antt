@@ -5,3 +5,4 @@ pub mod Fields
 pub mod Branches
 pub mod Climb
 pub mod Within
+pub mod Plain

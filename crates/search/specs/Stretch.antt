@@ -1,14 +1,16 @@
 -- The one number that a search carries: how far down its path a cell agrees with a completed list. Assumes nothing: these are definitions.
 use mathlib.Core.Path.{_≡_}
-use mathlib.Core.Bool.{Bool, _&&_}
+use mathlib.Core.Bool.{Bool, true, false, _&&_}
 use mathlib.Core.List.{List, reverse}
 use Prim.Native.Nat.{ℕ, zero, suc, _≤_, _<_}
+use lib.Dec.{eqb}
 use Rattle.terms.specs.declared.TypeCode.{TypeCode}
+use Rattle.terms.specs.Names.{code}
 use Rattle.forest.specs.Numbers.{ancestors, isIn}
-use Rattle.rules.specs.Block.{Bytes}
-use Rattle.rules.specs.Catalogue.{lineage}
+use Rattle.rules.specs.Block.{Bytes, every}
+use Rattle.rules.specs.Catalogue.{parentOf, lineage}
 use Rattle.rules.specs.Cells.{Segment, levelAt}
-use Rattle.rules.specs.Arguments.{Level, listRead, askedOf, complete}
+use Rattle.rules.specs.Arguments.{Asked, implied, unqualified, qualified, Level, listRead, askedOf, complete}
 use Rattle.rules.specs.Matching.{satisfies, isImplied, pathTo}
 use Rattle.rules.specs.Tree.{tryPath}
 
@@ -16,7 +18,17 @@ use Rattle.rules.specs.Tree.{tryPath}
 abbrev pub isLeftOut : Bytes → Bytes → TypeCode → Bool
 isLeftOut cat list u = isImplied (askedOf cat list (listRead cat list .arguments) u)
 
+-- nothing is tested: every segment satisfies it
+abbrev pub isPlain : Asked → Bool
+isPlain implied = true
+isPlain unqualified = true
+isPlain (qualified o f v) = false
+
 module _ (cat list : Bytes) (t : TypeCode) where
+  -- the list tests nothing of the types above t: a segment's own type and bytes tell whether it matches
+  unfoldable pub plainAbove : Bool
+  plainAbove = every (λ u. isPlain (askedOf cat list (listRead cat list .arguments) (code u))) (lineage cat (parentOf cat t))
+
   -- the list, completed down to type t; no levels, for no type
   abbrev pub levels : List Level
   levels = complete cat list (listRead cat list .arguments) t
@@ -24,6 +36,10 @@ module _ (cat list : Bytes) (t : TypeCode) where
   -- a segment agrees with the level of its own type, by itself: no level has to be counted
   unfoldable pub agreesAlone : Segment → Bool
   agreesAlone s = isIn (s .code .0) (lineage cat t) && satisfies cat s (askedOf cat list (listRead cat list .arguments) (s .code))
+
+  -- a segment has type t and satisfies what the list asks of it: for such a list it matches
+  unfoldable pub matchesAlone : Segment → Bool
+  matchesAlone s = eqb (s .code .0) (t .0) && agreesAlone s
 
 module _ (cat : Bytes) (cs : List Segment) (ls : List Level) where
   -- "the longest stretch of the path from root to that cell which agrees in type and satisfies the completed list level by level"

@@ -1,4 +1,6 @@
 // "Beneath p": in a good table a cell's type tells whether p's run has come to its end, so that the end is not sought.
+use crate::alone::beneath_alone;
+use crate::alone::is_plain_above;
 use crate::stretch::path_to;
 use crate::stretch::stretched;
 use catalogue::lineage::is_beneath;
@@ -69,7 +71,7 @@ fn forward_beneath(
     Found::Nothing
 }
 
-// The same from any cell behind p: it climbs once, for the cell before.
+// The same from any cell behind p. Where the list tests a type above its last it climbs once, for the cell before.
 pub fn first_beneath(
     cat: &[u8],
     tab: &[u8],
@@ -83,6 +85,9 @@ pub fn first_beneath(
     ensures { λ r. ⌜ r ≡ firstMatch (now (cat .entry)) (listing (now (cat .entry)) (now (tab .entry)))
         (levels (now (cat .entry)) (now (list .entry)) t) from (endAt (now (cat .entry)) (listing (now (cat .entry)) (now (tab .entry))) (p .0)) ⌝ }
 {
+    if is_plain_above(cat, list, t) {
+        return beneath_alone(cat, tab, size, list, t, p, from);
+    }
     let before = path_to(cat, tab, size, list, t, CellNumber(from - 1));
     forward_beneath(cat, tab, size, list, t, p, before.long, from)
 }

@@ -1,4 +1,6 @@
 // The pass forward: "first match after the place", "beneath p".
+use crate::alone::forward_alone;
+use crate::alone::is_plain_above;
 use crate::stretch::path_to;
 use crate::stretch::stretched;
 use catalogue::lineage::level;
@@ -88,7 +90,7 @@ pub fn forward(
     Found::Nothing
 }
 
-// The same from any cell: it climbs once, for the cell before. "The empty list matches every segment."
+// The same from any cell. Where the list tests a type above its last it climbs once, for the cell before. "The empty list matches every segment."
 pub fn first_match(
     cat: &[u8],
     tab: &[u8],
@@ -107,6 +109,9 @@ pub fn first_match(
     }
     if t.0 == 0 {
         return Found::At(CellNumber(from));
+    }
+    if is_plain_above(cat, list, t) {
+        return forward_alone(cat, tab, size, list, t, from, to);
     }
     if from == 0 {
         return forward(cat, tab, size, list, t, 0, from, to);
