@@ -71,7 +71,7 @@ first-beneath-requires c κs =
           (·parentage .given .0 .0) (·parentage .given .1) (c .after-place .result) (c .after-place .ensures),
     )
 
--- src/lib.rt: let Found::At(c) = first_match(cat, tab, size, list, t, from, to) else {
+-- src/lib.rt: let Found::At(c) = first_beneath(cat, tab, size, list, t, p, from) else {
 enum-known-c : tie.Need-enum-known-c
 enum-known-c c = search needs
 
