@@ -16,12 +16,13 @@
 extern "C" {
 #endif
 
-/* The statuses, by number. Below 10 the call was done; 10 to 12 clear the hold and change nothing else; 20 and above change nothing. */
+/* The statuses, by number. Below 10 the call was done; 10 makes the position fresh, 11 and 12 clear the hold, and none of the three changes anything
+ * else; 20 and above change nothing. */
 enum umbristal_status {
     UMBRISTAL_BLANK = 0, /* done */
     UMBRISTAL_GA = 1,    /* get-next, empty list: the level found is smaller than the one left */
     UMBRISTAL_GK = 2,    /* the same level, another type */
-    UMBRISTAL_GB = 10,   /* get-next, empty list: no cell left */
+    UMBRISTAL_GB = 10,   /* get-next, empty list: no cell left; the next one begins at the first root */
     UMBRISTAL_GE = 11,   /* no match; ISRT without parent */
     UMBRISTAL_GP = 12,   /* get-next within parent: no parentage */
     UMBRISTAL_CX = 20,   /* bad catalogue */

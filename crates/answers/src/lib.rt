@@ -24,10 +24,13 @@ pub fn bare(s: Status, p: Position) -> Answer
     }
 }
 
-// "Status 10 to 12 clears the hold only"
+// GE and GP drop the hold only; after GB the position is fresh, so that get-next starts over.
 pub fn missed(s: Status, p: Position) -> Answer
     ensures { λ r. ⌜ r ≡ bare s (afterMiss s p) ⌝ }
 {
+    if number(s) == 10 {
+        return bare(s, Position::fresh());
+    }
     bare(s, p.hold_dropped())
 }
 

@@ -7,5 +7,6 @@ pub mod Results
 pub mod Stands
 pub mod Demand1
 pub mod Demand2
+pub mod StartsOver
 pub mod Demands
 pub mod Wrong

@@ -1,19 +1,19 @@
 -- DEMAND 1.
 --
 -- Every call on every input ends with a status of the table. Bad input is refused in a fixed order. A refusal of 20 or more changes no byte and no part of the
--- position; GB, GE and GP drop only the hold. So it is with the position's block of 8 bytes, where a caller lends one.
+-- position; GE and GP drop only the hold, GB makes the position fresh. So it is with the position's block of 8 bytes, where a caller lends one.
 --
 -- Assumes nothing: this is the statement, for all inputs, good or not; the proof is in proofs/.
 use mathlib.Core.Path.{_≡_}
 use mathlib.Core.Bool.{Bool, true, _&&_, _||_, not}
 use Prim.Native.Nat.{ℕ, _<_, _≤_}
 use lib.Dec.{leb}
-use lib.ListN.{set}
+use lib.ListN.{set, replicate}
 use Rattle.terms.specs.declared.Position.{Position}
 use Rattle.terms.specs.declared.Status.{Status}
 use Rattle.terms.specs.declared.Status.the-variants.{Blank, GA, GK, GB, GE, GP, CX, TX, PX, AD, AC, AJ, AK, AH, AB, DJ, DA, II, FX}
 use Rattle.terms.specs.Statuses.{number}
-use Rattle.terms.specs.Moves.{holdDropped}
+use Rattle.terms.specs.Moves.{fresh, holdDropped}
 use Rattle.forest.specs.Numbers.{isIn}
 use Rattle.forest.specs.Good.{isNil}
 use Rattle.rules.specs.Block.{Bytes}
@@ -64,15 +64,19 @@ pub record Answers (cat tab : Bytes) (pos : Position) (c : ℕ) (list area : Byt
   pub only : isGivenTo c list (o .answer .status) ≡ true
   -- 20 and above
   pub refusal : 20 ≤ number (o .answer .status) → Untouched tab area pos o
-  -- GB, GE and GP: 10, 11 and 12
-  pub miss : 10 ≤ number (o .answer .status) → number (o .answer .status) < 20 → Untouched tab area (holdDropped pos) o
+  -- GB, 10, makes the position fresh
+  pub over : number (o .answer .status) ≡ 10 → Untouched tab area fresh o
+  -- GE and GP, 11 and 12, drop only the hold
+  pub miss : 11 ≤ number (o .answer .status) → number (o .answer .status) < 20 → Untouched tab area (holdDropped pos) o
 
 -- what is asked of the block of 8 bytes, for a caller who lends the position as one: the bytes afterwards are blockAfter
 pub record AnswersBlock (block : Bytes) (o : Outcome) : Type 0 where
   -- 20 and above: not one byte changes
   pub refusal : 20 ≤ number (o .answer .status) → blockAfter block (o .answer) ≡ block
-  -- 10 to 12: byte 6, the hold, is 0, and no other changes
-  pub miss : 10 ≤ number (o .answer .status) → number (o .answer .status) < 20 → blockAfter block (o .answer) ≡ set block 6 0
+  -- 10: eight zeros
+  pub over : number (o .answer .status) ≡ 10 → blockAfter block (o .answer) ≡ replicate 8 0
+  -- 11 and 12: byte 6, the hold, is 0, and no other changes
+  pub miss : 11 ≤ number (o .answer .status) → number (o .answer .status) < 20 → blockAfter block (o .answer) ≡ set block 6 0
 
 -- asked of a store
 pub record Demand1 (store : Store) : Type 0 where

@@ -1,4 +1,5 @@
--- The position afterwards, row by row: for each of the nine calls and each way it can end, what document 01 says of the place, the parentage and the hold.
+-- The position afterwards, row by row: for each of the nine calls and each way it can end, what document 01, with request K2, says of the place, the
+-- parentage and the hold.
 -- Nothing here is taken from what the calls make of a position (terms, Moves; rules, Calls and Paths). Assumes nothing: these are definitions.
 use mathlib.Core.Bool.{Bool, true, false, _&&_, not}
 use mathlib.Core.List.{[]}
@@ -27,12 +28,14 @@ pub data PlaceSaid : Type 0 where
   onFound : PlaceSaid
   onNew : PlaceSaid
   gapOfRun : PlaceSaid
+  atStart : PlaceSaid
 
 pub data ParentageSaid : Type 0 where
   parentageStays : ParentageSaid
   ofFound : ParentageSaid
   ifBeneath : ParentageSaid
   unlessInRun : ParentageSaid
+  noParentage : ParentageSaid
 
 pub data HoldSaid : Type 0 where
   holdStays : HoldSaid
@@ -71,8 +74,9 @@ abbrev pub rowAfter : ℕ → ℕ → PositionRow
 rowAfter c s =
     -- "20 and above changes nothing"
     pick (leb 20 s) (leaves placeStays parentageStays holdStays)
-    -- GB, GE, GP: "Status 10 to 12 clears the hold only"
-    (pick (eqb s 10) (leaves placeStays parentageStays noHold)
+    -- GB makes the position fresh (K2): "A fresh position is the start, no parentage, no hold."
+    (pick (eqb s 10) (leaves atStart noParentage noHold)
+    -- GE and GP clear the hold only
     (pick (eqb s 11) (leaves placeStays parentageStays noHold)
     (pick (eqb s 12) (leaves placeStays parentageStays noHold)
     (doneRow c))))
@@ -124,6 +128,7 @@ module _ (cat tab : Bytes) (pos : Position) (c : ℕ) (list area : Bytes) where
   placeSaid onFound = On (cell (foundCell (found cat tab pos c list area)))
   placeSaid onNew = On (cell newCell)
   placeSaid gapOfRun = Before (cell (numberOf (pos .place)))
+  placeSaid atStart = Before (cell 0)
 
   abbrev pub parentageSaid : ParentageSaid → Parentage
   parentageSaid parentageStays = pos .parentage
@@ -131,6 +136,7 @@ module _ (cat tab : Bytes) (pos : Position) (c : ℕ) (list area : Bytes) where
   parentageSaid ifBeneath =
       keptIf (λ p. not (root cat tab pos c list area) && newIsBeneath (parent cat tab pos c list area) p) (pos .parentage)
   parentageSaid unlessInRun = keptIf (λ p. not (inRun (numberOf (pos .place)) p)) (pos .parentage)
+  parentageSaid noParentage = Absent
 
   abbrev pub holdSaid : HoldSaid → Bool
   holdSaid holdStays = pos .hold

@@ -18,7 +18,7 @@ use Rattle.terms.specs.declared.Status.{Status}
 use Rattle.terms.specs.declared.Status.the-variants.{Blank, GE}
 use Rattle.terms.specs.declared.Found.{Found}
 use Rattle.terms.specs.Names.{cell}
-use Rattle.terms.specs.Moves.{afterPlace, movedOnto}
+use Rattle.terms.specs.Moves.{afterPlace, movedOnto, holdDropped}
 use Rattle.forest.specs.Forest.{inside, outside, side}
 use Rattle.forest.specs.Shape.{Levelled}
 use Rattle.rules.specs.Block.{Bytes}
@@ -27,9 +27,9 @@ use Rattle.rules.specs.Change.{nothing}
 use Rattle.rules.specs.Position.{goodPlace}
 use Rattle.rules.specs.Arguments.{Level}
 use Rattle.rules.specs.Matching.{pathTo, firstMatch, along}
-use Rattle.rules.specs.Calls.{After, missed, over, answerOf, gotten, missStatus, levelStatus, parentEnd, getUnique, getNext, getNextWithin}
-use Rattle.rules.specs.Paths.{Path, Standing, follows, beneath, movedTo, movedWithin, parentageOf, numbered}
-use Rattle.rules.specs.Tree.{select, dataPart, eval, evalAlong, stepStatus, retrieved, intGu, intGn, intGnp}
+use Rattle.rules.specs.Calls.{After, bare, afterMiss, over, answerOf, gotten, missStatus, levelStatus, parentEnd, getUnique, getNext, getNextWithin}
+use Rattle.rules.specs.Paths.{Path, Standing, follows, beneath, movedTo, movedWithin, letGo, parentageOf, numbered}
+use Rattle.rules.specs.Tree.{select, dataPart, eval, evalAlong, stepStatus, retrieved, ranOut, intGu, intGn, intGnp}
 use Rattle.rules.proofs.Cells.{row-run}
 use Rattle.rules.proofs.Paths.{end-path, prefix-row}
 use Rattle.rules.proofs.Tree.{Heads, missing, leading, first-found}
@@ -51,23 +51,31 @@ module _ (cat : Bytes) (cs : List Segment) (pos : Position) (area : Bytes) where
     area = over (shownBytes cat (segment cs i)) area;
   }
 
-  -- what a get makes of the first of its paths, and of the cell found
-  retrieved-agree : (miss : Status) (onP : Path → Status) (onC : ℕ → Status) (moved : Path → Standing) (parentage : ℕ → Parentage) (hold : Bool) (ls : List Level)
+  -- what a get makes of the first of its paths, and of the cell found; and of the position where there is none
+  retrieved-agree : (miss : Status) (unfound : Standing) → numbered unfound ≡ afterMiss miss pos → (onP : Path → Status) (onC : ℕ → Status) (moved : Path → Standing) (parentage : ℕ → Parentage) (hold : Bool) (ls : List Level)
       (ps : List Path) (f : Found) → Heads cat cs ls ps f → ((i : ℕ) → i < length cs → onP (pathTo cat cs i) ≡ onC i)
       → ((i : ℕ) → numbered (moved (pathTo cat cs i)) ≡ movedOnto i (parentage i) hold)
-      → retrieved cat cs here area miss onP moved ps ≡ gotten cat cs pos area miss onC parentage hold f
-  retrieved-agree miss onP onC moved parentage hold ls ps f h status onto = elim h [
+      → retrieved cat cs here area miss unfound onP moved ps ≡ gotten cat cs pos area miss onC parentage hold f
+  retrieved-agree miss unfound left onP onC moved parentage hold ls ps f h status onto = elim h [
     | missing a b ↦
-        ap (retrieved cat cs here area miss onP moved) a
-        ∙ ap (λ (p : Position). missed miss p area) (numbered-paths cat cs pos)
+        ap (retrieved cat cs here area miss unfound onP moved) a
+        ∙ ap (λ (p : Position). record { answer = bare miss p; change = nothing; cells = none; area = area }) left
         ∙ sym (ap (gotten cat cs pos area miss onC parentage hold) b)
     | leading i qs l m a b ↦
-        ap (retrieved cat cs here area miss onP moved) a
+        ap (retrieved cat cs here area miss unfound onP moved) a
         ∙ ap (λ (k : ℕ). shows (onP (pathTo cat cs i)) (numbered (moved (pathTo cat cs i))) k) (end-path cat cs i)
         ∙ ap (λ (s : Status). shows s (numbered (moved (pathTo cat cs i))) i) (status i l)
         ∙ ap (λ (p : Position). shows (onC i) p i) (onto i)
         ∙ sym (ap (gotten cat cs pos area miss onC parentage hold) b)
   ]
+
+  -- with a list the hold goes and nothing else; GN without one begins anew
+  let-go : numbered (letGo here) ≡ holdDropped pos
+  let-go = ap holdDropped (numbered-paths cat cs pos)
+
+  ran-out : (ls : List Level) → numbered (ranOut cat cs here area ls) ≡ afterMiss (missStatus ls) pos
+  ran-out [] = refl
+  ran-out (l ∷ ls) = let-go
 
   -- "GU and GN set the parentage to the found cell"; GNP: "The parentage stays."
   moved-both : (hold : Bool) (i : ℕ) → numbered (movedTo (pathTo cat cs i) hold) ≡ movedOnto i (Of (cell i)) hold
@@ -116,7 +124,7 @@ module _ (cat : Bytes) (cs : List Segment) (pos : Position) (area : Bytes) where
     pub unique-agree : (hold : Bool) (ls : List Level) → intGu cat cs here area hold ls ≡ getUnique cat cs pos area hold ls
     unfolding intGu getUnique
     unique-agree hold ls =
-        retrieved-agree GE (λ p. Blank) (λ i. Blank) (λ p. movedTo p hold) (λ i. Of (cell i)) hold ls
+        retrieved-agree GE (letGo here) let-go (λ p. Blank) (λ i. Blank) (λ p. movedTo p hold) (λ i. Of (cell i)) hold ls
         (evalAlong cat cs ls (placed cat cs (pos .place))) (along cat cs ls (pos .place)) (along-heads cat cs exact ls (pos .place) place)
         (λ i l. refl) (moved-both hold)
 
@@ -124,7 +132,7 @@ module _ (cat : Bytes) (cs : List Segment) (pos : Position) (area : Bytes) where
     pub next-agree : (hold : Bool) (ls : List Level) → intGn cat cs here area hold ls ≡ getNext cat cs pos area hold ls
     unfolding intGn getNext
     next-agree hold ls =
-        retrieved-agree (missStatus ls) (stepStatus cat cs ls (placed cat cs (pos .place))) (levelStatus cat cs ls (pos .place))
+        retrieved-agree (missStatus ls) (ranOut cat cs here area ls) (ran-out ls) (stepStatus cat cs ls (placed cat cs (pos .place))) (levelStatus cat cs ls (pos .place))
         (λ p. movedTo p hold) (λ i. Of (cell i)) hold ls
         (select (follows (placed cat cs (pos .place))) (eval cat cs ls)) (firstMatch cat cs ls (afterPlace (pos .place)) (length cs))
         (first-found cat cs ls (follows (placed cat cs (pos .place))) (afterPlace (pos .place)) (length cs) (omega arith) (next-takes (pos .place)))
@@ -135,7 +143,7 @@ module _ (cat : Bytes) (cs : List Segment) (pos : Position) (area : Bytes) where
         → intGnp cat cs here area hold ls ≡ getNextWithin cat cs pos area hold ls
     unfolding intGnp getNextWithin
     within-agree hold ls c p l h =
-        retrieved-agree GE (stepStatus cat cs ls (placed cat cs (pos .place))) (levelStatus cat cs ls (pos .place))
+        retrieved-agree GE (letGo here) let-go (stepStatus cat cs ls (placed cat cs (pos .place))) (levelStatus cat cs ls (pos .place))
         (λ x. movedWithin (here .parent) x hold) (λ i. pos .parentage) hold ls
         (select (λ x. follows (placed cat cs (pos .place)) x && beneath (parented cat cs (pos .parentage)) x) (eval cat cs ls))
         (firstMatch cat cs ls (afterPlace (pos .place)) (parentEnd cat cs (pos .parentage)))

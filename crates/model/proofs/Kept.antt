@@ -39,10 +39,11 @@ use Rattle.rules.specs.Position.{goodPlace, goodParentage, goodHold, goodPositi
 use Rattle.rules.specs.Arguments.{Level, complete, listRead, lastArgument, getLevels}
 use Rattle.rules.specs.Matching.{matches, seek, firstMatch, along}
 use Rattle.rules.specs.Change.{Change}
-use Rattle.rules.specs.Calls.{After, refused, missed, over, isOneOf, missStatus, levelStatus, parentEnd, answerOf, changed, keyTaken, gotten, getUnique, getNext, getNextWithin, inserted, insertAmong, insertUnder, insert, replaced, replacement, replace, deleted, delete, called}
+use Rattle.rules.specs.Calls.{After, refused, afterMiss, missed, over, isOneOf, missStatus, levelStatus, parentEnd, answerOf, changed, keyTaken, gotten, getUnique, getNext, getNextWithin, inserted, insertAmong, insertUnder, insert, replaced, replacement, replace, deleted, delete, called}
 use Rattle.rules.specs.Outcome.{isBlank, isIsrt, unsound, misused, stopped, unless, afterSound, afterCall, landed, outcomeOf, outcome}
 use Rattle.rules.proofs.Search.{seek-none, seek-here, seek-next}
 use Rattle.rules.proofs.Cells.{listing-length}
+use Rattle.rules.proofs.Positions.{no-hold, miss-good}
 use Rattle.encoding.specs.Determined.{IsBytes, All, Fits}
 use Rattle.encoding.proofs.Entries.{length-cell}
 use Rattle.encoding.proofs.Lists.{bytes-drop, bytes-append, all-take, all-drop, all-append, all-at}
@@ -62,10 +63,6 @@ sits-of : (cat : Bytes) (cs : List Segment) (pos : Position) → goodPlace cat c
     → goodPosition cat cs pos ≡ true
 unfolding goodPosition
 sits-of cat cs pos a b c = rw (a, b, c)
-
-no-hold : (cat : Bytes) (cs : List Segment) (q : Place) → goodHold cat cs q false ≡ true
-no-hold cat cs (On c) = refl
-no-hold cat cs (Before c) = refl
 
 -- where no level and no length changes, a parentage is as good as it was
 parentage-same : (cat : Bytes) (cs ds : List Segment) → levelAt cat ds ≡ levelAt cat cs → length ds ≡ length cs → (q : Place) (p : Parentage) → goodParentage cat ds q p ≡ goodParentage cat cs q p
@@ -150,9 +147,9 @@ module _ (cat : Bytes) (cs : List Segment) (m : ℕ) (area : Bytes) where
           formed = good;
           fits = whole;
           few = roomy;
-          sits = sits-of cat cs (holdDropped pos) (good-place cat cs pos here) (good-parentage cat cs pos here) (no-hold cat cs (pos .place));
+          sits = miss-good cat cs s pos here;
           counted = rw e;
-          near = near-place;
+          near = place-le cat cs (afterMiss s pos .place) (good-place cat cs (afterMiss s pos) (miss-good cat cs s pos here));
           front = refl;
           only = λ z. refl;
           long = refl;

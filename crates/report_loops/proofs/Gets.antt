@@ -32,16 +32,17 @@ use Rattle.rules.specs.Position.{goodPlace, goodParentage, goodHold, goodPositi
 use Rattle.rules.specs.Arguments.{Level, listRead, getLevels}
 use Rattle.rules.specs.Matching.{matches, seek, firstMatch}
 use Rattle.rules.specs.Change.{nothing}
-use Rattle.rules.specs.Calls.{answerOf, missed, over, missStatus, levelStatus, getNext, getNextWithin, called}
+use Rattle.rules.specs.Calls.{afterMiss, answerOf, missed, over, missStatus, levelStatus, getNext, getNextWithin, called}
 use Rattle.rules.specs.Outcome.{Outcome, unsound, misused, unless, afterSound, afterCall, landed, outcomeOf, outcome}
 use Rattle.rules.proofs.Search.{seek-none, seek-here, seek-next}
 use Rattle.rules.proofs.Cells.{listing-length, row-run}
+use Rattle.rules.proofs.Positions.{fresh-good, miss-good}
 use Rattle.cells.proofs.Located.{good-sound, end-after, end-within}
 use Rattle.cells.proofs.Ancestry.{sound-long}
 use Rattle.report_loops.specs.Loops.{State, promised, start, handedOn, sight}
 use Rattle.report_loops.specs.Demand3.{seenAt}
 use Rattle.report_loops.proofs.Hits.{Without}
-use Rattle.report_loops.proofs.Scan.{after, Seeks}
+use Rattle.report_loops.proofs.Scan.{after, left, Seeks}
 
 -- the search of the rules
 module _ (cat : Bytes) (cs : List Segment) (ls : List Level) where
@@ -80,20 +81,16 @@ miss-late : (ls : List Level) → leb 10 (number (missStatus ls)) ≡ true
 miss-late [] = refl
 miss-late (l ∷ ls) = refl
 
-module _ (cat : Bytes) (cs : List Segment) where
-  -- GE and GB leave a good position
-  dropped-good : (pos : Position) → goodPosition cat cs pos ≡ true → goodPosition cat cs (holdDropped pos) ≡ true
-  unfolding goodPosition
-  dropped-good pos e =
-      let a : (goodPlace cat cs (pos .place) && goodParentage cat cs (pos .place) (pos .parentage)) ≡ true =
-      both-left (goodPlace cat cs (pos .place) && goodParentage cat cs (pos .place) (pos .parentage)) (goodHold cat cs (pos .place) (pos .hold)) e in
-      rw (a, no-hold (pos .place))
-    where
-      no-hold : (q : Place) → goodHold cat cs q false ≡ true
-      no-hold (On c) = refl
-      no-hold (Before c) = refl
+-- GB goes back to the start, GE stays
+miss-left : (s : Status) (pos : Position) → afterPlace (afterMiss s pos .place) ≡ left s (afterPlace (pos .place))
+miss-left s pos = either (eqb (number s) 10)
+  where
+    either : (b : Bool) → afterPlace (pick b fresh (holdDropped pos) .place) ≡ pick b 0 (afterPlace (pos .place))
+    either true = refl
+    either false = refl
 
-  -- and so does a get that moved onto a cell in the run of its parentage
+module _ (cat : Bytes) (cs : List Segment) where
+  -- a get that moved onto a cell in the run of its parentage leaves a good position
   moved-good : (p j : ℕ) → p ≤ j → j < endAt cat cs p → j < length cs → goodPosition cat cs (movedOnto j (Of (cell p)) false) ≡ true
   unfolding goodPosition
   moved-good p j a b l = rw (lt-ltb j (length cs) l, row-run cat cs p j l, le-leb p j a, lt-ltb j (endAt cat cs p) b)
@@ -106,10 +103,6 @@ module _ (cat : Bytes) (cs : List Segment) where
       place-within : (q : Place) → goodPlace cat cs q ≡ true → afterPlace q ≤ length cs
       place-within (On c) h = ltb-true (c .0) (length cs) h
       place-within (Before c) h = leb-true (c .0) (length cs) h
-
-  fresh-good : goodPosition cat cs fresh ≡ true
-  unfolding goodPosition
-  fresh-good = rw (le-leb 0 (length cs) (omega arith))
 
 -- on sound input the promise is the call itself
 module _ (cat tab : Bytes) (pos : Position) (list area : Bytes) (g : goodCatalogue cat ≡ true) (h : goodTable cat tab ≡ true) (p : goodPosition cat (listing cat tab) pos ≡ true)
@@ -166,7 +159,7 @@ module _ (cat tab : Bytes) (g : goodCatalogue cat ≡ true) (h : goodTable cat t
     })
 
     gone-fit : (miss : Status) → goodPosition cat cs pos ≡ true → Fit (handedOn (gone miss))
-    gone-fit miss p = record { table = refl; position = dropped-good cat cs pos p; area = l }
+    gone-fit miss p = record { table = refl; position = miss-good cat cs miss pos p; area = l }
 
     area-kept : (b : Bytes) → cellSize cat ≤ suc (length (over b area))
     area-kept b = rw (length-append b (drop (length b) area), length-drop (length b) area) (omega arith)
@@ -224,7 +217,7 @@ module _ (cat tab : Bytes) (g : goodCatalogue cat ≡ true) (h : goodTable cat t
     pub gn-seeks : (miss : Status) → missStatus levels ≡ miss → Seeks (seenAt cat tab) Fit Under test (length cs) miss (promised cat 2 list)
     unfolding answerOf
     gn-seeks miss q = record {
-      none = λ s F n. rw (gn-gone s F n) (record { ends = miss-late levels; status = q; stays = refl; fit = gone-fit (s .position) (s .area) (F .area) (missStatus levels) (F .position) });
+      none = λ s F n. rw (gn-gone s F n) (record { ends = miss-late levels; status = q; stays = miss-left (missStatus levels) (s .position) ∙ ap (λ (m : Status). left m (after s)) q; fit = gone-fit (s .position) (s .area) (F .area) (missStatus levels) (F .position) });
       one = λ s j F a b t n. rw (gn-got s F j a b t n) (record {
         goes-on = level-early cat cs levels (s .position .place) j;
         shows = got-sight (s .position) (s .area) (F .area) (levelStatus cat cs levels (s .position .place) j) (Of (cell j)) j b;

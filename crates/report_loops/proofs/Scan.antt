@@ -6,7 +6,10 @@ use mathlib.Core.Option.{some}
 use mathlib.Core.List.{[], _∷_, map}
 use Prim.Native.Nat.{ℕ, zero, suc, _-_, _<_, _≤_}
 use native.Mathlib.Omega.{arith}
+use lib.Dec.{eqb}
 use Rattle.terms.specs.declared.Status.{Status}
+use Rattle.terms.specs.Choice.{pick}
+use Rattle.terms.specs.Statuses.{number}
 use Rattle.terms.specs.Moves.{afterPlace}
 use Rattle.rules.specs.Outcome.{Outcome}
 use Rattle.report_loops.specs.Loops.{State, handedOn, Seen, sight, isLast, Shown, ended, behind, loop}
@@ -16,11 +19,29 @@ use Rattle.report_loops.proofs.Hits.{Without, hits, hits-none, hits-fir
 abbrev pub after : State → ℕ
 after s = afterPlace (s .position .place)
 
--- a get that found nothing: its status ends a loop, and it stays where it was
+-- .. of the place that a miss leaves: GB, 10, goes back to the start, any other stays
+abbrev pub left : Status → ℕ → ℕ
+left miss i = pick (eqb (number miss) 10) 0 i
+
+left-within : (miss : Status) (i e : ℕ) → i ≤ e → left miss i ≤ e
+left-within miss i e l = either (eqb (number miss) 10)
+  where
+    either : (b : Bool) → pick b 0 i ≤ e
+    either true = omega arith
+    either false = l
+
+left-later : (miss : Status) (i j : ℕ) → i ≤ j → left miss i ≤ left miss j
+left-later miss i j l = either (eqb (number miss) 10)
+  where
+    either : (b : Bool) → pick b 0 i ≤ pick b 0 j
+    either true = omega arith
+    either false = l
+
+-- a get that found nothing: its status ends a loop, and says where it leaves the place
 pub record Missed (Fit : State → Type 0) (miss : Status) (s : State) (o : Outcome) : Type 0 where
   pub ends : isLast o ≡ true
   pub status : o .answer .status ≡ miss
-  pub stays : after (handedOn o) ≡ after s
+  pub stays : after (handedOn o) ≡ left miss (after s)
   pub fit : Fit (handedOn o)
 
 -- a get that found cell j: it shows it, and moves onto it
@@ -40,7 +61,7 @@ pub record Done (see : ℕ → Seen) (Fit : State → Type 0) (t : ℕ → Bool)
   pub seen : r .seen ≡ map see (hits t (after s) e)
   pub last : r .last ≡ some miss
   pub fit : Fit (r .handed)
-  pub on : after s ≤ after (r .handed)
+  pub on : left miss (after s) ≤ after (r .handed)
   pub within : after (r .handed) ≤ e
 
 -- one call of a loop
@@ -67,7 +88,7 @@ module _ (see : ℕ → Seen) (Fit : State → Type 0) (Then : ℕ → State →
           last = ap some (m .status);
           fit = m .fit;
           on = omega (arith, m .stays);
-          within = omega (arith, m .stays);
+          within = omega (arith, m .stays, left-within miss (after s) e a);
         })
     | found j x y h g ↦
         let m = S .one s j f x y h g in
@@ -78,7 +99,7 @@ module _ (see : ℕ → Seen) (Fit : State → Type 0) (Then : ℕ → State →
               ∙ sym (ap (map see) (hits-first t (after s) j e x y h g));
           last = r .last;
           fit = r .fit;
-          on = omega (arith, r .on, m .moves);
+          on = omega (arith, r .on, left-later miss (after s) (after (handedOn (get s))) (omega (arith, m .moves)));
           within = r .within;
         })
   ]

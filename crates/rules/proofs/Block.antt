@@ -6,7 +6,7 @@ use Prim.Native.Nat.{ℕ, zero, suc, _+_, _*_, _/_, _%_, _<_, _≤_}
 use native.Mathlib.Omega.{arith}
 use native.Mathlib.Nat.{mul-add-div, div-eq-of-lt, mul-add-mod-self-left, mod-eq-of-lt, mod-lt, div-lt-iff-lt-mul, div-add-mod'}
 use lib.Dec.{eqb, leb}
-use lib.ListN.{length, set}
+use lib.ListN.{length, set, replicate}
 use borrow.Author.Tests.{eqb-true, eqb-false, leb-true, le-leb, lt-leb}
 use Rattle.terms.specs.declared.Place.{Place}
 use Rattle.terms.specs.declared.Place.the-variants.{On, Before}
@@ -16,7 +16,7 @@ use Rattle.terms.specs.declared.Position.{Position}
 use Rattle.terms.specs.declared.Answer.{Answer}
 use Rattle.terms.specs.Choice.{pick}
 use Rattle.terms.specs.Names.{cell}
-use Rattle.terms.specs.Moves.{placeNumber, holdDropped}
+use Rattle.terms.specs.Moves.{fresh, placeNumber, holdDropped}
 use Rattle.terms.specs.Statuses.{number}
 use Rattle.forest.specs.Good.{on, off, is, both-right}
 use Rattle.rules.specs.Block.{Bytes, byte, word}
@@ -206,7 +206,12 @@ module _ (block : Bytes) (a : Answer) where
   unfolding blockAfter
   block-refused h = rw (le-leb 20 (number (a .status)) h)
 
-  -- LAW: where the position is as it was without the hold, as after GB, GE and GP, the hold's byte becomes 0 and no other changes
+  -- LAW: where the position is fresh, as after GB, the block is eight zeros
+  pub block-fresh : number (a .status) < 20 → a .position ≡ fresh → blockAfter block a ≡ replicate 8 0
+  unfolding blockAfter positionBytes
+  block-fresh h e = rw (lt-leb 20 (number (a .status)) h) (ap positionBytes e)
+
+  -- LAW: where the position is as it was without the hold, as after GE and GP, the hold's byte becomes 0 and no other changes
   pub block-missed : ((i : ℕ) → byte block i < 256) → goodBlock block ≡ true → number (a .status) < 20 → a .position ≡ holdDropped (positionOf block)
       → blockAfter block a ≡ set block 6 0
   unfolding blockAfter

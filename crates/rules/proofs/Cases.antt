@@ -8,7 +8,7 @@ use Rattle.rules.specs.Cases.Positions.{positionCases}
 use Rattle.rules.specs.Cases.Lists.{listCases}
 use Rattle.rules.specs.Cases.Compared.{comparisonCases, apart, fiveKeys, several}
 use Rattle.rules.specs.Cases.Tables.{tableCases, makerCases, threeLengths}
-use Rattle.rules.specs.Cases.Gets.{getCases, missCases, levelCases}
+use Rattle.rules.specs.Cases.Gets.{getCases, missCases, overCases, levelCases}
 use Rattle.rules.specs.Cases.Along.{alongCases, line, lineTable}
 use Rattle.rules.specs.Cases.Changes.{insertCases, replaceCases, deleteCases}
 use Rattle.rules.specs.Cases.Refusals.{refusalCases, orderCases}
@@ -44,6 +44,10 @@ get-cases = tt
 pub miss-cases : T (all right missCases)
 unfolding computed missCases catalogue table empty
 miss-cases = tt
+
+pub over-cases : T (all right overCases)
+unfolding computed overCases catalogue table empty
+over-cases = tt
 
 pub level-cases : T (all right levelCases)
 unfolding computed levelCases catalogue table stepNote full

@@ -4,7 +4,7 @@ use lib.Dec.{T}
 use Rattle.rules.specs.Tree.{treeOutcome}
 use Rattle.rules.specs.Cases.{all, rightBy}
 use Rattle.rules.specs.Cases.Bench.{cases, catalogue, table, empty, output}
-use Rattle.rules.specs.Cases.Gets.{getCases, missCases, levelCases}
+use Rattle.rules.specs.Cases.Gets.{getCases, missCases, overCases, levelCases}
 use Rattle.rules.specs.Cases.Along.{alongCases, line, lineTable}
 use Rattle.rules.specs.Cases.Changes.{insertCases, replaceCases, deleteCases}
 use Rattle.rules.specs.Cases.Further.{stepNote, full}
@@ -21,6 +21,10 @@ gets-forest = tt
 pub misses-forest : T (all (rightBy treeOutcome) missCases)
 unfolding computed missCases catalogue table empty
 misses-forest = tt
+
+pub over-forest : T (all (rightBy treeOutcome) overCases)
+unfolding computed overCases catalogue table empty
+over-forest = tt
 
 pub levels-forest : T (all (rightBy treeOutcome) levelCases)
 unfolding computed levelCases catalogue table stepNote full

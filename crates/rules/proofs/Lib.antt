@@ -15,3 +15,4 @@ pub mod Cases
 pub mod Forest
 pub mod Change
 pub mod Block
+pub mod Positions

@@ -20,7 +20,8 @@ use Rattle.terms.specs.declared.Found.the-variants.{At, Nothing}
 use Rattle.terms.specs.declared.Answer.{Answer}
 use Rattle.terms.specs.Choice.{pick}
 use Rattle.terms.specs.Names.{code, cell, sameType}
-use Rattle.terms.specs.Moves.{placeNumber, afterPlace, movedOnto, holdDropped, afterInsert, afterDelete}
+use Rattle.terms.specs.Statuses.{number}
+use Rattle.terms.specs.Moves.{fresh, placeNumber, afterPlace, movedOnto, holdDropped, afterInsert, afterDelete}
 use Rattle.forest.specs.Numbers.{range, isIn}
 use Rattle.forest.specs.Insert.{spot}
 use Rattle.rules.specs.Block.{Bytes, anyOf, sameBytes}
@@ -45,9 +46,9 @@ bare s p = record { status = s; position = p; code = code 0; level = 0; length =
 abbrev pub refused : Status → Position → Bytes → After
 refused s p area = record { answer = bare s p; change = nothing; cells = none; area = area }
 
--- "Status 10 to 12 clears the hold only"; GB: "the place stays, so the next one answers GB again"
+-- After request K2: 11 and 12, GE and GP, clear the hold only; 10, GB, makes the position fresh, so that the next get-next begins at the first root
 abbrev pub afterMiss : Status → Position → Position
-afterMiss s p = holdDropped p
+afterMiss s p = pick (eqb (number s) 10) fresh (holdDropped p)
 
 abbrev pub missed : Status → Position → Bytes → After
 missed s p area = record { answer = bare s (afterMiss s p); change = nothing; cells = none; area = area }

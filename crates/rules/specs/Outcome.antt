@@ -68,7 +68,7 @@ misused cat pos c list area =
     (pick (isHeld c && not (pos .hold)) DJ
     Blank))))))
 
--- "Status 10 to 12 clears the hold only; 20 and above changes nothing, area included."
+-- "20 and above changes nothing, area included"; below it only the position moves (`afterMiss`)
 unfoldable pub stopped : Status → Position → Bytes → After
 stopped s pos area = pick (leb 20 (number s)) (refused s pos area) (missed s pos area)
 

@@ -63,6 +63,10 @@ movedTo p hold = record { current = onPath p; parent = some p; hold = hold }
 abbrev pub movedWithin : Option Path → Path → Bool → Standing
 movedWithin parent p hold = record { current = onPath p; parent = parent; hold = hold }
 
+-- before the first call, and again where get-next has come to the end (01, request K2): in front of the first segment, no parent path, no hold
+abbrev pub start : Standing
+start = record { current = inGap 0; parent = none; hold = false }
+
 -- nothing was found, or a record was replaced (55): both paths stay, and the hold goes (01)
 abbrev pub letGo : Standing → Standing
 letGo s = record { current = s .current; parent = s .parent; hold = false }

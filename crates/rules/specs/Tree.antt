@@ -30,7 +30,7 @@ use Rattle.rules.specs.Cells.{Segment, segment, arriving, shownBytes, ke
 use Rattle.rules.specs.Change.{nothing, put, swap, cut}
 use Rattle.rules.specs.Arguments.{Level, lastArgument, getLevels, parentLevels}
 use Rattle.rules.specs.Matching.{agrees, isImplied}
-use Rattle.rules.specs.Paths.{Path, end, Current, onPath, inGap, Standing, currentPath, follows, beneath, movedTo, movedWithin, letGo, afterPut, afterCut, numbered}
+use Rattle.rules.specs.Paths.{Path, end, Current, onPath, inGap, Standing, currentPath, follows, beneath, start, movedTo, movedWithin, letGo, afterPut, afterCut, numbered}
 use Rattle.rules.specs.Calls.{After, bare, over, missStatus, answerOf, changed}
 use Rattle.rules.specs.Outcome.{Store, outcomeOf}
 
@@ -133,10 +133,11 @@ module _ (cat : Bytes) (cs : List Segment) where
     abbrev pub answered : Status → Standing → After
     answered s now = record { answer = bare s (numbered now); change = nothing; cells = none; area = area }
 
-    -- (41) to (43) from the paths, which stand in hierarchic order, so that first-path (20) is the first: "p = nil → (pos, NOT-FOUND)"
-    abbrev pub retrieved : Status → (Path → Status) → (Path → Standing) → List Path → After
-    retrieved miss status moved [] = answered miss (letGo here)
-    retrieved miss status moved (p ∷ ps) = record {
+    -- (41) to (43) from the paths, which stand in hierarchic order, so that first-path (20) is the first: "p = nil → (pos, NOT-FOUND)", where pos is
+    -- what 01 makes of it
+    abbrev pub retrieved : Status → Standing → (Path → Status) → (Path → Standing) → List Path → After
+    retrieved miss unfound status moved [] = answered miss unfound
+    retrieved miss unfound status moved (p ∷ ps) = record {
       answer = answerOf cat (status p) (numbered (moved p)) (segment cs (end p)) 0;
       change = nothing;
       cells = none;
@@ -145,18 +146,23 @@ module _ (cat : Bytes) (cs : List Segment) where
 
     -- (41)
     unfoldable pub intGu : Bool → List Level → After
-    intGu hold ls = retrieved GE (λ p. Blank) (λ p. movedTo p hold) (evalAlong ls (here .current))
+    intGu hold ls = retrieved GE (letGo here) (λ p. Blank) (λ p. movedTo p hold) (evalAlong ls (here .current))
+
+    -- get-next found nothing more: with an empty list that is the end of the data base, and it begins anew (01, request K2)
+    abbrev pub ranOut : List Level → Standing
+    ranOut [] = start
+    ranOut (l ∷ ls) = letGo here
 
     -- (42); GB apart from GE (01)
     unfoldable pub intGn : Bool → List Level → After
     intGn hold ls =
-        retrieved (missStatus ls) (stepStatus ls (here .current)) (λ p. movedTo p hold)
+        retrieved (missStatus ls) (ranOut ls) (stepStatus ls (here .current)) (λ p. movedTo p hold)
         (select (follows (here .current)) (eval ls))
 
     -- (43)
     unfoldable pub intGnp : Bool → List Level → After
     intGnp hold ls =
-        retrieved GE (stepStatus ls (here .current)) (λ p. movedWithin (here .parent) p hold)
+        retrieved GE (letGo here) (stepStatus ls (here .current)) (λ p. movedWithin (here .parent) p hold)
         (select (λ p. follows (here .current) p && beneath (here .parent) p) (eval ls))
 
     -- (49) x as number r beneath inspos, in a row of siblings of which one has its key or none; dp′ is the whole afterwards

@@ -367,7 +367,8 @@ fn several_words(dice: &mut Dice, base: &Base) -> Vec<Word> {
     drawing::words(dice, base)
 }
 
-/// Get-next loops with one list, which must end by call n + 1.
+/// Get-next loops with one list, which must end by call n + 1. One that ends in GB is followed by a second pass,
+/// which must show every cell.
 fn loops(dice: &mut Dice, comparison: &mut Comparison) -> Played {
     let base = Base::draw(dice, Size::Small);
     let count = base.count();
@@ -378,12 +379,34 @@ fn loops(dice: &mut Dice, comparison: &mut Comparison) -> Played {
         let list = drawing::sound_list(dice, &session.base, number);
         let area = session.area(dice);
         let mut calls = 1;
-        while session.call(comparison, number, &list, &area)?.status() < status::GB {
+        let last = loop {
+            let status = session.call(comparison, number, &list, &area)?.status();
+            if status >= status::GB {
+                break status;
+            }
             comparison.insist(calls <= count, "get-next loop ends by call n + 1")?;
             calls += 1;
+        };
+        if last == status::GB {
+            second_pass(comparison, &mut session, number, &area)?;
         }
     }
     Ok(())
+}
+
+/// From a GB: n segments, and then GB again.
+fn second_pass(
+    comparison: &mut Comparison,
+    session: &mut Session,
+    number: u8,
+    area: &[u8],
+) -> Played {
+    for _ in 0..session.base.count() {
+        let status = session.call(comparison, number, &[], area)?.status();
+        comparison.insist(status < status::GB, "get-next after GB starts over")?;
+    }
+    let status = session.call(comparison, number, &[], area)?.status();
+    comparison.insist(status == status::GB, "the second pass ends in GB")
 }
 
 /// What document 01 says to run also, and the bench table itself.

@@ -20,8 +20,8 @@ pub mod number {
     }
 }
 
-/// The statuses, by number. Below 10 the call was done; 10 to 12 clear the hold and change nothing else; 20 and
-/// above change nothing.
+/// The statuses, by number. Below 10 the call was done; 10 makes the position fresh, 11 and 12 clear the hold, and
+/// none of the three changes anything else; 20 and above change nothing.
 pub mod status {
     numbered! {
         BLANK = 0, GA = 1, GK = 2,

@@ -136,7 +136,11 @@ impl<'a> Database<'a> {
         };
         let Some(path) = found else {
             let at_end = scope == Scope::Next && list.is_empty();
-            return nothing(if at_end { Status::GB } else { Status::GE }, position);
+            return if at_end {
+                self.ran_out()
+            } else {
+                nothing(Status::GE, position)
+            };
         };
         let status = if scope != Scope::Unique && list.is_empty() {
             self.crossing(&position.place, &path)
@@ -313,6 +317,16 @@ impl<'a> Database<'a> {
         })
     }
 
+    /// GB: the end of the data base, after which the next get-next begins at the first root (request K2).
+    fn ran_out(&self) -> Answer<'a> {
+        Answer {
+            status: Status::GB,
+            subject: None,
+            removed: 0,
+            position: Position::fresh(&self.forest),
+        }
+    }
+
     fn subject(&self, path: &Path) -> Subject<'a> {
         let segment = self.forest.segment(path);
         Subject {
@@ -323,7 +337,7 @@ impl<'a> Database<'a> {
     }
 }
 
-/// Status 10 to 12: nothing came of the call, and only the hold is dropped.
+/// GE and GP: nothing came of the call, and only the hold is dropped.
 fn nothing<'a>(status: Status, position: Position) -> Answer<'a> {
     Answer {
         status,

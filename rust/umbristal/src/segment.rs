@@ -20,7 +20,8 @@ pub struct Segment {
 pub enum Got {
     /// The segment; the position is on it.
     Segment(Segment),
-    /// Nothing, and why: GB, GE or GP. The place stays, the hold is gone.
+    /// Nothing, and why. After GE and GP place and parentage stay, and the hold is gone; after GB the position is
+    /// fresh, so that the next get-next begins at the first root.
     Nothing(Status),
 }
 

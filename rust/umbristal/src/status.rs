@@ -3,8 +3,8 @@
 use face::status;
 use std::fmt;
 
-/// How a call ended. Below 10 it was done; 10 to 12 found nothing and drop the hold; 20 and above refuse, and
-/// then nothing has changed.
+/// How a call ended. Below 10 it was done; 10 to 12 found nothing: GE and GP drop the hold only, GB makes the
+/// position fresh; 20 and above refuse, and then nothing has changed.
 ///
 /// ```
 /// use umbristal::Status;
@@ -44,7 +44,7 @@ const TABLE: [(Status, &str, &str); 19] = [
     (Status::Blank, "--", "done"),
     (Status::GA, "GA", "done, on a smaller level than before"),
     (Status::GK, "GK", "done, on the same level and another type"),
-    (Status::GB, "GB", "no segment is left"),
+    (Status::GB, "GB", "no segment is left; get-next starts over"),
     (
         Status::GE,
         "GE",

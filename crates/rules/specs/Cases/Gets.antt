@@ -1,4 +1,5 @@
--- The six gets: what each finds, tells, shows and makes of the position; what a miss leaves; GA and GK against blank. The claims are in proofs/Cases.antt.
+-- The six gets: what each finds, tells, shows and makes of the position; what a miss leaves; what follows a GB; GA and GK against blank. The claims are
+-- in proofs/Cases.antt.
 -- Assumes nothing: these are definitions.
 use mathlib.Core.Bool.{true, false}
 use mathlib.Core.List.{List, [], _∷_, _++_}
@@ -6,11 +7,11 @@ use Prim.Native.Nat.{ℕ}
 use Rattle.terms.specs.declared.Parentage.the-variants.{Absent}
 use Rattle.terms.specs.declared.Position.{Position}
 use Rattle.terms.specs.declared.Status.{Status}
-use Rattle.terms.specs.declared.Status.the-variants.{Blank, GA, GK, GB, GE, GP}
+use Rattle.terms.specs.declared.Status.the-variants.{Blank, GA, GK, GB, GE, GP, DJ}
 use Rattle.terms.specs.Moves.{fresh}
 use Rattle.rules.specs.Block.{Bytes}
-use Rattle.rules.specs.Cases.{Case, Says, calls, gives, tells, removes, place, held, stands, block, shows, fills, bytes, nothingTold, ascii, dots}
-use Rattle.rules.specs.Cases.{upon, gap, parent, position, get, gu, gn, gnp, ghu, ghn, ghnp}
+use Rattle.rules.specs.Cases.{Case, Step, Says, calls, gives, tells, removes, place, held, stands, block, shows, fills, leaves, bytes, nothingTold, ascii, dots}
+use Rattle.rules.specs.Cases.{upon, gap, parent, position, get, gu, gn, gnp, ghu, ghn, ghnp, isrt, repl, dlet}
 use Rattle.rules.specs.Cases.Bench.{catalogue, table, empty, onCell, named, unit07, step14}
 use Rattle.rules.specs.Cases.Further.{stepNote, full}
 
@@ -24,7 +25,7 @@ unit09 = 1 ∷ 1 ∷ 1 ∷ ascii "09"
 abbrev from : Position → ℕ → Bytes → List Says → Case
 from p c list says = calls catalogue table p (get c list says ∷ [])
 
--- a miss: the position with its hold dropped, nothing told, area and table as they were
+-- a miss: the position that it leaves, nothing told, area and table as they were
 abbrev misses : Position → ℕ → Bytes → Status → Position → Case
 misses p c list s q = from p c list (gives s ∷ stands q ∷ nothingTold ∷ removes 0 ∷ fills dots ∷ bytes table ∷ [])
 
@@ -97,7 +98,7 @@ getCases =
     ∷ from (onCell 0) 3 (unit09 ++ named 2) (gives GE ∷ [])
     ∷ []
 
--- "Status 10 to 12 clears the hold only"
+-- after request K2: 11 and 12 clear the hold only, 10 makes the position fresh
 unfoldable pub missCases : List Case
 missCases =
     -- GE, of each get; a list that no segment matches
@@ -110,14 +111,14 @@ missCases =
     -- GNP and GHNP with an empty list: GE, not GB
     ∷ misses (position (upon 8) (parent 8) true) 3 [] GE (onCell 8)
     ∷ misses (position (upon 8) (parent 8) true) 6 [] GE (onCell 8)
-    -- GB, "GN or GHN, empty list, no cell left; the place stays"; with a list it is GE
-    ∷ misses (position (upon 8) (parent 7) true) 2 [] GB (position (upon 8) (parent 7) false)
-    ∷ misses (position (upon 8) Absent true) 5 [] GB (position (upon 8) Absent false)
-    ∷ misses (position (gap 9) (parent 7) false) 2 [] GB (position (gap 9) (parent 7) false)
+    -- GB, "GN or GHN, empty list, no cell left": place, parentage and hold are then the fresh ones; with a list it is GE, and they stay but for the hold
+    ∷ misses (position (upon 8) (parent 7) true) 2 [] GB fresh
+    ∷ misses (position (upon 8) (parent 8) false) 2 [] GB fresh
+    ∷ misses (position (upon 8) Absent true) 5 [] GB fresh
+    ∷ misses (position (gap 9) (parent 7) false) 2 [] GB fresh
+    ∷ misses (position (gap 9) Absent false) 5 [] GB fresh
     ∷ misses (position (upon 8) (parent 7) true) 2 (named 2) GE (position (upon 8) (parent 7) false)
     ∷ misses (position (upon 8) (parent 7) true) 5 (named 3) GE (position (upon 8) (parent 7) false)
-    -- "so the next one answers GB again"
-    ∷ calls catalogue table (onCell 8) (gn [] (gives GB ∷ stands (onCell 8) ∷ []) ∷ ghn [] (gives GB ∷ stands (onCell 8) ∷ []) ∷ gn [] (gives GB ∷ []) ∷ [])
     -- GP, "GNP or GHNP, no parentage", on a cell and in a gap, with a list or without
     ∷ misses (position (upon 3) Absent true) 3 [] GP (position (upon 3) Absent false)
     ∷ misses (position (upon 3) Absent true) 6 [] GP (position (upon 3) Absent false)
@@ -126,6 +127,42 @@ missCases =
     -- in a table of no cells
     ∷ calls catalogue empty fresh (gu [] (gives GE ∷ stands fresh ∷ []) ∷ ghu [] (gives GE ∷ []) ∷ gu (named 1) (gives GE ∷ []) ∷ [])
     ∷ calls catalogue empty fresh (ghn [] (gives GB ∷ stands fresh ∷ []) ∷ gn (named 1) (gives GE ∷ stands fresh ∷ []) ∷ gnp [] (gives GP ∷ []) ∷ [])
+    ∷ []
+
+-- a call after GB, which came from cell 8 with parentage and hold
+abbrev afterGB : Step → Case
+afterGB s = calls catalogue table (position (upon 8) (parent 7) true) (gn [] (gives GB ∷ []) ∷ s ∷ [])
+
+-- request K2: what each call does after GB is what it does from the fresh position
+unfoldable pub overCases : List Case
+overCases =
+    -- GN and GHN begin at the first root, from a gap, so with a blank status, though the place had been on a cell of level 2
+    afterGB (gn [] (gives Blank ∷ tells 1 1 3 ∷ stands (position (upon 0) (parent 0) false) ∷ shows (ascii "07A") ∷ []))
+    ∷ afterGB (ghn [] (gives Blank ∷ stands (position (upon 0) (parent 0) true) ∷ []))
+    ∷ afterGB (gn (named 3) (gives Blank ∷ place (upon 2) ∷ []))
+    -- GNP and GHNP: no parentage, and the position stays fresh
+    ∷ afterGB (gnp [] (gives GP ∷ stands fresh ∷ []))
+    ∷ afterGB (ghnp (named 3) (gives GP ∷ stands fresh ∷ []))
+    -- REPL and DLET: no hold
+    ∷ afterGB (repl (ascii "abcde") (gives DJ ∷ stands fresh ∷ bytes table ∷ []))
+    ∷ afterGB (dlet (gives DJ ∷ stands fresh ∷ bytes table ∷ []))
+    -- GU and ISRT: nothing is kept along the position, so that step "14" is that of the first unit, where cell 8 would keep the second
+    ∷ afterGB (gu step14 (gives Blank ∷ stands (onCell 3) ∷ []))
+    ∷ afterGB (ghu [] (gives Blank ∷ stands (position (upon 0) (parent 0) true) ∷ []))
+    ∷ afterGB (isrt (step14 ++ named 3) (ascii "T9.") (gives Blank ∷ stands (position (upon 6) Absent false) ∷ leaves 10 ∷ []))
+    -- from one pass into the next
+    ∷ calls catalogue table (onCell 7) (
+    gn [] (gives Blank ∷ place (upon 8) ∷ []) ∷ gn [] (gives GB ∷ stands fresh ∷ [])
+    ∷ gn [] (gives Blank ∷ place (upon 0) ∷ []) ∷ gn [] (gives Blank ∷ place (upon 1) ∷ []) ∷ [])
+    -- on a table of no cells GB is followed by GB
+    ∷ calls catalogue empty fresh (gn [] (gives GB ∷ stands fresh ∷ []) ∷ ghn [] (gives GB ∷ stands fresh ∷ []) ∷ gn [] (gives GB ∷ stands fresh ∷ []) ∷ [])
+    -- GE does not start over: the place stays at the end, and get-next with an empty list goes on from there
+    ∷ calls catalogue table (position (upon 7) (parent 7) true) (
+    gn step13 (gives GE ∷ stands (onCell 7) ∷ []) ∷ gn [] (gives Blank ∷ place (upon 8) ∷ []) ∷ [])
+    ∷ calls catalogue table (position (upon 8) (parent 8) true) (
+    gnp [] (gives GE ∷ stands (onCell 8) ∷ []) ∷ gnp [] (gives GE ∷ stands (onCell 8) ∷ []) ∷ gn [] (gives GB ∷ []) ∷ [])
+    -- nor does GP
+    ∷ calls catalogue table (position (upon 3) Absent true) (gnp [] (gives GP ∷ []) ∷ gn [] (gives Blank ∷ place (upon 4) ∷ []) ∷ [])
     ∷ []
 
 -- GA: "empty list, place was on a cell, found level smaller"; GK: "the same, level equal and type different"

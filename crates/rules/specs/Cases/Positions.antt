@@ -4,9 +4,9 @@ use mathlib.Core.Bool.{true, false}
 use mathlib.Core.List.{List, [], _∷_}
 use Rattle.terms.specs.declared.Parentage.the-variants.{Absent}
 use Rattle.terms.specs.declared.Position.{Position}
-use Rattle.terms.specs.declared.Status.the-variants.{Blank, GB, PX}
+use Rattle.terms.specs.declared.Status.the-variants.{Blank, GB, GE, GP, PX}
 use Rattle.rules.specs.Block.{Bytes}
-use Rattle.rules.specs.Cases.{Case, calls, lends, blockIs, gives, removes, stands, block, nothingTold, upon, gap, parent, position, gu, gn, ghnp, dlet}
+use Rattle.rules.specs.Cases.{Case, calls, lends, blockIs, gives, removes, stands, block, nothingTold, upon, gap, parent, position, gu, gn, gnp, ghnp, dlet}
 use Rattle.rules.specs.Cases.Bench.{catalogue, table, empty}
 
 -- in the bench table: PX, and nothing changed; or the call is done
@@ -83,7 +83,9 @@ positionCases =
     ∷ lends catalogue table (1 ∷ 0 ∷ 3 ∷ 1 ∷ 0 ∷ 0 ∷ 1 ∷ 0 ∷ []) (
     dlet (gives Blank ∷ block (0 ∷ 0 ∷ 3 ∷ 1 ∷ 0 ∷ 0 ∷ 0 ∷ 0 ∷ []) ∷ [])
     ∷ ghnp [] (gives Blank ∷ block (1 ∷ 0 ∷ 3 ∷ 1 ∷ 0 ∷ 0 ∷ 1 ∷ 0 ∷ []) ∷ []) ∷ [])
-    ∷ lends catalogue table (1 ∷ 0 ∷ 8 ∷ 0 ∷ 0 ∷ 0 ∷ 1 ∷ 0 ∷ []) (gn [] (gives GB ∷ block (1 ∷ 0 ∷ 8 ∷ 0 ∷ 0 ∷ 0 ∷ 0 ∷ 0 ∷ []) ∷ []) ∷ [])
+    ∷ lends catalogue table (1 ∷ 0 ∷ 8 ∷ 1 ∷ 0 ∷ 7 ∷ 1 ∷ 0 ∷ []) (gn [] (gives GB ∷ block (0 ∷ 0 ∷ 0 ∷ 0 ∷ 0 ∷ 0 ∷ 0 ∷ 0 ∷ []) ∷ []) ∷ [])
+    ∷ lends catalogue table (1 ∷ 0 ∷ 8 ∷ 1 ∷ 0 ∷ 7 ∷ 1 ∷ 0 ∷ []) (gnp [] (gives GE ∷ block (1 ∷ 0 ∷ 8 ∷ 1 ∷ 0 ∷ 7 ∷ 0 ∷ 0 ∷ []) ∷ []) ∷ [])
+    ∷ lends catalogue table (1 ∷ 0 ∷ 8 ∷ 0 ∷ 0 ∷ 0 ∷ 1 ∷ 0 ∷ []) (gnp [] (gives GP ∷ block (1 ∷ 0 ∷ 8 ∷ 0 ∷ 0 ∷ 0 ∷ 0 ∷ 0 ∷ []) ∷ []) ∷ [])
     -- "Anything else is a badFrom position": no 8 bytes, another kind, a number without a parentage, a last byte
     ∷ badBlock []
     ∷ badBlock (0 ∷ 0 ∷ 0 ∷ 0 ∷ 0 ∷ 0 ∷ 0 ∷ [])

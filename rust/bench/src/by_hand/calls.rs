@@ -230,8 +230,12 @@ impl Lent<'_> {
     fn got(&mut self, number: u8, found: Option<usize>, bare: bool) -> Result<u64, u8> {
         let next = matches!(number, GN | GHN);
         let Some(found) = found else {
+            if next && bare {
+                self.block.fill(0);
+                return Ok(u64::from(GB));
+            }
             self.block[6] = 0;
-            return Ok(u64::from(if next && bare { GB } else { GE }));
+            return Ok(u64::from(GE));
         };
         let code = self.code(found);
         let mut status = BLANK;

@@ -13,6 +13,59 @@ fn a_get_next_loop_ends() {
     }
 }
 
+/// Request K2: from a GB, the next n + 1 get-nexts with the empty list show every cell and then GB.
+#[test]
+fn get_next_after_gb_starts_over() {
+    for number in [GN, GHN] {
+        let mut desk = Desk::bench().on(8);
+        desk.position = block(true, 8, Some(7), true);
+        for _ in 0..3 {
+            assert_eq!(desk.get(number, b"").status, 10);
+            assert_eq!(desk.position, block(false, 0, None, false));
+            for cell in 0..9 {
+                assert!(desk.get(number, b"").status < 10);
+                let hold = number == GHN;
+                assert_eq!(desk.position, block(true, cell, Some(cell), hold));
+            }
+        }
+    }
+    let mut empty = Desk::with(bench_catalogue(), table(4, 12, &[]));
+    for _ in 0..3 {
+        assert_eq!(empty.get(GN, b"").status, 10);
+        assert_eq!(empty.position, block(false, 0, None, false));
+    }
+}
+
+/// Request K2: what the calls do after GB, and that GE and GP do not start over.
+#[test]
+fn after_gb_the_position_is_fresh() {
+    let ended = || {
+        let mut desk = Desk::bench();
+        desk.position = block(true, 8, Some(7), true);
+        assert_eq!(desk.get(GN, b"").status, 10);
+        desk
+    };
+    assert_eq!(ended().get(GNP, b"").status, 12);
+    assert_eq!(ended().get(GHNP, b"\x03\x00").status, 12);
+    assert_eq!(ended().call(REPL, b"", b"14P").status, 29);
+    assert_eq!(ended().call(DLET, b"", b"").status, 29);
+    let mut unique = ended();
+    assert_eq!(unique.get(GU, b"\x02\x01\x0214").status, 0);
+    assert_eq!(unique.position, block(true, 3, Some(3), false));
+    let mut inserted = ended();
+    let list = b"\x02\x01\x0214\x03\x00";
+    assert_eq!(inserted.call(ISRT, list, b"S3\x00").status, 0);
+    assert_eq!(inserted.position, block(true, 6, None, false));
+
+    let mut desk = Desk::bench();
+    desk.position = block(true, 8, Some(7), true);
+    assert_eq!(desk.get(GNP, b"").status, 11);
+    assert_eq!(desk.position, block(true, 8, Some(7), false));
+    desk.position = block(true, 3, None, true);
+    assert_eq!(desk.get(GNP, b"").status, 12);
+    assert_eq!(desk.position, block(true, 3, None, false));
+}
+
 fn report(way: Way, list1: &[u8], list2: &[u8], room: usize) -> (u8, u32, Vec<u8>) {
     let report = judge::report(
         way,

@@ -16,7 +16,45 @@ fn b1_the_listing() {
     }
     let expected = ["--", "--", "--", "GA", "--", "--", "GA", "GA", "--"];
     assert_eq!(statuses, (0..).zip(expected).collect::<Vec<_>>());
-    assert_eq!(store.get_next(&[]).unwrap().status(), Status::GB);
+}
+
+/// Request K2.
+#[test]
+fn get_next_after_gb_starts_over() {
+    let mut store = store();
+    let pass = |store: &mut Store| {
+        let mut cells = Vec::new();
+        loop {
+            match store.get_hold_next(&[]).unwrap() {
+                Got::Segment(segment) => cells.push(segment.cell.0),
+                Got::Nothing(status) => return (cells, status),
+            }
+        }
+    };
+    for _ in 0..3 {
+        assert_eq!(pass(&mut store), ((0..9).collect(), Status::GB));
+        assert_eq!(store.place(), Place::Before(CellNumber(0)));
+        assert_eq!((store.parentage(), store.is_held()), (None, false));
+    }
+    let within = store.get_next_within_parent(&[]).unwrap();
+    assert_eq!(within, Got::Nothing(Status::GP));
+    assert_eq!(store.delete().unwrap_err().status(), Status::DJ);
+    let first = store.get_next(&[]).unwrap().segment().unwrap();
+    assert_eq!((first.cell.0, first.status), (0, Status::Blank));
+}
+
+#[test]
+fn get_next_after_ge_does_not() {
+    let mut store = store();
+    store.get_hold_unique(&[unit(b"09")]).unwrap();
+    let none = store.get_next(&[step(b"13")]).unwrap();
+    assert_eq!(none, Got::Nothing(Status::GE));
+    assert_eq!(store.place(), Place::On(CellNumber(7)));
+    assert_eq!(
+        (store.parentage(), store.is_held()),
+        (Some(CellNumber(7)), false)
+    );
+    assert_eq!(cell_of(store.get_next(&[]).unwrap()), 8);
 }
 
 #[test]
@@ -94,7 +132,9 @@ fn b9_replace() {
 #[test]
 fn b10_the_empty_table_and_no_table() {
     let mut store = Store::make(blocks().0, 12).unwrap();
-    assert_eq!(store.get_next(&[]).unwrap().status(), Status::GB);
+    for _ in 0..2 {
+        assert_eq!(store.get_next(&[]).unwrap().status(), Status::GB);
+    }
     let mut none = Store::make(blocks().0, 0).unwrap();
     let refusal = none.insert(&[Argument::all(UNIT)], b"07A").unwrap_err();
     assert_eq!(refusal.status(), Status::FX);
