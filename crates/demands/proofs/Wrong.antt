@@ -5,6 +5,7 @@ use mathlib.Core.List.{[], _∷_}
 use Prim.Native.Nat.{ℕ, zero, suc, _<_}
 use native.Mathlib.Omega.{arith}
 use lib.Dec.{ltb}
+use lib.ListN.{length}
 use borrow.Author.Tests.{ltb-true}
 use Rattle.terms.specs.declared.Place.the-variants.{On}
 use Rattle.terms.specs.declared.Parentage.the-variants.{Of}
@@ -18,11 +19,13 @@ use Rattle.rules.specs.Computed.{computed}
 use Rattle.rules.specs.Cases.Bench.{catalogue, table, onCell}
 use Rattle.rules.specs.Outcome.{Store}
 use Rattle.encoding.specs.Determined.{IsBytes}
+use Rattle.report_loops.specs.Loops.{loop}
 use Rattle.report_loops.proofs.Wrong.{once}
 use Rattle.demands.specs.StatusTable.{firstGiven}
 use Rattle.demands.specs.Demand1.{Demand1}
 use Rattle.demands.specs.Demand2.{Demand2}
-use Rattle.demands.specs.WrongStores.{refusesAll, alwaysFirst, leavesTable, inventsRemoved, inventsCount}
+use Rattle.demands.specs.StartsOver.{StartsOver}
+use Rattle.demands.specs.WrongStores.{refusesAll, alwaysFirst, leavesTable, staysAtEnd, inventsRemoved, inventsCount}
 
 -- LAW: two outcomes that meet demand 2 for the same input are equal
 pub one-outcome : (store other : Store) → Demand2 store → Demand2 other → (cat tab : Bytes) (pos : Position) (c : ℕ) (list lent : Bytes)
@@ -74,6 +77,17 @@ not-leaves-table d =
 pub not-once : Demand1 once → ⊥
 unfolding computed catalogue table firstGiven once
 not-once d = let z : _≡_ {A = ℕ} 11 0 = ap number (d .answers catalogue table (onCell 0) 2 [] area .order) in omega arith
+
+-- behind the last cell GN answers GB, and the place is the start; from there it shows nine cells more
+pub not-stays-at-end : Demand1 staysAtEnd → ⊥
+unfolding computed catalogue table staysAtEnd
+not-stays-at-end d =
+    let z : _≡_ {A = ℕ} 8 0 = ap (λ (p : Position). placeNumber (p .place)) (d .answers catalogue table (onCell 8) 2 [] area .over refl .position) in
+    omega arith
+
+pub never-over : StartsOver staysAtEnd → ⊥
+unfolding computed catalogue table staysAtEnd loop
+never-over d = let z : _≡_ {A = ℕ} 0 9 = ap length (d catalogue table (onCell 8) 2 [] area refl .shows) in omega arith
 
 -- on cell 3, with a hold: its run has three cells
 abbrev heldStep : Position

@@ -2,13 +2,16 @@
 -- which gets the first segment and then only answers GE. Assumes nothing: these are definitions.
 use mathlib.Core.Bool.{false, _||_}
 use Prim.Native.Nat.{suc}
+use lib.Dec.{eqb}
 use lib.ListN.{set}
 use Rattle.terms.specs.declared.Place.the-variants.{On}
 use Rattle.terms.specs.declared.Parentage.the-variants.{Of}
-use Rattle.terms.specs.declared.Status.the-variants.{Blank, CX}
+use Rattle.terms.specs.declared.Status.the-variants.{Blank, GB, CX}
 use Rattle.terms.specs.declared.Answer.{Answer}
 use Rattle.terms.specs.Choice.{pick}
 use Rattle.terms.specs.Names.{cell}
+use Rattle.terms.specs.Statuses.{number}
+use Rattle.terms.specs.Moves.{holdDropped}
 use Rattle.rules.specs.Block.{byte}
 use Rattle.rules.specs.Cells.{segment, shownBytes}
 use Rattle.rules.specs.Table.{listing}
@@ -36,6 +39,12 @@ unfoldable pub leavesTable : Store
 leavesTable cat tab pos c list area =
     let o = outcome cat tab pos c list area in
     record { answer = o .answer; table = pick (isrt c || dlet c) tab (o .table); area = o .area }
+
+-- GB leaves the place at the end, as it did before request K2
+unfoldable pub staysAtEnd : Store
+staysAtEnd cat tab pos c list area =
+    let o = outcome cat tab pos c list area in
+    record { answer = pick (eqb (number (o .answer .status)) 10) (bare GB (holdDropped pos)) (o .answer); table = o .table; area = o .area }
 
 -- invents removed: tells one more than went
 abbrev oneMore : Answer → Answer
