@@ -63,14 +63,13 @@ static void show(uint64_t result, const uint8_t *pos, const uint8_t *area)
     printf("\n");
 }
 
-/* GN with an empty list from fresh to the first GB or refusal. */
-static uint8_t walk(const uint8_t *cat, size_t cat_len, uint8_t *tab, size_t tab_len)
+/* GN with an empty list from a position to the first GB or refusal. After GB the position is fresh again. */
+static uint8_t walk(const uint8_t *cat, size_t cat_len, uint8_t *tab, size_t tab_len, uint8_t *pos)
 {
-    uint8_t pos[UMBRISTAL_POSITION_SIZE] = UMBRISTAL_POSITION_FRESH;
     uint8_t area[AREA];
     const uint8_t none[1] = { 0 };
     for (;;) {
-        uint64_t r = umbristal_call(cat, cat_len, tab, tab_len, pos, sizeof pos, UMBRISTAL_GN, none, 0, area, sizeof area);
+        uint64_t r = umbristal_call(cat, cat_len, tab, tab_len, pos, UMBRISTAL_POSITION_SIZE, UMBRISTAL_GN, none, 0, area, sizeof area);
         if (umbristal_status(r) >= UMBRISTAL_GB) {
             printf("%s\n", letters(umbristal_status(r)));
             return umbristal_status(r);
@@ -110,13 +109,13 @@ int main(int argc, char **argv)
     printf("table %s\n", letters(checked));
     if (checked != UMBRISTAL_BLANK)
         return 1;
-    walk(cat, cat_len, tab, tab_len);
+    uint8_t pos[UMBRISTAL_POSITION_SIZE] = UMBRISTAL_POSITION_FRESH;
+    walk(cat, cat_len, tab, tab_len, pos);
     show_report("nested", umbristal_report_nested, cat, cat_len, tab, tab_len);
     show_report("joined", umbristal_report_joined, cat, cat_len, tab, tab_len);
 
-    /* From a fresh position: the step with key "14" (type 2, operator =, field 2), then a try "S3" (type 3) beneath it. From here on
-     * the sound call will do: the table was checked, the position is fresh, and only calls change them. */
-    uint8_t pos[UMBRISTAL_POSITION_SIZE] = UMBRISTAL_POSITION_FRESH;
+    /* The walk ended in GB, which left the position fresh. From there: the step with key "14" (type 2, operator =, field 2), then a try "S3"
+     * (type 3) beneath it. From here on the sound call will do: the table was checked, the position is fresh, and only calls change them. */
     uint8_t area[AREA] = { 0 };
     const uint8_t step_14[] = { 2, 1, 2, '1', '4' };
     const uint8_t try_alone[] = { 3, 0 };
@@ -131,13 +130,19 @@ int main(int argc, char **argv)
     show(r, pos, area);
     if (umbristal_table_check(cat, cat_len, tab, tab_len) != UMBRISTAL_BLANK)
         return 1;
-    walk(cat, cat_len, tab, tab_len);
+    uint8_t again[UMBRISTAL_POSITION_SIZE] = UMBRISTAL_POSITION_FRESH;
+    walk(cat, cat_len, tab, tab_len, again);
+
+    /* GB was the end of one pass; the next get-next begins the second. */
+    const uint8_t none[1] = { 0 };
+    r = umbristal_call_sound(cat, cat_len, tab, tab_len, again, sizeof again, UMBRISTAL_GN, none, 0, area, sizeof area);
+    printf("GN after GB: ");
+    show(r, again, area);
 
     /* Held and deleted again, the step takes its tries with it. */
     r = umbristal_call_sound(cat, cat_len, tab, tab_len, pos, sizeof pos, UMBRISTAL_GHU, step_14, sizeof step_14, area, sizeof area);
     printf("GHU step 14: ");
     show(r, pos, area);
-    const uint8_t none[1] = { 0 };
     r = umbristal_call_sound(cat, cat_len, tab, tab_len, pos, sizeof pos, UMBRISTAL_DLET, none, 0, area, sizeof area);
     printf("DLET: %s, removed %u\n", letters(umbristal_status(r)), umbristal_removed(r));
     return 0;

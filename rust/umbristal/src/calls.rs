@@ -14,7 +14,8 @@ impl Store {
         self.get(GU, list)
     }
 
-    /// GN: the first segment after the place that matches. An empty list matches every segment.
+    /// GN: the first segment after the place that matches. An empty list matches every segment; after the last one
+    /// the answer is GB, and the next call begins at the first root.
     pub fn get_next(&mut self, list: &[Argument]) -> Result<Got, Refusal> {
         self.get(GN, list)
     }

@@ -44,6 +44,14 @@ fn get_next_after_gb_starts_over() {
 }
 
 #[test]
+fn what_iterates_does_not_start_over() {
+    let mut store = store();
+    let mut segments = store.segments(&[]).unwrap();
+    assert_eq!(segments.by_ref().count(), 9);
+    assert_eq!((segments.next(), segments.next()), (None, None));
+}
+
+#[test]
 fn get_next_after_ge_does_not() {
     let mut store = store();
     store.get_hold_unique(&[unit(b"09")]).unwrap();
