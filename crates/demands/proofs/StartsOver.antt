@@ -1,31 +1,30 @@
 -- A store that meets demands 1 and 3 starts over after GB: demand 1 says that nothing was refused and that the position is fresh, demand 3 what a loop from
 -- there shows. Assumes nothing.
 use mathlib.Core.Path.{_≡_, refl, ap, sym, _∙_}
-use mathlib.Core.Bool.{Bool, true, false, _&&_, _||_, not}
+use mathlib.Core.Bool.{true, false}
 use mathlib.Core.List.{List, [], _∷_}
-use Prim.Native.Nat.{ℕ, zero, suc, _-_, _≤_}
+use Prim.Native.Nat.{ℕ, suc, _-_}
 use native.Mathlib.Omega.{arith}
 use lib.Dec.{ltb, eqb}
 use lib.ListN.{length}
 use borrow.Author.Tests.{eqb-true, ltb-false}
 use Rattle.terms.specs.declared.Position.{Position}
-use Rattle.terms.specs.declared.Argument.{Argument}
-use Rattle.terms.specs.declared.Status.{Status}
-use Rattle.terms.specs.declared.Status.the-variants.{GB, GP, CX, TX, PX, AD, AC, AJ, AK, AH, AB}
+use Rattle.terms.specs.declared.Status.the-variants.{GB}
 use Rattle.terms.specs.Statuses.{number}
 use Rattle.forest.specs.Good.{on, off, is, both-left}
 use Rattle.forest.specs.Numbers.{range}
 use Rattle.rules.specs.Block.{Bytes}
+use Rattle.rules.specs.Cells.{Segment}
 use Rattle.rules.specs.Table.{count, cellSize, listing}
-use Rattle.rules.specs.Arguments.{ListRead, listRead}
+use Rattle.rules.specs.Arguments.{ListRead}
 use Rattle.rules.specs.Outcome.{Outcome, Store, outcome}
 use Rattle.model.proofs.Asked.{not-true}
 use Rattle.arguments.proofs.Sound.{list-empty}
-use Rattle.report_loops.specs.Loops.{State, calling, start, handedOn, loop}
+use Rattle.report_loops.specs.Loops.{start, handedOn}
 use Rattle.report_loops.specs.Plain.{filter, meets, picked}
-use Rattle.report_loops.specs.Demand3.{Accepted, Reports}
+use Rattle.report_loops.specs.Demand3.{Accepted}
 use Rattle.report_loops.proofs.Demand.{demand3}
-use Rattle.demands.specs.StatusTable.{Row, firstGiven, next, dlet, askedRows, statusTable}
+use Rattle.demands.specs.StatusTable.{Row, firstGiven, next, dlet, statusTable}
 use Rattle.demands.specs.Demand1.{Untouched, Demand1}
 use Rattle.demands.specs.Demand3.{Demand3}
 use Rattle.demands.specs.StartsOver.{StartsOver}
@@ -41,7 +40,7 @@ module _ (r : Row) (rs : List Row) (other : number (r .status) ≡ 10 → ⊥) w
   ]
 
 -- nothing is tested with the empty list
-all-meet : (cat list : Bytes) (cs : _) (xs : List ℕ) → filter (meets cat list cs []) xs ≡ xs
+all-meet : (cat list : Bytes) (cs : List Segment) (xs : List ℕ) → filter (meets cat list cs []) xs ≡ xs
 unfolding filter
 all-meet cat list cs [] = refl
 all-meet cat list cs (x ∷ xs) = ap (_∷_ x) (all-meet cat list cs xs)

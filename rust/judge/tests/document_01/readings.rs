@@ -88,7 +88,8 @@ fn a_hold_does_not_survive_a_miss() {
     assert_eq!(desk.call(DLET, b"", b"").status, 29);
     desk.position = block(true, 8, Some(7), true);
     assert_eq!(desk.get(GHN, b"").status, 10);
-    assert_eq!(desk.position, block(true, 8, Some(7), false));
+    assert_eq!(desk.position, block(false, 0, None, false));
+    assert_eq!(desk.call(DLET, b"", b"").status, 29);
 }
 
 #[test]
