@@ -156,7 +156,7 @@ overCases =
     ∷ gn [] (gives Blank ∷ place (upon 0) ∷ []) ∷ gn [] (gives Blank ∷ place (upon 1) ∷ []) ∷ [])
     -- on a table of no cells GB is followed by GB
     ∷ calls catalogue empty fresh (gn [] (gives GB ∷ stands fresh ∷ []) ∷ ghn [] (gives GB ∷ stands fresh ∷ []) ∷ gn [] (gives GB ∷ stands fresh ∷ []) ∷ [])
-    -- GE does not start over: the place stays at the end, and get-next with an empty list goes on from there
+    -- GE does not start over: the place stays, and get-next with an empty list goes on from there
     ∷ calls catalogue table (position (upon 7) (parent 7) true) (
     gn step13 (gives GE ∷ stands (onCell 7) ∷ []) ∷ gn [] (gives Blank ∷ place (upon 8) ∷ []) ∷ [])
     ∷ calls catalogue table (position (upon 8) (parent 8) true) (
