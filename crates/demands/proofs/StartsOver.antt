@@ -72,11 +72,12 @@ module _ (cat tab : Bytes) (pos : Position) (c : ℕ) (list area : Bytes) where
       let ah = not-given _ _ (λ z. omega arith) (ak .1) in
       let aj2 = not-given _ _ (λ z. omega arith) (ah .1) in
       let ab = not-given _ _ (λ z. omega arith) (aj2 .1) in
+      let l : ltb (length area) (cellSize cat - 1) ≡ false = rw (next-is c n) at (ab .0) in
       record {
         catalogue = not-true _ (cx .0);
         table = not-true _ (tx .0);
         read = ap (λ (r : ListRead). r .fault) (list-empty cat [] refl);
-        long = (let l : ltb (length area) (cellSize cat - 1) ≡ false = rw (next-is c n) at (ab .0) in omega (arith, ltb-false (length area) (cellSize cat - 1) l));
+        long = omega (arith, ltb-false (length area) (cellSize cat - 1) l);
       }
 
 -- LAW: demands 1 and 3 are enough

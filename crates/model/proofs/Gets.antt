@@ -52,7 +52,8 @@ module _ (cat : Bytes) (cs : List Segment) (pos : Position) (area : Bytes) where
   }
 
   -- what a get makes of the first of its paths, and of the cell found; and of the position where there is none
-  retrieved-agree : (miss : Status) (unfound : Standing) → numbered unfound ≡ afterMiss miss pos → (onP : Path → Status) (onC : ℕ → Status) (moved : Path → Standing) (parentage : ℕ → Parentage) (hold : Bool) (ls : List Level)
+  retrieved-agree : (miss : Status) (unfound : Standing) → numbered unfound ≡ afterMiss miss pos
+      → (onP : Path → Status) (onC : ℕ → Status) (moved : Path → Standing) (parentage : ℕ → Parentage) (hold : Bool) (ls : List Level)
       (ps : List Path) (f : Found) → Heads cat cs ls ps f → ((i : ℕ) → i < length cs → onP (pathTo cat cs i) ≡ onC i)
       → ((i : ℕ) → numbered (moved (pathTo cat cs i)) ≡ movedOnto i (parentage i) hold)
       → retrieved cat cs here area miss unfound onP moved ps ≡ gotten cat cs pos area miss onC parentage hold f
@@ -132,7 +133,8 @@ module _ (cat : Bytes) (cs : List Segment) (pos : Position) (area : Bytes) where
     pub next-agree : (hold : Bool) (ls : List Level) → intGn cat cs here area hold ls ≡ getNext cat cs pos area hold ls
     unfolding intGn getNext
     next-agree hold ls =
-        retrieved-agree (missStatus ls) (ranOut cat cs here area ls) (ran-out ls) (stepStatus cat cs ls (placed cat cs (pos .place))) (levelStatus cat cs ls (pos .place))
+        retrieved-agree (missStatus ls) (ranOut cat cs here area ls) (ran-out ls)
+        (stepStatus cat cs ls (placed cat cs (pos .place))) (levelStatus cat cs ls (pos .place))
         (λ p. movedTo p hold) (λ i. Of (cell i)) hold ls
         (select (follows (placed cat cs (pos .place))) (eval cat cs ls)) (firstMatch cat cs ls (afterPlace (pos .place)) (length cs))
         (first-found cat cs ls (follows (placed cat cs (pos .place))) (afterPlace (pos .place)) (length cs) (omega arith) (next-takes (pos .place)))

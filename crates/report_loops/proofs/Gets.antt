@@ -217,7 +217,12 @@ module _ (cat tab : Bytes) (g : goodCatalogue cat ≡ true) (h : goodTable cat t
     pub gn-seeks : (miss : Status) → missStatus levels ≡ miss → Seeks (seenAt cat tab) Fit Under test (length cs) miss (promised cat 2 list)
     unfolding answerOf
     gn-seeks miss q = record {
-      none = λ s F n. rw (gn-gone s F n) (record { ends = miss-late levels; status = q; stays = miss-left (missStatus levels) (s .position) ∙ ap (λ (m : Status). left m (after s)) q; fit = gone-fit (s .position) (s .area) (F .area) (missStatus levels) (F .position) });
+      none = λ s F n. rw (gn-gone s F n) (record {
+        ends = miss-late levels;
+        status = q;
+        stays = miss-left (missStatus levels) (s .position) ∙ ap (λ (m : Status). left m (after s)) q;
+        fit = gone-fit (s .position) (s .area) (F .area) (missStatus levels) (F .position);
+      });
       one = λ s j F a b t n. rw (gn-got s F j a b t n) (record {
         goes-on = level-early cat cs levels (s .position .place) j;
         shows = got-sight (s .position) (s .area) (F .area) (levelStatus cat cs levels (s .position .place) j) (Of (cell j)) j b;

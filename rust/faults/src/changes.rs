@@ -469,8 +469,9 @@ pub const CHANGES: &[Change] = &[
     change(
         "calls",
         "GNP starts over too",
-        "let at_end = scope == Scope::Next && list.is_empty();",
-        "let at_end = scope == Scope::Next && list.is_empty(); if scope == Scope::NextWithinParent && list.is_empty() { return nothing(Status::GE, Position::fresh(&self.forest)); }",
+        "let at_end = scope == Scope::Next && list.is_empty(); return if at_end {",
+        "let over = Position::fresh(&self.forest); let at_end = scope == Scope::Next && list.is_empty(); \
+         return if scope == Scope::NextWithinParent && list.is_empty() { nothing(Status::GE, over) } else if at_end {",
     ),
     change(
         "calls",
