@@ -27,7 +27,7 @@ use Rattle.rules.specs.Change.{nothing}
 use Rattle.rules.specs.Position.{goodPlace}
 use Rattle.rules.specs.Arguments.{Level}
 use Rattle.rules.specs.Matching.{pathTo, firstMatch, along}
-use Rattle.rules.specs.Calls.{After, bare, afterMiss, over, answerOf, gotten, missStatus, levelStatus, parentEnd, getUnique, getNext, getNextWithin}
+use Rattle.rules.specs.Calls.{After, refused, afterMiss, over, answerOf, gotten, missStatus, levelStatus, parentEnd, getUnique, getNext, getNextWithin}
 use Rattle.rules.specs.Paths.{Path, Standing, follows, beneath, movedTo, movedWithin, letGo, parentageOf, numbered}
 use Rattle.rules.specs.Tree.{select, dataPart, eval, evalAlong, stepStatus, retrieved, ranOut, intGu, intGn, intGnp}
 use Rattle.rules.proofs.Cells.{row-run}
@@ -60,7 +60,7 @@ module _ (cat : Bytes) (cs : List Segment) (pos : Position) (area : Bytes) where
   retrieved-agree miss unfound left onP onC moved parentage hold ls ps f h status onto = elim h [
     | missing a b ↦
         ap (retrieved cat cs here area miss unfound onP moved) a
-        ∙ ap (λ (p : Position). record { answer = bare miss p; change = nothing; cells = none; area = area }) left
+        ∙ ap (λ (p : Position). refused miss p area) left
         ∙ sym (ap (gotten cat cs pos area miss onC parentage hold) b)
     | leading i qs l m a b ↦
         ap (retrieved cat cs here area miss unfound onP moved) a

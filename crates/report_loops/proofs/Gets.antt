@@ -21,7 +21,7 @@ use Rattle.terms.specs.declared.Found.the-variants.{At, Nothing}
 use Rattle.terms.specs.Choice.{pick}
 use Rattle.terms.specs.Names.{cell, sameType}
 use Rattle.terms.specs.Statuses.{number}
-use Rattle.terms.specs.Moves.{fresh, afterPlace, movedOnto, holdDropped}
+use Rattle.terms.specs.Moves.{afterPlace, movedOnto}
 use Rattle.forest.specs.Good.{both-left, both-right}
 use Rattle.forest.specs.Numbers.{range}
 use Rattle.rules.specs.Block.{Bytes, byte, every, zeros, marked}
@@ -42,7 +42,7 @@ use Rattle.cells.proofs.Ancestry.{sound-long}
 use Rattle.report_loops.specs.Loops.{State, promised, start, handedOn, sight}
 use Rattle.report_loops.specs.Demand3.{seenAt}
 use Rattle.report_loops.proofs.Hits.{Without}
-use Rattle.report_loops.proofs.Scan.{after, left, Seeks}
+use Rattle.report_loops.proofs.Scan.{after, Seeks}
 
 -- the search of the rules
 module _ (cat : Bytes) (cs : List Segment) (ls : List Level) where
@@ -80,14 +80,6 @@ level-early cat cs (l ∷ ls) q i = refl
 miss-late : (ls : List Level) → leb 10 (number (missStatus ls)) ≡ true
 miss-late [] = refl
 miss-late (l ∷ ls) = refl
-
--- GB goes back to the start, GE stays
-miss-left : (s : Status) (pos : Position) → afterPlace (afterMiss s pos .place) ≡ left s (afterPlace (pos .place))
-miss-left s pos = either (eqb (number s) 10)
-  where
-    either : (b : Bool) → afterPlace (pick b fresh (holdDropped pos) .place) ≡ pick b 0 (afterPlace (pos .place))
-    either true = refl
-    either false = refl
 
 module _ (cat : Bytes) (cs : List Segment) where
   -- a get that moved onto a cell in the run of its parentage leaves a good position
@@ -220,7 +212,7 @@ module _ (cat tab : Bytes) (g : goodCatalogue cat ≡ true) (h : goodTable cat t
       none = λ s F n. rw (gn-gone s F n) (record {
         ends = miss-late levels;
         status = q;
-        stays = miss-left (missStatus levels) (s .position) ∙ ap (λ (m : Status). left m (after s)) q;
+        stays = λ e. ap (λ (m : Status). afterPlace (afterMiss m (s .position) .place)) (q ∙ e);
         fit = gone-fit (s .position) (s .area) (F .area) (missStatus levels) (F .position);
       });
       one = λ s j F a b t n. rw (gn-got s F j a b t n) (record {
@@ -238,7 +230,7 @@ module _ (cat tab : Bytes) (g : goodCatalogue cat ≡ true) (h : goodTable cat t
       none = λ s U n. rw (gnp-gone s (U .fit) p (U .parentage) n) (record {
         ends = refl;
         status = refl;
-        stays = refl;
+        stays = λ e. refl;
         fit = record { fit = gone-fit (s .position) (s .area) (U .fit .area) GE (U .fit .position); parentage = U .parentage; later = U .later };
       });
       one = λ s j U a b t n. let l : j < length cs = omega (arith, end-within cat cs p m) in rw (gnp-got s (U .fit) p (U .parentage) j a b t n) (record {

@@ -1,5 +1,5 @@
 -- Law B: a loop of gets, with a loop of gets within the run under each cell found, shows what one loop with the joined test shows. Assumes nothing.
-use mathlib.Core.Path.{_≡_, ap, sym, _∙_}
+use mathlib.Core.Path.{_≡_, refl, ap, sym, _∙_}
 use mathlib.Core.Bool.{Bool, true, false}
 use mathlib.Core.Option.{some}
 use mathlib.Core.List.{List, _++_, map, map-append}
@@ -99,7 +99,7 @@ module _ (n : ℕ) (end : ℕ → ℕ) (outer inner joined : ℕ → Bool) (N : 
           let s₂ : State = loop get₂ m s₁ .handed in
           let z : loop get₂ m s₁ .seen ≡ map see (hits joined (suc i) (end i)) =
           r .seen ∙ ap (λ (q : ℕ). map see (hits inner q (end i))) (o .moves) ∙ ap (map see) (hits-same inner joined (suc i) (end i) (λ q x y. N .below i q (omega arith) t x y)) in
-          let ih = nested-from k (end i) s₂ (again i s₂ (r .fit)) (r .within) b₁ (λ q x y. none-under i q v t (omega (arith, r .on, o .moves)) y) (closed-next e i w u v t g) (omega arith) in
+          let ih = nested-from k (end i) s₂ (again i s₂ (r .fit)) (r .within refl) b₁ (λ q x y. none-under i q v t (omega (arith, r .on refl, o .moves)) y) (closed-next e i w u v t g) (omega arith) in
           rw (nested-on get₁ get₂ m k s (o .goes-on) (r .last)) (
             ap (λ (q : List Seen). q ++ nestedLoop get₁ get₂ m k s₂ .seen) z ∙ ap (_++_ (map see (hits joined (suc i) (end i)))) (ih .0)
                 ∙ sym (map-append see (hits joined (suc i) (end i)) (hits joined (end i) n)) ∙ sym (ap (map see) (joined-run e i w u v g)),

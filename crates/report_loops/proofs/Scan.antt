@@ -6,10 +6,8 @@ use mathlib.Core.Option.{some}
 use mathlib.Core.List.{[], _∷_, map}
 use Prim.Native.Nat.{ℕ, zero, suc, _-_, _<_, _≤_}
 use native.Mathlib.Omega.{arith}
-use lib.Dec.{eqb}
 use Rattle.terms.specs.declared.Status.{Status}
-use Rattle.terms.specs.Choice.{pick}
-use Rattle.terms.specs.Statuses.{number}
+use Rattle.terms.specs.declared.Status.the-variants.{GE}
 use Rattle.terms.specs.Moves.{afterPlace}
 use Rattle.rules.specs.Outcome.{Outcome}
 use Rattle.report_loops.specs.Loops.{State, handedOn, Seen, sight, isLast, Shown, ended, behind, loop}
@@ -19,29 +17,11 @@ use Rattle.report_loops.proofs.Hits.{Without, hits, hits-none, hits-fir
 abbrev pub after : State → ℕ
 after s = afterPlace (s .position .place)
 
--- .. of the place that a miss leaves: GB, 10, goes back to the start, any other stays
-abbrev pub left : Status → ℕ → ℕ
-left miss i = pick (eqb (number miss) 10) 0 i
-
-left-within : (miss : Status) (i e : ℕ) → i ≤ e → left miss i ≤ e
-left-within miss i e l = either (eqb (number miss) 10)
-  where
-    either : (b : Bool) → pick b 0 i ≤ e
-    either true = omega arith
-    either false = l
-
-left-later : (miss : Status) (i j : ℕ) → i ≤ j → left miss i ≤ left miss j
-left-later miss i j l = either (eqb (number miss) 10)
-  where
-    either : (b : Bool) → pick b 0 i ≤ pick b 0 j
-    either true = omega arith
-    either false = l
-
--- a get that found nothing: its status ends a loop, and says where it leaves the place
+-- a get that found nothing: its status ends a loop, and with GE it stays where it was
 pub record Missed (Fit : State → Type 0) (miss : Status) (s : State) (o : Outcome) : Type 0 where
   pub ends : isLast o ≡ true
   pub status : o .answer .status ≡ miss
-  pub stays : after (handedOn o) ≡ left miss (after s)
+  pub stays : miss ≡ GE → after (handedOn o) ≡ after s
   pub fit : Fit (handedOn o)
 
 -- a get that found cell j: it shows it, and moves onto it
@@ -61,8 +41,8 @@ pub record Done (see : ℕ → Seen) (Fit : State → Type 0) (t : ℕ → Bool)
   pub seen : r .seen ≡ map see (hits t (after s) e)
   pub last : r .last ≡ some miss
   pub fit : Fit (r .handed)
-  pub on : left miss (after s) ≤ after (r .handed)
-  pub within : after (r .handed) ≤ e
+  pub on : miss ≡ GE → after s ≤ after (r .handed)
+  pub within : miss ≡ GE → after (r .handed) ≤ e
 
 -- one call of a loop
 module _ (get : State → Outcome) (k : ℕ) (s : State) where
@@ -87,8 +67,8 @@ module _ (see : ℕ → Seen) (Fit : State → Type 0) (Then : ℕ → State →
           seen = sym (ap (map see) (hits-none t (after s) e g));
           last = ap some (m .status);
           fit = m .fit;
-          on = omega (arith, m .stays);
-          within = omega (arith, m .stays, left-within miss (after s) e a);
+          on = λ q. omega (arith, m .stays q);
+          within = λ q. omega (arith, m .stays q);
         })
     | found j x y h g ↦
         let m = S .one s j f x y h g in
@@ -99,7 +79,7 @@ module _ (see : ℕ → Seen) (Fit : State → Type 0) (Then : ℕ → State →
               ∙ sym (ap (map see) (hits-first t (after s) j e x y h g));
           last = r .last;
           fit = r .fit;
-          on = omega (arith, r .on, left-later miss (after s) (after (handedOn (get s))) (omega (arith, m .moves)));
+          on = λ q. omega (arith, r .on q, m .moves);
           within = r .within;
         })
   ]

@@ -168,7 +168,7 @@ module _ {cat tab list : Bytes} (g : Given cat tab list (byte tab 5)) where
         within-none Absent x y l = absurd (clash true refl y)
         within-none (Of p) x y l =
             let t = sought-none cat tab (within-seeks (p .0) x) (under (p .0) x) (within-made (p .0) x) (ended l) in
-            (t .0, t .1 .stays, t .1 .fit .fit .position)
+            (t .0, t .1 .stays refl, t .1 .fit .fit .position)
 
         pub within-one : (q : Parentage) → pos .parentage ≡ q → isAbsent q ≡ false → n < 10 → Moved (parentEnd cat cs q) q
         within-one Absent x y l = absurd (clash true refl y)
