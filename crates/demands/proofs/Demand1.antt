@@ -1,13 +1,12 @@
 -- The promise meets demand 1. Assumes nothing.
 use mathlib.Core.Path.{_≡_, _∙_}
-use mathlib.Core.Bool.{Bool, true, false, not}
+use mathlib.Core.Bool.{true, false, not}
 use Prim.Native.Nat.{ℕ, _<_, _≤_}
 use native.Mathlib.Omega.{arith}
 use borrow.Author.Tests.{le-leb, eq-eqb, ne-eqb}
 use Rattle.terms.specs.declared.Position.{Position}
 use Rattle.terms.specs.declared.Status.{Status}
 use Rattle.terms.specs.declared.Status.the-variants.{Blank, CX, TX, PX}
-use Rattle.terms.specs.Choice.{pick}
 use Rattle.terms.specs.Statuses.{number}
 use Rattle.terms.specs.Moves.{fresh, holdDropped}
 use Rattle.rules.specs.Calls.{After, refused, missed, called}
@@ -18,6 +17,7 @@ use Rattle.rules.specs.Table.{listing, goodTable}
 use Rattle.rules.specs.Position.{goodPosition, positionOf}
 use Rattle.rules.specs.Outcome.{Outcome, isBlank, unsound, stopped, unless, afterCall, outcomeOf, outcome}
 use Rattle.rules.proofs.Block.{canonical, block-refused, block-fresh, block-missed}
+use Rattle.rules.proofs.Choice.{pick-of}
 use Rattle.encoding.specs.Determined.{IsBytes}
 use Rattle.model.proofs.Asked.{sound-of}
 use Rattle.demands.specs.Demand1.{Answers, AnswersBlock, Demand1}
@@ -48,15 +48,16 @@ module _ (cat tab : Bytes) (pos : Position) (c : ℕ) (list area : Bytes) where
       }
 
   -- CX, TX and PX are 20 and above
-  unsound-high : isBlank (unsound cat tab pos) ≡ false → 20 ≤ number (unsound cat tab pos)
+  abbrev High : Status → Type 0
+  High s = isBlank s ≡ false → 20 ≤ number s
+
+  unsound-high : High (unsound cat tab pos)
   unfolding unsound
-  unsound-high = high-pick (not (goodCatalogue cat)) CX _ (omega arith)
-      (high-pick (not (goodTable cat tab)) TX _ (omega arith)
-      (high-pick (not (goodPosition cat (listing cat tab) pos)) PX Blank (omega arith) (λ e. absurd (let z : _≡_ {A = ℕ} 0 1 = cc in omega arith))))
-    where
-      high-pick : (b : Bool) (s u : Status) → 20 ≤ number s → (isBlank u ≡ false → 20 ≤ number u) → isBlank (pick b s u) ≡ false → 20 ≤ number (pick b s u)
-      high-pick true s u l f e = l
-      high-pick false s u l f e = f e
+  unsound-high =
+      pick-of High (not (goodCatalogue cat)) CX _ (λ e. omega arith)
+      (pick-of High (not (goodTable cat tab)) TX _ (λ e. omega arith)
+      (pick-of High (not (goodPosition cat (listing cat tab) pos)) PX Blank (λ e. omega arith)
+      (λ e. absurd (let z : _≡_ {A = ℕ} 0 1 = cc in omega arith))))
 
   -- so a call that ends below 20 was made at a good position
   below-good : number (outcome cat tab pos c list area .answer .status) < 20 → goodPosition cat (listing cat tab) pos ≡ true

@@ -1,6 +1,6 @@
 -- The fault of a list is none, AC, AJ or AK. Assumes nothing.
 use mathlib.Core.Path.{_≡_, refl}
-use mathlib.Core.Bool.{Bool, true, false, not}
+use mathlib.Core.Bool.{false, not}
 use Prim.Native.Nat.{ℕ, zero, suc, _+_}
 use lib.Dec.{ltb, leb, eqb}
 use lib.ListN.{length}
@@ -9,12 +9,12 @@ use Rattle.terms.specs.declared.ArgumentRead.{ArgumentRead}
 use Rattle.terms.specs.declared.ArgumentRead.the-variants.{Got, Fault}
 use Rattle.terms.specs.declared.Status.{Status}
 use Rattle.terms.specs.declared.Status.the-variants.{Blank, AC, AJ, AK}
-use Rattle.terms.specs.Choice.{pick}
 use Rattle.terms.specs.Names.{code, field}
 use Rattle.forest.specs.Good.{on, off, is}
 use Rattle.rules.specs.Block.{Bytes, byte}
 use Rattle.rules.specs.Catalogue.{fieldLength}
 use Rattle.rules.specs.Arguments.{goodNext, isFieldOf, argumentAt, argumentsFrom, listRead}
+use Rattle.rules.proofs.Choice.{pick-of}
 
 pub data FaultOf : Status → Type 0 where
   no-fault : FaultOf Blank
@@ -27,20 +27,16 @@ module _ (cat list : Bytes) where
   Faulty (Got a) = Unit {0}
   Faulty (Fault s) = FaultOf s
 
-  faulty-pick : (b : Bool) (x y : ArgumentRead) → Faulty x → Faulty y → Faulty (pick b x y)
-  faulty-pick true x y p q = p
-  faulty-pick false x y p q = q
-
   faulty-at : (before : TypeCode) (at : ℕ) → Faulty (argumentAt cat list before at)
   unfolding argumentAt
   faulty-at before at =
-      faulty-pick (not (goodNext cat list before (code (byte list at)))) (Fault AC) _ type-fault
-      (faulty-pick (leb (length list) (at + 1)) (Fault AJ) _ list-fault
-      (faulty-pick (eqb (byte list (at + 1)) 0) (Got _) _ tt
-      (faulty-pick (ltb 6 (byte list (at + 1))) (Fault AJ) _ list-fault
-      (faulty-pick (leb (length list) (at + 2)) (Fault AJ) _ list-fault
-      (faulty-pick (not (isFieldOf cat list (code (byte list at)) (field (byte list (at + 2))))) (Fault AK) _ field-fault
-      (faulty-pick (ltb (length list) (at + 3 + fieldLength cat (field (byte list (at + 2))))) (Fault AJ) (Got _) list-fault tt))))))
+      pick-of Faulty (not (goodNext cat list before (code (byte list at)))) (Fault AC) _ type-fault
+      (pick-of Faulty (leb (length list) (at + 1)) (Fault AJ) _ list-fault
+      (pick-of Faulty (eqb (byte list (at + 1)) 0) (Got _) _ tt
+      (pick-of Faulty (ltb 6 (byte list (at + 1))) (Fault AJ) _ list-fault
+      (pick-of Faulty (leb (length list) (at + 2)) (Fault AJ) _ list-fault
+      (pick-of Faulty (not (isFieldOf cat list (code (byte list at)) (field (byte list (at + 2))))) (Fault AK) _ field-fault
+      (pick-of Faulty (ltb (length list) (at + 3 + fieldLength cat (field (byte list (at + 2))))) (Fault AJ) (Got _) list-fault tt))))))
 
   fault-from : (n : ℕ) (before : TypeCode) (at : ℕ) → FaultOf (argumentsFrom cat list n before at .fault)
   unfolding argumentsFrom

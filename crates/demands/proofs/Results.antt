@@ -32,6 +32,7 @@ use Rattle.rules.specs.Matching.{firstMatch, along}
 use Rattle.rules.specs.Change.{Change}
 use Rattle.rules.specs.Calls.{After, refused, missed, missStatus, levelStatus, parentEnd, gotten, keyTaken, inserted, insertAmong, insertUnder, insert, replaced, replacement, replace, deleted, delete, changed, answerOf, getUnique, getNext, getNextWithin, called}
 use Rattle.rules.specs.Outcome.{isBlank, unsound, misused, stopped, unless, afterSound, afterCall, landed}
+use Rattle.rules.proofs.Choice.{pick-by, pick-of}
 use Rattle.model.proofs.Asked.{Usable, usable-of}
 use Rattle.demands.specs.StatusTable.{numbers, get, isrt, dlet, new, held}
 use Rattle.demands.specs.Demand1.{Untouched}
@@ -42,10 +43,6 @@ use Rattle.model.proofs.Asked.{by-number}
 -- a status that is blank or 10 and above
 abbrev pub Hard : Status → Type 0
 Hard s = isBlank s ≡ false → 10 ≤ number s
-
-hard-pick : (b : Bool) (s u : Status) → Hard s → Hard u → Hard (pick b s u)
-hard-pick true s u p q = p
-hard-pick false s u p q = q
 
 hard-blank : Hard Blank
 hard-blank e = absurd (let z : _≡_ {A = ℕ} 0 1 = cc in omega arith)
@@ -59,21 +56,21 @@ hard-fault field-fault = λ e. omega arith
 pub hard-unsound : (cat tab : Bytes) (pos : Position) → Hard (unsound cat tab pos)
 unfolding unsound
 hard-unsound cat tab pos =
-    hard-pick (not (goodCatalogue cat)) CX _ (λ e. omega arith)
-    (hard-pick (not (goodTable cat tab)) TX _ (λ e. omega arith)
-    (hard-pick (not (goodPosition cat (listing cat tab) pos)) PX Blank (λ e. omega arith) hard-blank))
+    pick-of Hard (not (goodCatalogue cat)) CX _ (λ e. omega arith)
+    (pick-of Hard (not (goodTable cat tab)) TX _ (λ e. omega arith)
+    (pick-of Hard (not (goodPosition cat (listing cat tab) pos)) PX Blank (λ e. omega arith) hard-blank))
 
 pub hard-misused : (cat : Bytes) (pos : Position) (c : ℕ) (list area : Bytes) → Hard (misused cat pos c list area)
 unfolding misused
 hard-misused cat pos c list area =
     let ar : List Argument = listRead cat list .arguments in
-    hard-pick (not (leb 1 c && leb c 9)) AD _ (λ e. omega arith)
-    (hard-pick (not (isBlank (listRead cat list .fault))) (listRead cat list .fault) _ (hard-fault (list-fault-of cat list))
-    (hard-pick (eqb c 7 && isNil ar) AH _ (λ e. omega arith)
-    (hard-pick ((eqb c 7 && isQualified (lastArgument ar .qualification)) || ((eqb c 8 || eqb c 9) && not (isNil ar))) AJ _ (λ e. omega arith)
-    (hard-pick (not (eqb c 9) && ltb (length area) (cellSize cat - 1)) AB _ (λ e. omega arith)
-    (hard-pick ((eqb c 3 || eqb c 6) && isAbsent (pos .parentage)) GP _ (λ e. omega arith)
-    (hard-pick ((eqb c 8 || eqb c 9) && not (pos .hold)) DJ Blank (λ e. omega arith) hard-blank))))))
+    pick-of Hard (not (leb 1 c && leb c 9)) AD _ (λ e. omega arith)
+    (pick-of Hard (not (isBlank (listRead cat list .fault))) (listRead cat list .fault) _ (hard-fault (list-fault-of cat list))
+    (pick-of Hard (eqb c 7 && isNil ar) AH _ (λ e. omega arith)
+    (pick-of Hard ((eqb c 7 && isQualified (lastArgument ar .qualification)) || ((eqb c 8 || eqb c 9) && not (isNil ar))) AJ _ (λ e. omega arith)
+    (pick-of Hard (not (eqb c 9) && ltb (length area) (cellSize cat - 1)) AB _ (λ e. omega arith)
+    (pick-of Hard ((eqb c 3 || eqb c 6) && isAbsent (pos .parentage)) GP _ (λ e. omega arith)
+    (pick-of Hard ((eqb c 8 || eqb c 9) && not (pos .hold)) DJ Blank (λ e. omega arith) hard-blank))))))
 
 -- every status is one of the table's
 pub number-known : (s : Status) → isIn (number s) numbers ≡ true
@@ -114,10 +111,6 @@ module _ (cat tab : Bytes) (pos : Position) (list area : Bytes) where
     pub low : 10 ≤ number (a .answer .status) → number (a .answer .status) < 20 → a ≡ missed (a .answer .status) pos area
     pub tells : Tells cat tab pos c list area (landed cat tab a)
 
-  says-pick : (c : ℕ) (b : Bool) (x y : After) → (b ≡ true → Says c x) → (b ≡ false → Says c y) → Says c (pick b x y)
-  says-pick c true x y f g = f refl
-  says-pick c false x y f g = g refl
-
   says-refused : (c : ℕ) (s : Status) → 20 ≤ number s → Says c (refused s pos area)
   says-refused c s l = record {
     high = λ h. refl;
@@ -135,8 +128,8 @@ module _ (cat tab : Bytes) (pos : Position) (list area : Bytes) where
   says-unless : (c : ℕ) (s : Status) (done : After) → Hard s → (isBlank s ≡ true → Says c done) → Says c (unless s pos area done)
   unfolding unless stopped
   says-unless c s done h f =
-      says-pick c (isBlank s) done _ f
-      (λ e. says-pick c (leb 20 (number s)) (refused s pos area) (missed s pos area)
+      pick-by (Says c) (isBlank s) done _ f
+      (λ e. pick-by (Says c) (leb 20 (number s)) (refused s pos area) (missed s pos area)
       (λ k. says-refused c s (leb-true 20 (number s) k)) (λ k. says-missed c s (h e) (leb-false 20 (number s) k)))
 
   says-gotten : (c : ℕ) → get c ≡ true → dlet c ≡ false → (miss : Status) → 10 ≤ number miss → number miss < 20 → (status : ℕ → Status) → ((i : ℕ) → number (status i) < 10)
@@ -200,8 +193,8 @@ module _ (cat tab : Bytes) (pos : Position) (list area : Bytes) where
   says-inserted : (m : ℕ) (above : List ℕ) (b : Bool) (r : ℕ) (ds : List Segment) → Says 7 (inserted cat cs pos area m (new cat tab pos 7 list area) above b r ds)
   unfolding inserted arriving segmentOf
   says-inserted m above b r ds =
-      says-pick 7 (eqb (keyKind cat (lastArgument (listRead cat list .arguments) .code)) 1 && b) _ _ (λ e. says-refused 7 II (omega arith))
-      (λ e. says-pick 7 (eqb (length cs) m) _ _ (λ f. says-refused 7 FX (omega arith)) (λ f. says-changed 7 refl _ (new cat tab pos 7 list area) refl 0 refl _ ds))
+      pick-by (Says 7) (eqb (keyKind cat (lastArgument (listRead cat list .arguments) .code)) 1 && b) _ _ (λ e. says-refused 7 II (omega arith))
+      (λ e. pick-by (Says 7) (eqb (length cs) m) _ _ (λ f. says-refused 7 FX (omega arith)) (λ f. says-changed 7 refl _ (new cat tab pos 7 list area) refl 0 refl _ ds))
 
   says-among : (m : ℕ) (above : List ℕ) (i n : ℕ) → Says 7 (insertAmong cat cs pos area m (new cat tab pos 7 list area) above i n)
   unfolding insertAmong
@@ -213,13 +206,13 @@ module _ (cat tab : Bytes) (pos : Position) (list area : Bytes) where
 
   says-insert : (m : ℕ) (ls : List Level) → Says 7 (insert cat cs pos area m (lastArgument (listRead cat list .arguments) .code) ls)
   unfolding insert
-  says-insert m ls = says-pick 7 (eqb (lastArgument (listRead cat list .arguments) .code .0) 1) _ _ (λ e. says-among m _ _ _) (λ e. says-beneath m (along cat cs ls (pos .place)))
+  says-insert m ls = pick-by (Says 7) (eqb (lastArgument (listRead cat list .arguments) .code .0) 1) _ _ (λ e. says-among m _ _ _) (λ e. says-beneath m (along cat cs ls (pos .place)))
 
   says-replace : Says 8 (replace cat cs pos area)
   unfolding replace replaced replacement arriving segmentOf
   says-replace =
       let i : ℕ = placeNumber (pos .place) in
-      says-pick 8 (not (sameBytes (key cat (segment cs i)) (key cat (replacement cat cs pos area i)))) _ _ (λ e. says-refused 8 DA (omega arith))
+      pick-by (Says 8) (not (sameBytes (key cat (segment cs i)) (key cat (replacement cat cs pos area i)))) _ _ (λ e. says-refused 8 DA (omega arith))
       (λ e. says-changed 8 refl _ (replacement cat cs pos area i) refl 0 refl _ _)
 
   says-delete : Says 9 (delete cat cs pos area)

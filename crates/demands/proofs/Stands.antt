@@ -35,6 +35,7 @@ use Rattle.rules.specs.Calls.{After, refused, missed, missStatus, levelStatus, 
 use Rattle.rules.specs.Calls.{inserted, insertAmong, insertUnder, insert, replaced, replacement, replace, deleted, delete, called}
 use Rattle.rules.specs.Outcome.{isBlank, unsound, misused, stopped, unless, afterSound, afterCall}
 use Rattle.rules.proofs.Cells.{row-run}
+use Rattle.rules.proofs.Choice.{pick-by}
 use Rattle.rules.proofs.Paths.{path-some}
 use Rattle.rules.proofs.Tree.{missing, leading}
 use Rattle.encoding.proofs.Bytes.{table-listing}
@@ -62,10 +63,6 @@ module _ (cat tab : Bytes) (pos : Position) (list area : Bytes) where
   -- the row of a call that is done
   abbrev done : ℕ → Position
   done c = said cat tab pos c list area (doneRow c)
-
-  stood-pick : (c : ℕ) (b : Bool) (x y : After) → (b ≡ true → Stood c x) → (b ≡ false → Stood c y) → Stood c (pick b x y)
-  stood-pick c true x y f g = f refl
-  stood-pick c false x y f g = g refl
 
   stood-refused : (c : ℕ) (s : Status) → 20 ≤ number s → Stood c (refused s pos area)
   stood-refused c s l = rw (le-leb 20 (number s) l)
@@ -95,8 +92,8 @@ module _ (cat tab : Bytes) (pos : Position) (list area : Bytes) where
   stood-unless : (c : ℕ) (s : Status) (a : After) → Hard s → (isBlank s ≡ true → Stood c a) → Stood c (unless s pos area a)
   unfolding unless stopped
   stood-unless c s a h f =
-      stood-pick c (isBlank s) a _ f
-      (λ e. stood-pick c (leb 20 (number s)) (refused s pos area) (missed s pos area)
+      pick-by (Stood c) (isBlank s) a _ f
+      (λ e. pick-by (Stood c) (leb 20 (number s)) (refused s pos area) (missed s pos area)
       (λ k. stood-refused c s (leb-true 20 (number s) k)) (λ k. stood-missed c s (h e) (leb-false 20 (number s) k)))
 
   -- a get moves onto the cell found; f is what it finds
@@ -143,7 +140,7 @@ module _ (cat tab : Bytes) (pos : Position) (list area : Bytes) where
   unfolding replace replaced changed answerOf
   stood-replace =
       let i : ℕ = placeNumber (pos .place) in
-      stood-pick 8 (not (sameBytes (key cat (segment cs i)) (key cat (replacement cat cs pos area i)))) _ _ (λ e. stood-refused 8 DA (omega arith)) (λ e. refl)
+      pick-by (Stood 8) (not (sameBytes (key cat (segment cs i)) (key cat (replacement cat cs pos area i)))) _ _ (λ e. stood-refused 8 DA (omega arith)) (λ e. refl)
 
   -- DLET: "The parentage goes if it was in the run."
   parentage-gone : (i : ℕ) (m : Parentage) → without i (runAt cat cs i) m ≡ keptIf (λ p. not (leb i p && ltb p (endAt cat cs i))) m
@@ -183,8 +180,8 @@ module _ (cat tab : Bytes) (pos : Position) (list area : Bytes) where
       → Stood 7 (insertAmong cat cs pos area (room cat tab) x above i n)
   unfolding insertAmong inserted changed answerOf
   stood-among above i n test same h =
-      stood-pick 7 (eqb (keyKind cat (x .code)) 1 && keyTaken cat cs x i n) _ _ (λ e. stood-refused 7 II (omega arith))
-      (λ e. stood-pick 7 (eqb (length cs) (room cat tab)) _ _ (λ f. stood-refused 7 FX (omega arith))
+      pick-by (Stood 7) (eqb (keyKind cat (x .code)) 1 && keyTaken cat cs x i n) _ _ (λ e. stood-refused 7 II (omega arith))
+      (λ e. pick-by (Stood 7) (eqb (length cs) (room cat tab)) _ _ (λ f. stood-refused 7 FX (omega arith))
       (λ f. ap (λ (m : Parentage). record { place = On (cell (i + spot (segmentLevel cat) x (goesBefore cat x) (drop i cs))); parentage = m; hold = false })
       (kept-same above test (pos .parentage) same) ∙ h))
 
@@ -253,7 +250,7 @@ module _ (cat tab : Bytes) (pos : Position) (list area : Bytes) where
 
     stood-insert : Stood 7 (insert cat cs pos area (room cat tab) t (parentLevels cat list (listRead cat list .arguments)))
     unfolding insert
-    stood-insert = stood-pick 7 (eqb (t .0) 1) _ _ stood-top
+    stood-insert = pick-by (Stood 7) (eqb (t .0) 1) _ _ stood-top
         (λ e. elim (along-heads cat cs (numbers-levelled cat g cs good) (parentLevels cat list (listRead cat list .arguments)) (pos .place) place) [
           | missing a b ↦ subst (λ (f : Found). Stood 7 (insertUnder cat cs pos area (room cat tab) x f)) (sym b) (stood-missed 7 GE (omega arith) (omega arith))
           | leading i qs l m a b ↦ subst (λ (f : Found). Stood 7 (insertUnder cat cs pos area (room cat tab) x f)) (sym b) (stood-beneath i e l (parent-level e i m) b)

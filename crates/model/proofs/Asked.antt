@@ -32,6 +32,7 @@ use Rattle.rules.specs.Matching.{pathTo}
 use Rattle.rules.specs.Paths.{currentPath}
 use Rattle.rules.specs.Outcome.{isBlank, isGnp, isIsrt, isDlet, isHeld, unsound, misused}
 use Rattle.rules.proofs.Cells.{row-run}
+use Rattle.rules.proofs.Choice.{pick-of}
 use Rattle.model.proofs.Paths.{placed}
 use Rattle.model.proofs.Parents.{never}
 
@@ -142,22 +143,18 @@ module _ (cat list : Bytes) where
   Named (Got a) = isType cat (a .code) ≡ true
   Named (Fault s) = Unit {0}
 
-  named-pick : (b : Bool) (x y : ArgumentRead) → Named x → Named y → Named (pick b x y)
-  named-pick true x y p q = p
-  named-pick false x y p q = q
-
   named-at : (before : TypeCode) (at : ℕ) → Named (argumentAt cat list before at)
   unfolding argumentAt
   named-at before at = elim (is (goodNext cat list before (code (byte list at)))) [
     | on h ↦
         let k : isType cat (code (byte list at)) ≡ true = next-type before (code (byte list at)) h in
         rw h
-        (named-pick (leb (length list) (at + 1)) (Fault AJ) _ tt
-        (named-pick (eqb (byte list (at + 1)) 0) (Got _) _ k
-        (named-pick (ltb 6 (byte list (at + 1))) (Fault AJ) _ tt
-        (named-pick (leb (length list) (at + 2)) (Fault AJ) _ tt
-        (named-pick (not (isFieldOf cat list (code (byte list at)) (field (byte list (at + 2))))) (Fault AK) _ tt
-        (named-pick (ltb (length list) (at + 3 + fieldLength cat (field (byte list (at + 2))))) (Fault AJ) (Got _) tt k))))))
+        (pick-of Named (leb (length list) (at + 1)) (Fault AJ) _ tt
+        (pick-of Named (eqb (byte list (at + 1)) 0) (Got _) _ k
+        (pick-of Named (ltb 6 (byte list (at + 1))) (Fault AJ) _ tt
+        (pick-of Named (leb (length list) (at + 2)) (Fault AJ) _ tt
+        (pick-of Named (not (isFieldOf cat list (code (byte list at)) (field (byte list (at + 2))))) (Fault AK) _ tt
+        (pick-of Named (ltb (length list) (at + 3 + fieldLength cat (field (byte list (at + 2))))) (Fault AJ) (Got _) tt k))))))
     | off h ↦ rw h tt
   ]
 

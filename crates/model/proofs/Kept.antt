@@ -43,6 +43,7 @@ use Rattle.rules.specs.Calls.{After, refused, afterMiss, missed, over, isOneOf,
 use Rattle.rules.specs.Outcome.{isBlank, isIsrt, unsound, misused, stopped, unless, afterSound, afterCall, landed, outcomeOf, outcome}
 use Rattle.rules.proofs.Search.{seek-none, seek-here, seek-next}
 use Rattle.rules.proofs.Cells.{listing-length}
+use Rattle.rules.proofs.Choice.{pick-by}
 use Rattle.rules.proofs.Positions.{no-hold, miss-good}
 use Rattle.encoding.specs.Determined.{IsBytes, All, Fits}
 use Rattle.encoding.proofs.Entries.{length-cell}
@@ -128,10 +129,6 @@ module _ (cat : Bytes) (cs : List Segment) (m : ℕ) (area : Bytes) where
     long : length (a .area) ≡ length area
     filled : IsBytes (a .area)
 
-  keeps-pick : (isrt writing b : Bool) (x y : After) → (b ≡ true → Keeps isrt writing x) → (b ≡ false → Keeps isrt writing y) → Keeps isrt writing (pick b x y)
-  keeps-pick isrt writing true x y f g = f refl
-  keeps-pick isrt writing false x y f g = g refl
-
   module _ (g : goodCatalogue cat ≡ true) (good : goodListing cat cs ≡ true) (whole : All (Fits cat) cs) (roomy : length cs ≤ m) (bytes : IsBytes area)
       (pos : Position) (here : goodPosition cat cs pos ≡ true) where
     near-place : placeNumber (pos .place) ≤ length cs
@@ -163,7 +160,7 @@ module _ (cat : Bytes) (cs : List Segment) (m : ℕ) (area : Bytes) where
     keeps-stopped : (isrt writing : Bool) (s : Status) → isBlank s ≡ false → Keeps isrt writing (stopped s pos area)
     unfolding stopped
     keeps-stopped isrt writing s e =
-        keeps-pick isrt writing (leb 20 (number s)) (refused s pos area) (missed s pos area)
+        pick-by (Keeps isrt writing) (leb 20 (number s)) (refused s pos area) (missed s pos area)
         (λ h. keeps-refused isrt writing s (not-done isrt (isBlank s) e)) (λ h. keeps-missed isrt writing s (not-done isrt (isBlank s) e))
 
     -- the gets
@@ -279,8 +276,8 @@ module _ (cat : Bytes) (cs : List Segment) (m : ℕ) (area : Bytes) where
               → Keeps true true (inserted cat cs pos area m x above taken r (with-x r))
           unfolding inserted changed answerOf
           keeps-inserted above taken a h =
-              keeps-pick true true (eqb (keyKind cat (x .code)) 1 && taken) _ _ (λ e. keeps-refused true true II refl)
-              (λ f. keeps-pick true true (eqb (length cs) m) _ _ (λ e. keeps-refused true true FX refl)
+              pick-by (Keeps true true) (eqb (keyKind cat (x .code)) 1 && taken) _ _ (λ e. keeps-refused true true II refl)
+              (λ f. pick-by (Keeps true true) (eqb (length cs) m) _ _ (λ e. keeps-refused true true FX refl)
               (λ e. record {
                 formed = h f;
                 fits = with-fits r;
@@ -369,7 +366,7 @@ module _ (cat : Bytes) (cs : List Segment) (m : ℕ) (area : Bytes) where
         unfolding insert
         keeps-insert list ar =
             let ls : List Level = complete cat list ar (parentOf cat t) in
-            keeps-pick true true (eqb (t .0) 1) _ _
+            pick-by (Keeps true true) (eqb (t .0) 1) _ _
             (λ e.
             let z : t .0 ≡ 1 = eqb-true (t .0) 1 e in
             keeps-top x′ x-fits
@@ -409,7 +406,7 @@ module _ (cat : Bytes) (cs : List Segment) (m : ℕ) (area : Bytes) where
         keeps-replace : Keeps false true (replace cat cs pos area)
         unfolding replace replaced changed answerOf
         keeps-replace =
-            keeps-pick false true (not (sameBytes (key cat (segment cs i)) (key cat y))) _ _ (λ e. keeps-refused false true DA refl)
+            pick-by (Keeps false true) (not (sameBytes (key cat (segment cs i)) (key cat y))) _ _ (λ e. keeps-refused false true DA refl)
             (λ e.
             let n : length (set cs i y) ≡ length cs = length-set cs i y in
             let k : key cat (segment cs i) ≡ key cat y = same-bytes (key cat (segment cs i)) (key cat y) (not-true (sameBytes (key cat (segment cs i)) (key cat y)) e) in
@@ -567,7 +564,7 @@ module _ (cat tab area : Bytes) (g : goodCatalogue cat ≡ true) (bytes : IsByte
     keeps-unless : (s : Status) (done : After) → (isBlank s ≡ true → Stays done) → Stays (unless s pos area done)
     unfolding unless
     keeps-unless s done h =
-        keeps-pick cat (listing cat tab) (room cat tab) area (isIsrt c) (leb 7 c) (isBlank s) done (stopped s pos area) h
+        pick-by (Keeps cat (listing cat tab) (room cat tab) area (isIsrt c) (leb 7 c)) (isBlank s) done (stopped s pos area) h
         (keeps-stopped cat (listing cat tab) (room cat tab) area g (table-listing cat tab good) (table-fits cat tab good bytes) few full pos here (isIsrt c) (leb 7 c) s)
       where
         few : length (listing cat tab) ≤ room cat tab

@@ -26,6 +26,7 @@ use Rattle.rules.specs.Arguments.{Level, lastArgument, getLevels, parent
 use Rattle.rules.specs.Matching.{firstMatch, along}
 use Rattle.rules.specs.Calls.{After, refused, missStatus, levelStatus, parentEnd, isOneOf, gotten, keyTaken, changed, inserted, replaced, replacement}
 use Rattle.rules.specs.Calls.{insertAmong, insertUnder, insert, replace, deleted, delete, getUnique, getNext, getNextWithin, called}
+use Rattle.rules.proofs.Choice.{pick-of}
 
 -- what stands of the cells after a call follows its change
 record Follows (cs : List Segment) (a : After) : Type 0 where
@@ -33,8 +34,7 @@ record Follows (cs : List Segment) (a : After) : Type 0 where
 
 module _ (cat : Bytes) (cs : List Segment) (pos : Position) (area : Bytes) where
   either : (b : Bool) {x y : After} → Follows cs x → Follows cs y → Follows cs (pick b x y)
-  either true p q = p
-  either false p q = q
+  either b {x} {y} p q = pick-of (Follows cs) b x y p q
 
   got-follows : (miss : Status) (status : ℕ → Status) (parentage : ℕ → Parentage) (hold : Bool) (f : Found)
       → Follows cs (gotten cat cs pos area miss status parentage hold f)

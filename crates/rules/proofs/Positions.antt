@@ -1,7 +1,7 @@
 -- A call that found nothing leaves a good position, if it stood at one: the fresh position is good, and none becomes bad by losing its hold.
 -- Assumes nothing.
 use mathlib.Core.Path.{_≡_, refl}
-use mathlib.Core.Bool.{Bool, true, false, _&&_}
+use mathlib.Core.Bool.{true, false, _&&_}
 use mathlib.Core.List.{List}
 use native.Mathlib.Omega.{arith}
 use lib.Dec.{eqb}
@@ -11,7 +11,6 @@ use Rattle.terms.specs.declared.Place.{Place}
 use Rattle.terms.specs.declared.Place.the-variants.{On, Before}
 use Rattle.terms.specs.declared.Position.{Position}
 use Rattle.terms.specs.declared.Status.{Status}
-use Rattle.terms.specs.Choice.{pick}
 use Rattle.terms.specs.Statuses.{number}
 use Rattle.terms.specs.Moves.{fresh, holdDropped}
 use Rattle.forest.specs.Good.{both-left}
@@ -19,6 +18,7 @@ use Rattle.rules.specs.Block.{Bytes}
 use Rattle.rules.specs.Cells.{Segment}
 use Rattle.rules.specs.Position.{goodPlace, goodParentage, goodHold, goodPosition}
 use Rattle.rules.specs.Calls.{afterMiss}
+use Rattle.rules.proofs.Choice.{pick-of}
 
 module _ (cat : Bytes) (cs : List Segment) where
   pub fresh-good : goodPosition cat cs fresh ≡ true
@@ -38,8 +38,5 @@ module _ (cat : Bytes) (cs : List Segment) where
 
   -- LAW
   pub miss-good : (s : Status) (pos : Position) → goodPosition cat cs pos ≡ true → goodPosition cat cs (afterMiss s pos) ≡ true
-  miss-good s pos e = either (eqb (number s) 10)
-    where
-      either : (b : Bool) → goodPosition cat cs (pick b fresh (holdDropped pos)) ≡ true
-      either true = fresh-good
-      either false = dropped-good pos e
+  miss-good s pos e =
+      pick-of (λ (p : Position). goodPosition cat cs p ≡ true) (eqb (number s) 10) fresh (holdDropped pos) fresh-good (dropped-good pos e)
