@@ -7,6 +7,8 @@ use terms::Status;
 use terms::TypeCode;
 use terms::statuses::number;
 ghost use mathlib.Core.Path.{_≡_};
+ghost use mathlib.Core.Bool.{true};
+ghost use Rattle.rules.specs.Catalogue.{isType, goodCatalogue};
 ghost use Rattle.rules.specs.Calls.{bare, afterMiss};
 ghost use Rattle.answers.specs.Told.{stoppedAnswer, told};
 
@@ -46,6 +48,7 @@ pub fn stopped(s: Status, p: Position) -> Answer
 
 // "Type, level and length are those of the segment got, inserted, replaced or deleted"
 pub fn told(cat: &[u8], s: Status, p: Position, t: TypeCode, removed: usize) -> Answer
+    requires { ⌜ (goodCatalogue (now cat) ≡ true) × (isType (now cat) t ≡ true) ⌝ }
     ensures { λ r. ⌜ r ≡ told (now (cat .entry)) s p t removed ⌝ }
 {
     Answer {

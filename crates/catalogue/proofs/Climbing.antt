@@ -36,12 +36,6 @@ module _ (cat : Bytes) where
   climbed-step (suc n) zero h k = absurd (k refl)
   climbed-step (suc n) (suc u) h k = let z : suc n - 1 ≡ n = omega arith in rw z
 
-  -- one step of the climb, with n types passed
-  pub level-step : (n left u p : ℕ) → 0 < left → (u ≡ 0 → ⊥) → code p ≡ parentOf cat (code u) → n + 1 + length (climbed cat (left - 1) p) ≡ n + length (climbed cat left u)
-  level-step n left u p h k e =
-      let z : p ≡ par cat u = ap (λ (t : TypeCode). t .0) e in
-      rw (z, climbed-step left u h k) (omega arith)
-
   pub above-step : (x left u p : ℕ) → 0 < left → (u ≡ 0 → ⊥) → (x ≡ u → ⊥) → code p ≡ parentOf cat (code u) → isIn x (climbed cat (left - 1) p) ≡ isIn x (climbed cat left u)
   above-step x left u p h k n e =
       let z : p ≡ par cat u = ap (λ (t : TypeCode). t .0) e in

@@ -1,1 +1,2 @@
--- Nothing beyond what `rules` says of a catalogue.
+-- A row of type levels. What a catalogue says of a type stands in `rules`.
+pub mod Levels

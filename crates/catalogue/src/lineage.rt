@@ -1,26 +1,62 @@
-// How the types lie one beneath another: each by climbing from a type to its parent, at most as many times as its code says.
+// How the types lie one beneath another: their levels by one pass over the catalogue, whether one lies beneath another by climbing from a type to
+// its parent, at most as many times as its code says.
 use crate::entries::parent;
+use crate::entry_bytes::types;
+use blocks::wide;
 use terms::TypeCode;
 ghost use mathlib.Core.Path.{_≡_};
+ghost use mathlib.Core.Bool.{true};
+ghost use Prim.Native.Nat.{_-_, _≤_, _<_};
 ghost use Rattle.forest.specs.Numbers.{isIn};
-ghost use Rattle.rules.specs.Catalogue.{lineage, level, typeBeneath};
+ghost use Rattle.rules.specs.Catalogue.{types, lineage, level, isType, typeBeneath, goodCatalogue};
+ghost use Rattle.catalogue.specs.Levels.{Ordered, Levels};
 
-// "The root type has level 1, a child one more"
-pub fn level(cat: &[u8], t: TypeCode) -> u8
+// One type more in a row of levels: "The root type has level 1, a child one more", and the parent's level is there already.
+pub fn add_level(cat: &[u8], row: &mut [u8; 33], t: TypeCode)
+    requires { ⌜ Ordered (now cat) (t .0) × (0 < t .0) × Levels (now cat) (now row) (t .0 - 1) ⌝ }
+    ensures { λ _. ⌜ Levels (now (cat .entry)) (now (row .exit)) (t .0) ⌝ }
+{
+    let above = wide(cat[8 * wide(t.0)]);
+    row[wide(t.0)] = row[above] + 1;
+}
+
+// The levels of the types up to t, in one pass: no type is climbed from.
+pub fn levels_to(cat: &[u8], row: &mut [u8; 33], t: TypeCode)
+    requires { ⌜ (goodCatalogue (now cat) ≡ true) × (t .0 ≤ types (now cat)) × Levels (now cat) (now row) 0 ⌝ }
+    ensures { λ _. ⌜ Levels (now (cat .entry)) (now (row .exit)) (t .0) ⌝ }
+{
+    let mut k: u8 = 0;
+    while k < t.0 {
+        k += 1;
+        add_level(cat, row, TypeCode(k));
+    }
+}
+
+// The levels of all types.
+pub fn levels(cat: &[u8], row: &mut [u8; 33])
+    requires { ⌜ (goodCatalogue (now cat) ≡ true) × Levels (now cat) (now row) 0 ⌝ }
+    ensures { λ _. ⌜ Levels (now (cat .entry)) (now (row .exit)) (types (now (cat .entry))) ⌝ }
+{
+    levels_to(cat, row, TypeCode(types(cat)));
+}
+
+// The level of a type, by the row of all of them.
+pub fn level_by(row: &[u8; 33], cat: &[u8], t: TypeCode) -> u8
+    requires { ⌜ (goodCatalogue (now cat) ≡ true) × (isType (now cat) t ≡ true) × Levels (now cat) (now row) (types (now cat)) ⌝ }
     ensures { λ r. ⌜ r ≡ level (now (cat .entry)) t ⌝ }
 {
-    let mut u = t.0;
-    let mut left = t.0;
-    let mut n: u8 = 0;
-    while 0 < left {
-        if u == 0 {
-            return n;
-        }
-        n += 1;
-        left -= 1;
-        u = parent(cat, TypeCode(u)).0;
-    }
-    n
+    row[wide(t.0)]
+}
+
+// The level of one type alone: the row ends with its parent's.
+pub fn level(cat: &[u8], t: TypeCode) -> u8
+    requires { ⌜ (goodCatalogue (now cat) ≡ true) × (isType (now cat) t ≡ true) ⌝ }
+    ensures { λ r. ⌜ r ≡ level (now (cat .entry)) t ⌝ }
+{
+    let above = cat[8 * wide(t.0)];
+    let mut row = [0u8; 33];
+    levels_to(cat, &mut row, TypeCode(above));
+    row[wide(above)] + 1
 }
 
 // Whether x is t or a type above it.

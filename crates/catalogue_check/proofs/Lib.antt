@@ -1,2 +1,3 @@
 pub mod LeftToTest
 pub mod EntryTests
+pub mod Levelled

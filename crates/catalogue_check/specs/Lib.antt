@@ -1,1 +1,2 @@
--- Nothing beyond what `rules` says of a catalogue.
+-- What `rules` says of a catalogue, and how far its check has come.
+pub mod Levelled

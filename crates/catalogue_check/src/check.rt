@@ -10,7 +10,7 @@ use terms::FieldNumber;
 use terms::Status;
 use terms::TypeCode;
 ghost use mathlib.Core.Path.{_≡_};
-ghost use mathlib.Core.Bool.{_&&_};
+ghost use mathlib.Core.Bool.{true, _&&_};
 ghost use lib.Dec.{leb};
 ghost use Rattle.forest.specs.Numbers.{range};
 ghost use Rattle.rules.specs.Block.{every};
@@ -51,14 +51,17 @@ fn good_header(cat: &[u8]) -> bool
     cat.len() == 8 + 8 * wide(top) + 4 * wide(last)
 }
 
+// The row of levels is filled on the way, each from its parent's.
 fn good_types(cat: &[u8]) -> bool
+    requires { ⌜ goodHeader (now cat) ≡ true ⌝ }
     ensures { λ r. ⌜ r ≡ every (goodType (now (cat .entry))) (range 1 (types (now (cat .entry)))) ⌝ }
 {
     let top = types(cat);
+    let mut levels = [0u8; 33];
     let mut k: u8 = 0;
     while k < top {
         k += 1;
-        if !good_type(cat, TypeCode(k)) {
+        if !good_type(cat, &mut levels, TypeCode(k)) {
             return false;
         }
     }

@@ -1,4 +1,4 @@
-// The check of one entry of a catalogue, of a type and of a field. Like the lookups, these take any slice and any number.
+// The check of one entry of a catalogue, of a type and of a field. Like the lookups, all but `good_type` take any slice and any number.
 use blocks::wide;
 use catalogue::entries::data_length;
 use catalogue::entries::key_kind;
@@ -10,17 +10,18 @@ use catalogue::entry_bytes::type_byte;
 use catalogue::fields::field_length;
 use catalogue::fields::field_start;
 use catalogue::fields::field_type;
+use catalogue::lineage::add_level;
 use catalogue::lineage::is_above;
-use catalogue::lineage::level;
 use catalogue::type_range::is_type;
 use terms::FieldNumber;
 use terms::TypeCode;
 ghost use mathlib.Core.Path.{_≡_};
-ghost use mathlib.Core.Bool.{_&&_};
+ghost use mathlib.Core.Bool.{true, _&&_};
 ghost use Prim.Native.Nat.{_+_, _*_};
 ghost use lib.Dec.{leb};
 ghost use Rattle.rules.specs.Block.{part, zeros};
 ghost use Rattle.rules.specs.Catalogue.{lengthOf, goodSpan, goodKey, goodParent, goodType, goodField};
+ghost use Rattle.catalogue_check.specs.Levelled.{Ready, Next};
 
 // "start and length are at least 1 and start + length - 1 is at most L": the sum is taken in wide numbers, where it cannot wrap.
 fn good_span(start: u8, long: u8, most: u8) -> bool
@@ -92,8 +93,10 @@ fn ends_in_zeros(cat: &[u8], t: TypeCode) -> bool
     type_byte(cat, t, 7) == 0
 }
 
-pub fn good_type(cat: &[u8], t: TypeCode) -> bool
-    ensures { λ r. ⌜ r ≡ goodType (now (cat .entry)) (t .0) ⌝ }
+// The types before t have been found good: the row holds their levels, and gains that of t if it is good too.
+pub fn good_type(cat: &[u8], levels: &mut [u8; 33], t: TypeCode) -> bool
+    requires { ⌜ Next (now cat) (now levels) (t .0) ⌝ }
+    ensures { λ r. ⌜ (r ≡ goodType (now (cat .entry)) (t .0)) × (r ≡ true → Ready (now (cat .entry)) (now (levels .exit)) (t .0)) ⌝ }
 {
     if !good_parent(cat, t) {
         return false;
@@ -107,7 +110,8 @@ pub fn good_type(cat: &[u8], t: TypeCode) -> bool
     if !ends_in_zeros(cat, t) {
         return false;
     }
-    level(cat, t) <= 15
+    add_level(cat, levels, t);
+    levels[wide(t.0)] <= 15
 }
 
 // "type code from 1 to T, start, length (same rule against that type's L), zero byte"

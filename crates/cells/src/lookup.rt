@@ -2,6 +2,7 @@
 use blocks::wide;
 use blocks::word_at;
 use catalogue::lineage::level;
+use catalogue::lineage::level_by;
 use catalogue::type_range::largest;
 use terms::CellNumber;
 use terms::TypeCode;
@@ -9,8 +10,11 @@ ghost use mathlib.Core.Path.{_≡_};
 ghost use Prim.Native.Nat.{_-_, _≤_, _<_};
 ghost use lib.ListN.{length};
 ghost use Rattle.rules.specs.Block.{part};
+ghost use Rattle.rules.specs.Catalogue.{types};
 ghost use Rattle.rules.specs.Cells.{segment, levelAt};
 ghost use Rattle.rules.specs.Table.{count, cellSize, listing};
+ghost use Rattle.catalogue.specs.Levels.{Levels};
+ghost use Rattle.cells.specs.Sound.{Sound};
 ghost use Rattle.cells.specs.Lent.{Sized, Inside, InData, startOf};
 
 // "C is 1 plus the largest L."
@@ -60,8 +64,17 @@ pub fn data_part<'a>(
     &tab[a..e]
 }
 
-pub fn level_at(cat: &[u8], tab: &[u8], size: usize, c: CellNumber) -> u8
-    requires { ⌜ Sized (now cat) (now tab) size × (c .0 < count (now tab)) ⌝ }
+// The level of a cell, by the row of type levels.
+pub fn level_at(row: &[u8; 33], cat: &[u8], tab: &[u8], size: usize, c: CellNumber) -> u8
+    requires { ⌜ Sound (now cat) (now tab) size × (c .0 < count (now tab)) × Levels (now cat) (now row) (types (now cat)) ⌝ }
+    ensures { λ r. ⌜ r ≡ levelAt (now (cat .entry)) (listing (now (cat .entry)) (now (tab .entry))) (c .0) ⌝ }
+{
+    level_by(row, cat, code_at(cat, tab, size, c))
+}
+
+// The level of one cell alone.
+pub fn level_of(cat: &[u8], tab: &[u8], size: usize, c: CellNumber) -> u8
+    requires { ⌜ Sound (now cat) (now tab) size × (c .0 < count (now tab)) ⌝ }
     ensures { λ r. ⌜ r ≡ levelAt (now (cat .entry)) (listing (now (cat .entry)) (now (tab .entry))) (c .0) ⌝ }
 {
     level(cat, code_at(cat, tab, size, c))

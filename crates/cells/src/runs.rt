@@ -36,20 +36,20 @@ fn passed(tab: &[u8], size: usize, t: u8, last: u8, from: usize, to: usize) -> u
     i
 }
 
-// The same of the `left` cells from i on, 256 of them at a call: a call for each cell would need a stack that grows with the table.
+// The same of the `left` cells from i on, 512 of them at a call: a call for each cell would need a stack that grows with the table.
 fn end_from(tab: &[u8], size: usize, t: u8, last: u8, i: usize, left: usize) -> usize
     requires { ⌜ Inside (now tab) size (i + left) ⌝ }
     ensures { λ r. ⌜ r ≡ endFrom (now (tab .entry)) size t last i left ⌝ }
 {
-    if left <= 256 {
+    if left <= 512 {
         return passed(tab, size, t, last, i, i + left);
     }
-    let next = i + 256;
+    let next = i + 512;
     let end = passed(tab, size, t, last, i, next);
     if end < next {
         return end;
     }
-    end_from(tab, size, t, last, next, left - 256)
+    end_from(tab, size, t, last, next, left - 512)
 }
 
 // The last of the types beneath type t, which stand right behind it; t itself, if there is none.

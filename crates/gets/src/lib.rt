@@ -6,7 +6,8 @@ use blocks::moves::put;
 use blocks::wide;
 use catalogue::entries::data_length;
 use catalogue::entries::parent;
-use catalogue::lineage::level;
+use catalogue::lineage::level_by;
+use catalogue::lineage::levels;
 use cells::lookup::code_at;
 use cells::lookup::count;
 use cells::lookup::data_part;
@@ -68,7 +69,7 @@ fn after_place(q: Place) -> usize
 }
 
 // GA, GK or blank, of the cell that a get-next with an empty list found. Twins, a first child and a child of the same parent are seen from the
-// codes; only else are levels counted.
+// codes; only else are levels asked for.
 fn level_status(cat: &[u8], tab: &[u8], size: usize, pos: Position, c: CellNumber) -> Status
     requires { ⌜ Ready (now cat) (now tab) size pos [] × (c .0 < count (now tab)) ⌝ }
     ensures { λ r. ⌜ r ≡ levelStatus (now (cat .entry)) (listing (now (cat .entry)) (now (tab .entry))) [] (pos .place) (c .0) ⌝ }
@@ -89,8 +90,10 @@ fn level_status(cat: &[u8], tab: &[u8], size: usize, pos: Position, c: CellNumbe
     if above == parent(cat, u).0 {
         return Status::GK;
     }
-    let was = level(cat, u);
-    let now = level(cat, t);
+    let mut row = [0u8; 33];
+    levels(cat, &mut row);
+    let was = level_by(&row, cat, u);
+    let now = level_by(&row, cat, t);
     if now < was {
         return Status::GA;
     }

@@ -38,7 +38,8 @@ module _ (cat : Bytes) where
   abbrev pub par : ℕ → ℕ
   par u = parentOf cat (code u) .0
 
-  parent-low : (k : ℕ) → Types.lower par k ≡ true → goodParent cat (suc k) ≡ true → par (suc k) < suc k
+  -- a good parent comes before its child, where the types before are in order
+  pub parent-low : (k : ℕ) → Types.lower par k ≡ true → goodParent cat (suc k) ≡ true → par (suc k) < suc k
   unfolding goodParent lineage Types.lineage
   parent-low zero low e = let z : par 1 ≡ 0 = eqb-true (par 1) 0 e in omega arith
   parent-low (suc k) low e =
@@ -61,7 +62,7 @@ module _ (cat : Bytes) where
     unfolding goodType
     good-parent u a b = first-of (goodParent cat u) (leb 1 (lengthOf cat (code u))) (leb (lengthOf cat (code u)) 120) (goodKey cat (code u)) (zeros (part cat (8 * u + 5) 3)) (leb (level cat (code u)) 15) (good-type u a b)
 
-    lower-to : (k : ℕ) → k ≤ types cat → Types.lower par k ≡ true
+    pub lower-to : (k : ℕ) → k ≤ types cat → Types.lower par k ≡ true
     lower-to zero l = refl
     lower-to (suc k) l =
         let i : Types.lower par k ≡ true = lower-to k (omega arith) in

@@ -87,6 +87,18 @@ module _ (cat : Bytes) where
   unfolding isType
   range-type t a b = simp (le-leb 1 (t .0) a, le-leb (t .0) (types cat) b)
 
+  -- a good header, as numbers
+  pub header-of : goodHeader cat ≡ true → HeaderFacts cat
+  unfolding goodHeader
+  header-of h =
+      let q = seven (leb 8 (length cat)) (marked 0x43 cat) _ _ _ (eqb (byte cat 7) 0) _ h in
+      record {
+        types-least = leb-true 1 (types cat) (q .2);
+        types-most = leb-true (types cat) 32 (q .3);
+        fields-most = leb-true (fields cat) 64 (q .4);
+        size = eqb-true (length cat) (8 + 8 * types cat + 4 * fields cat) (q .6);
+      }
+
   -- the greater of the two, when one more type is looked at
   larger : (n most : ℕ) → largest cat n ≤ most → lengthOf cat (code (suc n)) ≤ most → largest cat (suc n) ≤ most
   unfolding largest
@@ -133,15 +145,7 @@ module _ (cat : Bytes) where
     split = three _ _ _ g
 
     pub header-facts : HeaderFacts cat
-    unfolding goodHeader
-    header-facts =
-        let q = seven (leb 8 (length cat)) (marked 0x43 cat) _ _ _ (eqb (byte cat 7) 0) _ (split .0) in
-        record {
-          types-least = leb-true 1 (types cat) (q .2);
-          types-most = leb-true (types cat) 32 (q .3);
-          fields-most = leb-true (fields cat) 64 (q .4);
-          size = eqb-true (length cat) (8 + 8 * types cat + 4 * fields cat) (q .6);
-        }
+    header-facts = header-of (split .0)
 
     pub type-facts : (t : TypeCode) → 1 ≤ t .0 → t .0 ≤ types cat → TypeFacts cat t
     unfolding goodType goodKey

@@ -46,6 +46,7 @@ use Rattle.search.proofs.Carry.{kept-none, keptTried, kept-row, kept-sh
 use Rattle.search.proofs.Levels.{regular, agrees-own}
 use Rattle.arguments.specs.declared.Wanted.{Wanted}
 use Rattle.arguments.specs.declared.Wanted.the-variants.{Implied, Named}
+use Rattle.cells.specs.Sound.{Sound}
 use Rattle.arguments.specs.Sound.{SoundList, GoodQualification, wantedOf, meaning}
 use Rattle.arguments.proofs.Complete.{asked-wanted, complete-length}
 use Rattle.arguments.proofs.Above.{type-first, type-last}
@@ -120,8 +121,11 @@ module _ {cat tab list : Bytes} {size : ℕ} {t : TypeCode} (g : Good cat tab li
   abbrev lev : ℕ → ℕ
   lev = levelAt cat cs
 
+  pub good-sound : Sound cat tab size
+  good-sound = record { catalogue = g .catalogue; table = g .table; sized = g .sized }
+
   good-cells : goodListing cat cs ≡ true
-  good-cells = sound-listing (record { catalogue = g .catalogue; table = g .table; sized = g .sized })
+  good-cells = sound-listing good-sound
 
   pub steps : Regular lev (count tab)
   steps i h = regular cat (g .catalogue) cs good-cells i (omega (arith, listing-length cat tab))

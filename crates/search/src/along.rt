@@ -4,7 +4,7 @@ use crate::forward::forward;
 use crate::stretch::path_to;
 use catalogue::lineage::level;
 use cells::lookup::count;
-use cells::lookup::level_at;
+use cells::lookup::level_of;
 use cells::runs::run_end;
 use terms::Found;
 use terms::Place;
@@ -38,7 +38,7 @@ pub fn along(cat: &[u8], tab: &[u8], size: usize, list: &[u8], t: TypeCode, plac
     let Found::At(c) = kept(cat, tab, size, list, t, place) else {
         return first_match(cat, tab, size, list, t, 0, count(tab));
     };
-    let l = level_at(cat, tab, size, c);
+    let l = level_of(cat, tab, size, c);
     if l == level(cat, t) {
         return Found::At(c);
     }

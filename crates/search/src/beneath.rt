@@ -4,7 +4,8 @@ use crate::alone::is_plain_above;
 use crate::stretch::path_to;
 use crate::stretch::stretched;
 use catalogue::lineage::is_beneath;
-use catalogue::lineage::level;
+use catalogue::lineage::level_by;
+use catalogue::lineage::levels;
 use cells::lookup::code_at;
 use cells::lookup::count;
 use cells::lookup::level_at;
@@ -50,7 +51,9 @@ fn forward_beneath(
     ensures { λ r. ⌜ r ≡ firstMatch (now (cat .entry)) (listing (now (cat .entry)) (now (tab .entry)))
         (levels (now (cat .entry)) (now (list .entry)) t) from (endAt (now (cat .entry)) (listing (now (cat .entry)) (now (tab .entry))) (p .0)) ⌝ }
 {
-    let last = level(cat, t);
+    let mut row = [0u8; 33];
+    levels(cat, &mut row);
+    let last = level_by(&row, cat, t);
     let top = count(tab);
     let mut long = k;
     let mut i = from;
@@ -59,7 +62,7 @@ fn forward_beneath(
             return Found::Nothing;
         }
         let c = CellNumber(i);
-        let l = level_at(cat, tab, size, c);
+        let l = level_at(&row, cat, tab, size, c);
         long = stretched(cat, tab, size, list, t, long, l, c);
         if l == last {
             if long == last {

@@ -3,7 +3,8 @@ use crate::alone::forward_alone;
 use crate::alone::is_plain_above;
 use crate::stretch::path_to;
 use crate::stretch::stretched;
-use catalogue::lineage::level;
+use catalogue::lineage::level_by;
+use catalogue::lineage::levels;
 use cells::lookup::code_at;
 use cells::lookup::level_at;
 use terms::CellNumber;
@@ -69,7 +70,9 @@ pub fn forward(
     ensures { λ r. ⌜ r ≡ firstMatch (now (cat .entry)) (listing (now (cat .entry)) (now (tab .entry)))
         (levels (now (cat .entry)) (now (list .entry)) t) from to ⌝ }
 {
-    let last = level(cat, t);
+    let mut row = [0u8; 33];
+    levels(cat, &mut row);
+    let last = level_by(&row, cat, t);
     let mut long = k;
     let mut i = from;
     while i < to {
@@ -78,7 +81,7 @@ pub fn forward(
             return Found::Nothing;
         }
         let c = CellNumber(i);
-        let l = level_at(cat, tab, size, c);
+        let l = level_at(&row, cat, tab, size, c);
         long = stretched(cat, tab, size, list, t, long, l, c);
         if l == last {
             if long == last {

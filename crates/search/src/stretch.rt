@@ -2,7 +2,7 @@
 use crate::Reached;
 use crate::agree::agrees;
 use crate::agree::is_implied;
-use cells::lookup::level_at;
+use cells::lookup::level_of;
 use cells::runs::parent_of;
 use terms::CellNumber;
 use terms::Found;
@@ -91,7 +91,7 @@ pub fn path_to(
         (levels (now (cat .entry)) (now (list .entry)) t) (c .0) ⌝ }
 {
     let mut at = c;
-    let mut l = level_at(cat, tab, size, c);
+    let mut l = level_of(cat, tab, size, c);
     let mut below = Reached {
         long: l,
         kept: Found::Nothing,

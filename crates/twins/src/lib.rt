@@ -5,7 +5,8 @@ use blocks::wide;
 use catalogue::entries::key_kind;
 use catalogue::entries::key_length;
 use catalogue::entries::key_start;
-use catalogue::lineage::level;
+use catalogue::lineage::level_by;
+use catalogue::lineage::levels;
 use cells::lookup::code_at;
 use cells::lookup::data_part;
 use terms::CellNumber;
@@ -15,9 +16,10 @@ use terms::operators::is_equal;
 use terms::operators::is_smaller;
 ghost use mathlib.Core.Path.{_≡_};
 ghost use Prim.Native.Nat.{_<_};
-ghost use Rattle.rules.specs.Catalogue.{level};
+ghost use Rattle.rules.specs.Catalogue.{types};
 ghost use Rattle.rules.specs.Cells.{segment, arriving, keyOrder};
 ghost use Rattle.rules.specs.Table.{count, listing};
+ghost use Rattle.catalogue.specs.Levels.{Levels};
 ghost use Rattle.twins.specs.Among.{New, Beneath, standsTo, placed, spotAmong};
 
 // The cell that the new segment becomes, and whether it has a unique key that a twin has already.
@@ -50,18 +52,18 @@ fn key_order_with(
     order_of(own, data_part(cat, tab, size, c, start, long))
 }
 
-// How the new segment, of level `depth`, stands to cell c beneath its parent: greater, it passes c; smaller, it goes before c; equal, c is a
+// How the new segment stands to cell c beneath its parent: greater, it passes c; smaller, it goes before c; equal, c is a
 // twin with its key. A level is looked up only for a later type, where a cell of a later group and one beneath a twin have to be told apart.
 fn stands_to(
     cat: &[u8],
     tab: &[u8],
     size: usize,
-    depth: u8,
+    row: &[u8; 33],
     t: TypeCode,
     area: &[u8],
     c: CellNumber,
 ) -> Order
-    requires { ⌜ New (now cat) (now tab) size t (now area) × (c .0 < count (now tab)) × (depth ≡ level (now cat) t) ⌝ }
+    requires { ⌜ New (now cat) (now tab) size t (now area) × (c .0 < count (now tab)) × Levels (now cat) (now row) (types (now cat)) ⌝ }
     ensures { λ r. ⌜ r ≡ standsTo (now (cat .entry)) (arriving (now (cat .entry)) t (now (area .entry)))
         (segment (listing (now (cat .entry)) (now (tab .entry))) (c .0)) ⌝ }
 {
@@ -72,7 +74,7 @@ fn stands_to(
     if u.0 == t.0 {
         return key_order_with(cat, tab, size, t, area, c);
     }
-    if depth < level(cat, u) {
+    if level_by(row, cat, t) < level_by(row, cat, u) {
         return Order::Greater;
     }
     Order::Smaller
@@ -92,11 +94,12 @@ fn pass_row(
     requires { ⌜ New (now cat) (now tab) size t (now area) × Beneath (now cat) (now tab) t from to ⌝ }
     ensures { λ r. ⌜ r ≡ placed (now (cat .entry)) (listing (now (cat .entry)) (now (tab .entry))) (arriving (now (cat .entry)) t (now (area .entry))) from ⌝ }
 {
-    let depth = level(cat, t);
+    let mut row = [0u8; 33];
+    levels(cat, &mut row);
     let mut at = from;
     let mut taken = false;
     while at < to {
-        let o = stands_to(cat, tab, size, depth, t, area, CellNumber(at));
+        let o = stands_to(cat, tab, size, &row, t, area, CellNumber(at));
         if is_smaller(o) {
             return Spot { at, taken };
         }

@@ -1,5 +1,5 @@
 use mathlib.Core.Path.{_∙_}
-use Rattle.cells.proofs.Ancestry.{sound-data}
+use Rattle.cells.proofs.Ancestry.{sound-known, sound-data}
 use Rattle.gets.proofs.Gotten.{got-fits, got-is}
 use borrow.Author.Needs.{needs}
 use Rattle.gets.proofs.got.Statement.{statement}
@@ -38,7 +38,12 @@ moved-onto-requires c κs = search needs
 
 -- src/lib.rt: told(cat, s, pos.moved_onto(c, parentage, hold), t, 0)
 told-requires : tie.Need-told-requires
-told-requires c κs = search needs
+told-requires c κs =
+    let ·pre = c .before .before .before .before .before .before .before .before .before .before .before .before .pre in
+    let ·code-at = c .before .before .before .before .before .before .before .before .code-at in
+    let ·args = c .before .before .before .before .before .before .before .before .before .before .before .before .args
+    in
+    (·pre .0 .catalogue, rw (·code-at .ensures) (sound-known (·pre .0) (·args .c .0) (·pre .1)))
 
 -- src/lib.rt: fn got(
 same-length : tie.Need-same-length

@@ -1,3 +1,4 @@
+use Rattle.cells.proofs.Ancestry.{sound-known}
 use mathlib.Core.Path.{_∙_}
 use Rattle.twins.proofs.Passing.{new-deep, new-less, new-more, new-twin, type-same}
 use borrow.Author.Needs.{needs}
@@ -25,23 +26,35 @@ returns-2 : tie.Need-returns-2
 returns-2 c = let ·code-at = c .before .before .before .before .before .before .before .code-at in
     c .key-order-with .ensures ∙ new-twin _ _ _ _ (·code-at .ensures) (c .before .if2 .taken)
 
--- src/lib.rt: if depth < level(cat, u) {
-level-requires : tie.Need-level-requires
-level-requires c κs = search needs
+-- src/lib.rt: if level_by(row, cat, t) < level_by(row, cat, u) {
+level-by-requires : tie.Need-level-by-requires
+level-by-requires c κs =
+    let ·pre = c .before .before .before .before .before .before .before .before .before .before .pre in
+    (·pre .0 .sound .catalogue, ·pre .0 .known, ·pre .2)
+
+-- src/lib.rt: if level_by(row, cat, t) < level_by(row, cat, u) {
+level-by-requires-2 : tie.Need-level-by-requires-2
+level-by-requires-2 c κs =
+    let ·pre = c .before .before .before .before .before .before .before .before .before .before .before .pre in
+    let ·code-at = c .before .before .before .before .before .before .before .code-at in
+    let ·args = c .before .before .before .before .before .before .before .before .before .before .before .args in
+    (·pre .0 .sound .catalogue, rw (·code-at .ensures) (sound-known (·pre .0 .sound) (·args .c .0) (·pre .1)), ·pre .2)
 
 -- src/lib.rt: return Order::Greater;
 returns-3 : tie.Need-returns-3
-returns-3 c = let ·code-at = c .before .before .before .before .before .before .before .before .code-at in
-    let ·if1 = c .before .before .before .before .before .if1 in let ·if2 = c .before .before .if2 in
-    let ·pre = c .before .before .before .before .before .before .before .before .before .before .before .before .pre in
-    new-deep _ _ _ _ (·code-at .ensures) (·if1 .left) (·if2 .left) (·pre .2) (c .before .level .ensures) (c .if3 .taken)
+returns-3 c = let ·code-at = c .before .before .before .before .before .before .before .before .before .code-at in
+    let ·if1 = c .before .before .before .before .before .before .if1 in let ·if2 = c .before .before .before .if2 in
+    let ·level-by = c .before .before .level-by in
+    new-deep _ _ _ _ (·code-at .ensures) (·if1 .left) (·if2 .left) (·level-by .ensures) (c .before .level-by2 .ensures)
+    (c .if3 .taken)
 
 -- src/lib.rt: fn stands_to(
 returns-4 : tie.Need-returns-4
-returns-4 c = let ·code-at = c .before .before .before .before .before .before .before .before .code-at in
-    let ·if1 = c .before .before .before .before .before .if1 in let ·if2 = c .before .before .if2 in
-    let ·pre = c .before .before .before .before .before .before .before .before .before .before .before .before .pre in
-    new-less _ _ _ _ (·code-at .ensures) (·if1 .left) (·if2 .left) (·pre .2) (c .before .level .ensures) (c .if3 .left)
+returns-4 c = let ·code-at = c .before .before .before .before .before .before .before .before .before .code-at in
+    let ·if1 = c .before .before .before .before .before .before .if1 in let ·if2 = c .before .before .before .if2 in
+    let ·level-by = c .before .before .level-by in
+    new-less _ _ _ _ (·code-at .ensures) (·if1 .left) (·if2 .left) (·level-by .ensures) (c .before .level-by2 .ensures)
+    (c .if3 .left)
 
 pub stands-to-spec : {M : Type 1} → statement M
 stands-to-spec =
@@ -51,6 +64,7 @@ stands-to-spec =
     returns
     key-order-with-requires
     returns-2
-    level-requires
+    level-by-requires
+    level-by-requires-2
     returns-3
     returns-4)

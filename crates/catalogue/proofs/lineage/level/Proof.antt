@@ -1,88 +1,83 @@
-use mathlib.Core.Path.{_≡_, refl, ap, sym, _∙_}
-use Prim.Native.Nat.{_+_, _≤_}
+use mathlib.Core.Path.{_≡_, ap}
+use Prim.Native.Nat.{ℕ, _*_}
 use native.Mathlib.Omega.{arith}
+use Rattle.rules.specs.Block.{byte}
+use Rattle.catalogue.proofs.Hierarchy.{type-range}
+use Rattle.catalogue.proofs.Levels.{ordered, levels-none, above-type, index-few, level-few, level-above}
 use borrow.Author.Needs.{needs}
-use lib.ListN.{length}
-use Rattle.forest.specs.Types.{lineage as lineageOver}
-use Rattle.rules.specs.Catalogue.{lineage, level}
-use Rattle.catalogue.proofs.Climbing.{climbed, climbed-none, climbed-top, level-step}
 use Rattle.catalogue.proofs.lineage.level.Statement.{statement}
 use Rattle.catalogue.proofs.lineage.level.Tie as tie
 
-abbrev Inv-loop : tie.InvT-loop
-Inv-loop cat u₀ left₀ n₀ u left n = (n + left ≤ u₀) × (n + length (climbed cat left u) ≡ length (climbed cat u₀ u₀))
+-- src/lineage.rt: let above = cat[8 * wide(t.0)];
+wide-requires : tie.Need-wide-requires
+wide-requires c κs = search needs
 
-abbrev μ-loop : tie.MeasureT-loop
-μ-loop cat u₀ left₀ n₀ u left n = left
+-- src/lineage.rt: let above = cat[8 * wide(t.0)];
+mul-above : tie.Need-mul-above
+mul-above c = search needs
 
--- src/lineage.rt: while 0 < left {
-loop-holds : tie.Need-loop-holds Inv-loop μ-loop
-unfolding level lineage lineageOver
-loop-holds c = (omega arith, omega arith)
-
--- src/lineage.rt: return n;
-returns : tie.Need-returns Inv-loop μ-loop
-unfolding level lineage lineageOver
-returns c = let ·args = c .before .before .before .before .args in
+-- src/lineage.rt: let above = cat[8 * wide(t.0)];
+shared-slice-read-above : tie.Need-shared-slice-read-above
+shared-slice-read-above c = let ·args = c .before .before .before .args in
     omega (
       arith,
-      c .before .before .loop .inv .1,
-      ap length
-          (climbed-top (·args .cat .now) (c .before .before .loop .left) (c .before .before .loop .u) (c .if1 .taken)),
+      c .before .wide .ensures .0,
+      ordered (·args .cat .now) (c .before .before .before .pre .0)
+          (·args .t .0) (type-range (·args .cat .now) (·args .t) (c .before .before .before .pre .1) .1) .within,
     )
 
--- src/lineage.rt: n += 1;
-add-n : tie.Need-add-n Inv-loop μ-loop
-unfolding level lineage lineageOver
-add-n c = omega arith
+-- src/lineage.rt: levels_to(cat, &mut row, TypeCode(above));
+levels-to-requires : tie.Need-levels-to-requires
+levels-to-requires c κs = let ·pre = c .before .before .before .before .pre in
+    let ·args = c .before .before .before .before .args in let ·wide = c .before .before .wide in (
+      ·pre .0,
+      above-type (·args .cat .now) (·pre .0) (·args .t) (·pre .1) _
+          (ap (λ (k : ℕ). byte (·args .cat .now) (8 * k)) (·wide .ensures .0)),
+      levels-none (·args .cat .now),
+    )
 
--- src/lineage.rt: left -= 1;
-sub-left : tie.Need-sub-left Inv-loop μ-loop
-unfolding level lineage lineageOver
-sub-left c = omega arith
+-- src/lineage.rt: row[wide(above)] + 1
+wide-requires-2 : tie.Need-wide-requires-2
+wide-requires-2 c κs = search needs
 
--- src/lineage.rt: u = parent(cat, TypeCode(u)).0;
-parent-requires : tie.Need-parent-requires Inv-loop μ-loop
-parent-requires c κs = search needs
+-- src/lineage.rt: row[wide(above)] + 1
+array-read-result : tie.Need-array-read-result
+array-read-result c = let ·args = c .before .before .before .before .before .before .args in
+    let ·pre = c .before .before .before .before .before .before .pre in
+    let ·wide = c .before .before .before .before .wide in
+    index-few (·args .cat .now) (·pre .0) (·args .t) (·pre .1) _
+    (ap (λ (k : ℕ). byte (·args .cat .now) (8 * k)) (·wide .ensures .0)) (c .before .levels-to .last .1 .0)
+    (c .before .levels-to .ensures) (c .wide2 .result) (c .wide2 .ensures .0)
 
--- src/lineage.rt: while 0 < left {
-loop-less : tie.Need-loop-less Inv-loop μ-loop
-unfolding level lineage lineageOver
-loop-less c = omega arith
-
--- src/lineage.rt: while 0 < left {
-loop-again : tie.Need-loop-again Inv-loop μ-loop
-unfolding level lineage lineageOver
-loop-again c = let ·args = c .before .before .before .before .before .args in (
-  omega arith,
-  level-step (·args .cat .now) (c .before .before .before .loop .n)
-      (c .before .before .before .loop .left) (c .before .before .before .loop .u) (c .parent .result .0)
-      (c .before .before .loop-test .taken) (c .before .if1 .left) (c .parent .ensures) ∙
-      c .before .before .before .loop .inv .1,
-)
+-- src/lineage.rt: row[wide(above)] + 1
+add-result : tie.Need-add-result
+add-result c = let ·args = c .before .before .before .before .before .before .args in
+    omega (
+      arith,
+      level-few (·args .cat .now) (c .before .before .before .before .before .before .pre .0) (·args .t)
+          (c .before .before .before .before .before .before .pre .1) _
+          (ap (λ (k : ℕ). byte (·args .cat .now) (8 * k)) (c .before .before .before .before .wide .ensures .0))
+          (c .before .levels-to .last .1 .0) (c .before .levels-to .ensures) (c .wide2 .result) (c .wide2 .ensures .0),
+    )
 
 -- src/lineage.rt: pub fn level(cat: &[u8], t: TypeCode) -> u8
-returns-2 : tie.Need-returns-2 Inv-loop μ-loop
-unfolding level lineage lineageOver
-returns-2 c = let ·args = c .before .before .before .args in
-    omega (
-      arith,
-      c .before .loop .inv .1,
-      ap length
-          (climbed-none (·args .cat .now) (c .before .loop .left) (c .before .loop .u) (c .loop-test .left)),
-    )
+returns : tie.Need-returns
+returns c = let ·args = c .before .before .before .before .before .before .args in
+    let ·pre = c .before .before .before .before .before .before .pre in
+    let ·wide = c .before .before .before .before .wide in
+    level-above (·args .cat .now) (·pre .0) (·args .t) (·pre .1) _
+    (ap (λ (k : ℕ). byte (·args .cat .now) (8 * k)) (·wide .ensures .0)) (c .before .levels-to .last .1 .0)
+    (c .before .levels-to .ensures) (c .wide2 .result) (c .wide2 .ensures .0)
 
 pub level-spec : {M : Type 1} → statement M
 level-spec =
     tie.close
     (tie.spec
-    Inv-loop
-    μ-loop
-    loop-holds
-    returns
-    add-n
-    sub-left
-    parent-requires
-    loop-less
-    loop-again
-    returns-2)
+    wide-requires
+    mul-above
+    shared-slice-read-above
+    levels-to-requires
+    wide-requires-2
+    array-read-result
+    add-result
+    returns)

@@ -1,4 +1,6 @@
-use mathlib.Core.Path.{_≡_, ap, _∙_}
+use Rattle.catalogue_check.proofs.Levelled.{ready-none, next-of}
+use Rattle.catalogue_check.specs.Levelled.{Ready}
+use mathlib.Core.Path.{_≡_, refl, ap, _∙_}
 use Prim.Native.Nat.{ℕ, _+_, _-_, _≤_}
 use native.Mathlib.Omega.{arith}
 use borrow.Author.Needs.{needs}
@@ -11,11 +13,11 @@ use Rattle.catalogue_check.proofs.check.good_types.Statement.{statement
 use Rattle.catalogue_check.proofs.check.good_types.Tie as tie
 
 abbrev Inv-loop : tie.InvT-loop
-Inv-loop cat top k₀ k = (k ≤ top) × (top ≡ types cat) ×
-    (every (goodType cat) (range (k + 1) (top - k)) ≡ every (goodType cat) (range 1 top))
+Inv-loop cat top levels₀ k₀ levels k = (k ≤ top) × (top ≡ types cat) ×
+    (every (goodType cat) (range (k + 1) (top - k)) ≡ every (goodType cat) (range 1 top)) × Ready cat levels k
 
 abbrev μ-loop : tie.MeasureT-loop
-μ-loop cat top k₀ k = top - k
+μ-loop cat top levels₀ k₀ levels k = top - k
 
 -- src/check.rt: let top = types(cat);
 types-requires : tie.Need-types-requires Inv-loop μ-loop
@@ -23,28 +25,32 @@ types-requires c κs = search needs
 
 -- src/check.rt: while k < top {
 loop-holds : tie.Need-loop-holds Inv-loop μ-loop
-loop-holds c = (
+loop-holds c = let ·args = c .before .before .args in (
   omega arith,
   c .types .ensures,
-  let z : c .types .result - 0 ≡ c .types .result = omega arith in rw
-      z,
+  (let z : c .types .result - 0 ≡ c .types .result = omega arith in rw z),
+  ready-none
+      (·args .cat .now) (c .before .before .pre),
 )
 
 -- src/check.rt: k += 1;
 add-k : tie.Need-add-k Inv-loop μ-loop
 add-k c = omega arith
 
--- src/check.rt: if !good_type(cat, TypeCode(k)) {
+-- src/check.rt: if !good_type(cat, &mut levels, TypeCode(k)) {
 good-type-requires : tie.Need-good-type-requires Inv-loop μ-loop
-good-type-requires c κs = search needs
+good-type-requires c κs = let ·args = c .before .before .before .before .before .args in
+    next-of (·args .cat .now) (c .before .before .before .before .before .pre) (c .before .before .loop .levels)
+    (c .before .before .loop .k) (omega (arith, c .before .before .loop .inv .1)) (c .before .before .loop .inv .3)
 
 -- src/check.rt: return false;
 returns : tie.Need-returns Inv-loop μ-loop
-returns c = let ·args = c .before .before .before .before .before .before .args in
-    let ·loop = c .before .before .before .loop in let ·types = c .before .before .before .before .types in
-    let ·loop-test = c .before .before .loop-test in
+returns c = let ·args = c .before .before .before .before .before .before .before .args in
+    let ·loop = c .before .before .before .before .loop in
+    let ·types = c .before .before .before .before .before .types in
+    let ·loop-test = c .before .before .before .loop-test in
     every-stop (goodType (·args .cat .now)) (·loop .k) (·types .result) (·loop-test .taken)
-    (told-no (c .before .good-type .ensures) (c .if1 .taken)) ∙ ·loop .inv .2 ∙ ap
+    (told-no (c .before .good-type .ensures .0) (c .if1 .taken)) ∙ ·loop .inv .2 ∙ ap
     (λ (n : ℕ). every (goodType (·args .cat .now)) (range 1 n)) (·loop .inv .1)
 
 -- src/check.rt: while k < top {
@@ -53,13 +59,14 @@ loop-less c = omega arith
 
 -- src/check.rt: while k < top {
 loop-again : tie.Need-loop-again Inv-loop μ-loop
-loop-again c = let ·args = c .before .before .before .before .before .before .args in (
+loop-again c = let ·args = c .before .before .before .before .before .before .before .args in (
   omega arith,
-  c .before .before .before .loop .inv .1,
+  c .before .before .before .before .loop .inv .1,
   every-next (goodType (·args .cat .now))
-      (c .before .before .before .loop .k) (c .before .before .before .before .types .result)
-      (c .before .before .loop-test .taken) (told-yes (c .before .good-type .ensures) (c .if1 .left)) ∙
-      c .before .before .before .loop .inv .2,
+      (c .before .before .before .before .loop .k) (c .before .before .before .before .before .types .result)
+      (c .before .before .before .loop-test .taken) (told-yes (c .before .good-type .ensures .0) (c .if1 .left)) ∙
+      c .before .before .before .before .loop .inv .2,
+  c .before .good-type .ensures .1 (told-yes refl (c .if1 .left)),
 )
 
 -- src/check.rt: fn good_types(cat: &[u8]) -> bool

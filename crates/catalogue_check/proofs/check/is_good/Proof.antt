@@ -15,7 +15,7 @@ returns c = simp (told-no (c .before .good-header .ensures) (c .if1 .taken))
 
 -- src/check.rt: if !good_types(cat) {
 good-types-requires : tie.Need-good-types-requires
-good-types-requires c κs = search needs
+good-types-requires c κs = told-yes (c .before .good-header .ensures) (c .if1 .left)
 
 -- src/check.rt: return false;
 returns-2 : tie.Need-returns-2

@@ -41,10 +41,10 @@ pub +end-from-spec : {M : Type 1} → statement M
     (λ c. omega (arith, c .before .before .pre .1 .few))
     -- passed-requires-2
     (λ c κs. let ·args = c .before .before .args in
-    (inside-less (c .before .before .pre .1) (·args .i + 256) (omega (arith, c .if1 .left)), omega arith))
+    (inside-less (c .before .before .pre .1) (·args .i + 512) (omega (arith, c .if1 .left)), omega arith))
     -- returns-2
-    (λ c. end-short _ _ _ _ 256 _ _ _ (omega (arith, c .before .before .if1 .left))
-    (end-whole _ _ _ _ 256 _ _ (c .before .passed2 .ensures)) (c .if2 .taken))
+    (λ c. end-short _ _ _ _ 512 _ _ _ (omega (arith, c .before .before .if1 .left))
+    (end-whole _ _ _ _ 512 _ _ (c .before .passed2 .ensures)) (c .if2 .taken))
     -- sub-end-from
     (λ c. omega (arith, c .before .before .if1 .left))
     -- end-from-requires
@@ -54,5 +54,5 @@ pub +end-from-spec : {M : Type 1} → statement M
           (c .before .before .before .before .pre .1) _ (omega (arith, c .before .before .if1 .left)),
     ))
     -- returns-3
-    (λ c. c .end-from .ensures ∙ end-past _ _ _ _ 256 _ _ _ (omega (arith, c .before .before .before .if1 .left))
-    (end-whole _ _ _ _ 256 _ _ (c .before .before .passed2 .ensures)) (c .before .if2 .left))
+    (λ c. c .end-from .ensures ∙ end-past _ _ _ _ 512 _ _ _ (omega (arith, c .before .before .before .if1 .left))
+    (end-whole _ _ _ _ 512 _ _ (c .before .before .passed2 .ensures)) (c .before .if2 .left))

@@ -1,3 +1,4 @@
+use Rattle.cells.proofs.Ancestry.{sound-known}
 use mathlib.Core.Path.{_∙_}
 use native.Mathlib.Omega.{arith}
 use Rattle.rules.specs.Block.{Bytes}
@@ -53,7 +54,11 @@ after-delete-requires c κs = omega (
 
 -- src/held.rt: told(cat, Status::Blank, pos.after_delete(c, n), t, n)
 told-requires : tie.Need-told-requires
-told-requires c κs = search needs
+told-requires c κs =
+    let ·pre = c .before .before .before .before .before .before .before .before .before .before .before .before .before
+    .before .pre in let ·code-at = c .before .before .before .before .before .before .before .before .before .code-at in
+    let ·cell = c .before .before .before .before .before .before .before .before .before .before .before .cell in
+    (·pre .sound .catalogue, rw (·code-at .ensures) (sound-known (·pre .sound) _ (held-cell (·pre) (·cell .ensures))))
 
 -- src/held.rt: pub fn delete(cat: &[u8], tab: &mut [u8], size: usize, pos: Position) -> Answer
 same-length : tie.Need-same-length

@@ -1,3 +1,4 @@
+use Rattle.cells.proofs.Ancestry.{sound-known}
 use mathlib.Core.Path.{ap, _∙_}
 use Rattle.terms.specs.declared.Answer.{Answer}
 use Rattle.blocks.proofs.Negated.{told-no, told-yes}
@@ -56,7 +57,14 @@ hold-dropped-requires c κs = search needs
 
 -- src/held.rt: told(cat, Status::Blank, pos.hold_dropped(), t, 0)
 told-requires : tie.Need-told-requires
-told-requires c κs = search needs
+told-requires c κs =
+    let ·pre = c .before .before .before .before .before .before .before .before .before .before .before .before .before
+    .before .pre in let ·code-at = c .before .before .before .before .before .before .before .before .code-at in
+    let ·cell = c .before .before .before .before .before .before .before .before .before .before .cell in (
+      ·pre .0 .sound .catalogue,
+      rw (·code-at .ensures)
+          (sound-known (·pre .0 .sound) _ (held-cell (·pre .0) (·cell .ensures))),
+    )
 
 -- src/held.rt: pub fn replace(cat: &[u8], tab: &mut [u8], size: usize, pos: Position, area: &[u8]) -> Answer
 same-length-2 : tie.Need-same-length-2

@@ -15,7 +15,8 @@ after-insert-requires c κs = search needs
 
 -- src/insert.rt: told(cat, Status::Blank, pos.after_insert(at, beneath), t, 0)
 told-requires : tie.Need-told-requires
-told-requires c κs = search needs
+told-requires c κs = let ·pre = c .before .before .before .before .before .before .before .before .pre in
+    (·pre .sound .catalogue, ·pre .known)
 
 -- src/insert.rt: fn put_sound(
 same-length : tie.Need-same-length

@@ -1,6 +1,7 @@
+use Rattle.catalogue.proofs.Hierarchy.{range-type}
 use native.Mathlib.Omega.{arith}
 use mathlib.Core.Path.{sym, _∙_}
-use Rattle.search.proofs.Branches.{kept-place, kept-list, kept-before, end-in, along-none, along-here, along-beneath}
+use Rattle.search.proofs.Branches.{good-sound, kept-place, kept-list, kept-before, end-in, along-none, along-here, along-beneath}
 use borrow.Author.Needs.{needs}
 use Rattle.search.proofs.along.along.Statement.{statement}
 use Rattle.search.proofs.along.along.Tie as tie
@@ -33,24 +34,34 @@ returns c = let ·pre = c .before .before .before .before .before .before .befor
     c .first-match .ensures ∙ along-none (·pre .0) (·args .place) (c .before .count .result)
     (c .before .count .ensures .0) (sym (·enum-told .given .1) ∙ ·kept .ensures)
 
--- src/along.rt: let l = level_at(cat, tab, size, c);
-level-at-requires : tie.Need-level-at-requires
-level-at-requires c κs = let ·pre = c .before .before .before .before .before .before .before .pre in
+-- src/along.rt: let l = level_of(cat, tab, size, c);
+level-of-requires : tie.Need-level-of-requires
+level-of-requires c κs = let ·pre = c .before .before .before .before .before .before .before .pre in
     let ·args = c .before .before .before .before .before .before .before .args in
-    let ·kept = c .before .before .before .kept in
-    (·pre .0 .sized, kept-place (·pre .0) (·args .place) _ (·pre .1) (sym (c .before .c .given .1) ∙ ·kept .ensures) .0)
+    let ·kept = c .before .before .before .kept in (
+      good-sound (·pre .0),
+      kept-place (·pre .0) (·args .place) _ (·pre .1)
+          (sym (c .before .c .given .1) ∙ ·kept .ensures) .0,
+    )
 
 -- src/along.rt: if l == level(cat, t) {
 level-requires : tie.Need-level-requires
-level-requires c κs = search needs
+level-requires c κs = let ·pre = c .before .before .before .before .before .before .before .before .pre in
+    let ·args = c .before .before .before .before .before .before .before .before .args in
+    let ·c = c .before .before .c in let ·kept = c .before .before .before .before .kept in (
+      ·pre .0 .catalogue,
+      range-type (·args .cat .now) (·args .t)
+          (kept-list (·pre .0) _ (kept-place (·pre .0) (·args .place) _ (·pre .1) (sym (·c .given .1) ∙ ·kept .ensures)))
+          (·pre .0 .known),
+    )
 
 -- src/along.rt: return Found::At(c);
 returns-2 : tie.Need-returns-2
 returns-2 c = let ·pre = c .before .before .before .before .before .before .before .before .before .before .pre in
     let ·args = c .before .before .before .before .before .before .before .before .before .before .args in
-    let ·level-at = c .before .before .level-at in let ·c = c .before .before .before .before .c in
+    let ·level-of = c .before .before .level-of in let ·c = c .before .before .before .before .c in
     let ·kept = c .before .before .before .before .before .before .kept in
-    along-here (·pre .0) (·args .place) _ (·level-at .result) (sym (·c .given .1) ∙ ·kept .ensures) (·level-at .ensures)
+    along-here (·pre .0) (·args .place) _ (·level-of .result) (sym (·c .given .1) ∙ ·kept .ensures) (·level-of .ensures)
     (c .if1 .taken ∙ c .before .level .ensures)
 
 -- src/along.rt: let end = run_end(cat, tab, size, c);
@@ -97,7 +108,7 @@ forward-requires c κs =
       ),
       kept-before
           (c .before .before .before .before .before .before .before .before .before .before .before .pre .0) _
-          (c .before .before .before .level-at .result) w (c .before .before .before .level-at .ensures),
+          (c .before .before .before .level-of .result) w (c .before .before .before .level-of .ensures),
     ))
 
 -- src/along.rt: pub fn along(cat: &[u8], tab: &[u8], size: usize, list: &[u8], t: TypeCode, place: Place) -> Found
@@ -105,12 +116,12 @@ returns-3 : tie.Need-returns-3
 returns-3 c =
     let ·pre = c .before .before .before .before .before .before .before .before .before .before .before .before .pre in
     let ·args = c .before .before .before .before .before .before .before .before .before .before .before .before .args
-    in let ·level-at = c .before .before .before .before .level-at in
+    in let ·level-of = c .before .before .before .before .level-of in
     let ·c = c .before .before .before .before .before .before .c in
     let ·kept = c .before .before .before .before .before .before .before .before .kept in
     let ·if1 = c .before .before .if1 in let ·level = c .before .before .before .level in
-    c .forward .ensures ∙ along-beneath (·pre .0) (·args .place) _ (·level-at .result)
-    (sym (·c .given .1) ∙ ·kept .ensures) (·level-at .ensures) _ (λ e. ·if1 .left (e ∙ sym (·level .ensures)))
+    c .forward .ensures ∙ along-beneath (·pre .0) (·args .place) _ (·level-of .result)
+    (sym (·c .given .1) ∙ ·kept .ensures) (·level-of .ensures) _ (λ e. ·if1 .left (e ∙ sym (·level .ensures)))
     (c .before .run-end .ensures)
 
 pub along-spec : {M : Type 1} → statement M
@@ -123,7 +134,7 @@ along-spec =
     count-requires
     first-match-requires
     returns
-    level-at-requires
+    level-of-requires
     level-requires
     returns-2
     run-end-requires

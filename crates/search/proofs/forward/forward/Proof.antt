@@ -1,3 +1,5 @@
+use Rattle.catalogue.proofs.Levels.{levels-none}
+use Rattle.catalogue.proofs.Hierarchy.{range-type}
 use mathlib.Core.Logic.{⊎-elim}
 use native.Mathlib.Omega.{arith}
 use borrow.Author.Needs.{needs}
@@ -6,34 +8,42 @@ use Prim.Native.Nat.{_-_}
 use Rattle.rules.specs.Matching.{firstMatch}
 use Rattle.rules.specs.Table.{listing}
 use Rattle.search.specs.Stretch.{levels, stretchBefore}
-use Rattle.search.proofs.Branches.{carried-cell, before-next, turn-found, turn-next, first-none}
+use Rattle.search.proofs.Branches.{good-sound, carried-cell, before-next, turn-found, turn-next, first-none}
 use Rattle.search.proofs.forward.forward.Statement.{statement}
 use Rattle.search.proofs.forward.forward.Tie as tie
 
 abbrev Inv-loop : tie.InvT-loop
-Inv-loop cat tab size list t k from to last long₀ i₀ long i =
+Inv-loop cat tab size list t k from to row last long₀ i₀ long i =
     (long ≡ stretchBefore cat (listing cat tab) (levels cat list t) i) ×
     (firstMatch cat (listing cat tab) (levels cat list t) i to ≡ firstMatch cat (listing cat tab) (levels cat list t)
     from to)
 
 abbrev μ-loop : tie.MeasureT-loop
-μ-loop cat tab size list t k from to last long₀ i₀ long i = to - i
+μ-loop cat tab size list t k from to row last long₀ i₀ long i = to - i
 
--- src/forward.rt: let last = level(cat, t);
-level-requires : tie.Need-level-requires Inv-loop μ-loop
-level-requires c κs = search needs
+-- src/forward.rt: levels(cat, &mut row);
+levels-requires : tie.Need-levels-requires Inv-loop μ-loop
+levels-requires c κs = let ·pre = c .before .before .before .before .pre in
+    let ·args = c .before .before .before .before .args in
+    (·pre .0 .catalogue, levels-none (·args .cat .now))
+
+-- src/forward.rt: let last = level_by(&row, cat, t);
+level-by-requires : tie.Need-level-by-requires Inv-loop μ-loop
+level-by-requires c κs = let ·pre = c .before .before .before .before .before .before .pre in
+    let ·args = c .before .before .before .before .before .before .args in
+    (·pre .0 .catalogue, range-type (·args .cat .now) (·args .t) (·pre .1) (·pre .0 .known), c .before .levels .ensures)
 
 -- src/forward.rt: while i < to {
 loop-holds : tie.Need-loop-holds Inv-loop μ-loop
-loop-holds c = let ·pre = c .before .before .before .before .pre in
+loop-holds c = let ·pre = c .before .before .before .before .before .before .before .pre in
     (·pre .3, refl)
 
 -- src/forward.rt: i = upcoming(cat, tab, size, list, t, long, i, to);
 upcoming-requires : tie.Need-upcoming-requires Inv-loop μ-loop
 upcoming-requires c κs = (
-  c .before .before .before .before .before .before .pre .0,
-  c .before .before .before .before .before .before .pre .1,
-  c .before .before .before .before .before .before .pre .2,
+  c .before .before .before .before .before .before .before .before .before .pre .0,
+  c .before .before .before .before .before .before .before .before .before .pre .1,
+  c .before .before .before .before .before .before .before .before .before .pre .2,
   c .before .loop .inv .0,
   omega
       (arith, c .loop-test .taken),
@@ -44,42 +54,54 @@ returns : tie.Need-returns Inv-loop μ-loop
 returns c = let ·loop = c .before .before .before .loop in
     first-none _ _ _ _ _ (c .if1 .taken) ∙ c .before .upcoming .ensures .3 ∙ ·loop .inv .1
 
--- src/forward.rt: let l = level_at(cat, tab, size, c);
+-- src/forward.rt: let l = level_at(&row, cat, tab, size, c);
 level-at-requires : tie.Need-level-at-requires Inv-loop μ-loop
 level-at-requires c κs = (
-  c .before .before .before .before .before .before .before .before .pre .0 .sized,
-  omega
-      (arith, c .before .before .before .before .before .before .before .before .pre .2, c .if1 .left),
+  good-sound (c .before .before .before .before .before .before .before .before .before
+      .before .before .before .pre .0),
+  omega (
+    arith,
+    c .before .before .before .before .before .before .before .before .before .before .before .before .pre .2,
+    c .before .if1 .left,
+  ),
+  c .before .before .before .before .before .before .before .levels .ensures,
 )
 
 -- src/forward.rt: long = stretched(cat, tab, size, list, t, long, l, c);
 stretched-requires : tie.Need-stretched-requires Inv-loop μ-loop
 stretched-requires c κs = (
-  c .before .before .before .before .before .before .before .before .before .pre .0,
-  omega
-      (arith, c .before .before .before .before .before .before .before .before .before .pre .2, c .before .if1 .left),
+  c .before .before .before .before .before .before .before .before .before .before .before
+      .before .before .pre .0,
+  omega (
+    arith,
+    c .before .before .before .before .before .before .before .before .before
+        .before .before .before .before .pre .2,
+    c .before .before .if1 .left,
+  ),
   c .level-at .ensures,
-  carried-cell (c .before .before .before .before .before .before .before .before .before .pre
-      .0) (c .before .before .upcoming .result) (c .before .before .before .before .loop .long)
+  carried-cell
+      (c .before .before .before .before .before .before .before .before .before .before .before .before .before .pre .0)
+      (c .before .before .before .upcoming .result) (c .before .before .before .before .before .loop .long)
       (omega (
         arith,
-        c .before .before .before .before .before .before .before .before .before .pre .2,
-        c .before .if1 .left,
-      )) (c .before .before .upcoming .ensures .2),
+        c .before .before .before .before .before .before .before .before .before .before .before .before
+            .before .pre .2,
+        c .before .before .if1 .left,
+      )) (c .before .before .before .upcoming .ensures .2),
 )
 
 -- src/forward.rt: return Found::At(c);
 returns-2 : tie.Need-returns-2 Inv-loop μ-loop
 returns-2 c =
-    let ·pre = c .before .before .before .before .before .before .before .before .before .before .before .before .pre in
-    let ·upcoming = c .before .before .before .before .before .upcoming in
+    let ·pre = c .before .before .before .before .before .before .before .before .before .before .before .before .before
+    .before .before .before .pre in let ·upcoming = c .before .before .before .before .before .before .upcoming in
     let ·level-at = c .before .before .before .level-at in let ·stretched = c .before .before .stretched in
-    let ·level = c .before .before .before .before .before .before .before .before .level in
-    let ·args = c .before .before .before .before .before .before .before .before .before .before .before .before .args
-    in let ·if1 = c .before .before .before .before .if1 in
-    let ·loop = c .before .before .before .before .before .before .before .loop in
-    turn-found (·pre .0) (·upcoming .result) (·level-at .result) (·stretched .result) (·level .result) (·args .to)
-    (·if1 .left) (·pre .2) (·pre .1) (·level-at .ensures) (·stretched .ensures) (·level .ensures)
+    let ·level-by = c .before .before .before .before .before .before .before .before .before .level-by in
+    let ·args = c .before .before .before .before .before .before .before .before .before .before .before .before
+    .before .before .before .before .args in let ·if1 = c .before .before .before .before .before .if1 in
+    let ·loop = c .before .before .before .before .before .before .before .before .loop in
+    turn-found (·pre .0) (·upcoming .result) (·level-at .result) (·stretched .result) (·level-by .result) (·args .to)
+    (·if1 .left) (·pre .2) (·pre .1) (·level-at .ensures) (·stretched .ensures) (·level-by .ensures)
     (c .before .if2 .taken) (c .if3 .taken) ∙ ·upcoming .ensures .3 ∙ ·loop .inv .1
 
 -- src/forward.rt: i += 1;
@@ -87,30 +109,32 @@ add-i : tie.Need-add-i Inv-loop μ-loop
 add-i c = omega (
   arith,
   c .before .before .before .before .before .before .before .before .before .before .before
-      .pre .2,
-  c .before .before .before .if1 .left,
+      .before .before .before .before .pre .2,
+  c .before .before .before .before .if1 .left,
 )
 
 -- src/forward.rt: while i < to {
 loop-less : tie.Need-loop-less Inv-loop μ-loop
 loop-less c = omega (
   arith,
-  c .before .before .before .before .upcoming .ensures .0,
-  c .before .before .before .if1 .left,
+  c .before .before .before .before .before .upcoming .ensures .0,
+  c .before .before .before .before .if1 .left,
 )
 
 -- src/forward.rt: while i < to {
 loop-again : tie.Need-loop-again Inv-loop μ-loop
 loop-again c =
-    let ·pre = c .before .before .before .before .before .before .before .before .before .before .before .pre in
-    let ·upcoming = c .before .before .before .before .upcoming in let ·level-at = c .before .before .level-at in
-    let ·level = c .before .before .before .before .before .before .before .level in
-    let ·args = c .before .before .before .before .before .before .before .before .before .before .before .args in
-    let ·if1 = c .before .before .before .if1 in let ·loop = c .before .before .before .before .before .before .loop in (
+    let ·pre = c .before .before .before .before .before .before .before .before .before .before .before .before .before
+    .before .before .pre in let ·upcoming = c .before .before .before .before .before .upcoming in
+    let ·level-at = c .before .before .level-at in
+    let ·level-by = c .before .before .before .before .before .before .before .before .level-by in
+    let ·args = c .before .before .before .before .before .before .before .before .before .before .before .before
+    .before .before .before .args in let ·if1 = c .before .before .before .before .if1 in
+    let ·loop = c .before .before .before .before .before .before .before .loop in (
       before-next (·pre .0) (·upcoming .result) (c .before .stretched .result) (c .before .stretched .ensures),
       turn-next
-          (·pre .0) (·upcoming .result) (·level-at .result) (c .before .stretched .result) (·level .result) (·args .to)
-          (·if1 .left) (·pre .2) (·pre .1) (·level-at .ensures) (c .before .stretched .ensures) (·level .ensures)
+          (·pre .0) (·upcoming .result) (·level-at .result) (c .before .stretched .result) (·level-by .result) (·args .to)
+          (·if1 .left) (·pre .2) (·pre .1) (·level-at .ensures) (c .before .stretched .ensures) (·level-by .ensures)
           (⊎-elim (λ w a b. w .1 .left b) (λ w a b. w .left a) (c .if2 .came)) ∙ ·upcoming .ensures .3 ∙ ·loop .inv .1,
     )
 
@@ -124,7 +148,8 @@ forward-spec =
     (tie.spec
     Inv-loop
     μ-loop
-    level-requires
+    levels-requires
+    level-by-requires
     loop-holds
     upcoming-requires
     returns

@@ -6,7 +6,7 @@ use Rattle.rules.specs.Cells.{levelAt}
 use Rattle.rules.specs.Table.{count, listing}
 use Rattle.search.specs.Stretch.{levels}
 use Rattle.search.specs.Good.{reached, fromCell}
-use Rattle.search.proofs.Branches.{parent-some}
+use Rattle.search.proofs.Branches.{good-sound, parent-some}
 use Rattle.search.proofs.Climb.{climb-start, climb-end, climb-up, parent-level}
 use Rattle.search.proofs.stretch.path_to.Statement.{statement}
 use Rattle.search.proofs.stretch.path_to.Tie as tie
@@ -19,15 +19,16 @@ Inv-loop cat tab size list t at₀ l₀ below₀ at l below = (at .0 < count tab
 abbrev μ-loop : tie.MeasureT-loop
 μ-loop cat tab size list t at₀ l₀ below₀ at l below = at .0
 
--- src/stretch.rt: let mut l = level_at(cat, tab, size, c);
-level-at-requires : tie.Need-level-at-requires Inv-loop μ-loop
-level-at-requires c κs = search needs
+-- src/stretch.rt: let mut l = level_of(cat, tab, size, c);
+level-of-requires : tie.Need-level-of-requires Inv-loop μ-loop
+level-of-requires c κs = let ·pre = c .before .before .before .pre in
+    (good-sound (·pre .0), ·pre .1)
 
 -- src/stretch.rt: loop {
 loop-holds : tie.Need-loop-holds Inv-loop μ-loop
 loop-holds c = let ·pre = c .before .before .before .before .pre in
     let ·args = c .before .before .before .before .args in
-    (·pre .1, c .level-at .ensures, climb-start (·pre .0) (·args .c .0) (·pre .1) _ (c .level-at .ensures))
+    (·pre .1, c .level-of .ensures, climb-start (·pre .0) (·args .c .0) (·pre .1) _ (c .level-of .ensures))
 
 -- src/stretch.rt: below = one_up(cat, tab, size, list, t, below, l, at);
 one-up-requires : tie.Need-one-up-requires Inv-loop μ-loop
@@ -37,7 +38,7 @@ one-up-requires c κs = let ·pre = c .before .before .before .before .before .p
 -- src/stretch.rt: let Found::At(p) = parent_of(cat, tab, size, at) else {
 parent-of-requires : tie.Need-parent-of-requires Inv-loop μ-loop
 parent-of-requires c κs = let ·pre = c .before .before .before .before .before .before .pre in
-    (record { catalogue = ·pre .0 .catalogue; table = ·pre .0 .table; sized = ·pre .0 .sized }, c .before .loop .inv .0)
+    (good-sound (·pre .0), c .before .loop .inv .0)
 
 -- src/stretch.rt: let Found::At(p) = parent_of(cat, tab, size, at) else {
 enum-known-p : tie.Need-enum-known-p Inv-loop μ-loop
@@ -104,7 +105,7 @@ path-to-spec =
     (tie.spec
     Inv-loop
     μ-loop
-    level-at-requires
+    level-of-requires
     loop-holds
     one-up-requires
     parent-of-requires
