@@ -1,4 +1,9 @@
-use Prim.Native.Nat.{ℕ, _<_}
+use mathlib.Core.Path.{sym, _∙_}
+use Prim.Native.Nat.{ℕ, _+_, _*_, _-_, _<_, _≤_}
+use native.Mathlib.Omega.{arith}
+use Rattle.table_check.specs.Readers.{GroupAt, SegmentAt}
+use Rattle.table_check.proofs.Before.{fits-less}
+use Rattle.table_check.proofs.Reading.{group-starts, group-ends, group-stops, group-goes, segment-starts, segment-ends, segment-low, segment-high, segment-other, segment-goes}
 use borrow.Fn.Kinds.{In}
 use borrow.Fn.PlainCycle.{Measures, is, falls, and}
 use Rattle.table_check.proofs.readers.group.Reads as group
@@ -14,10 +19,10 @@ use Rattle.table_check.proofs.readers.+group+segment.{statement}
 use Rattle.table_check.proofs.readers.+group+segment.Tie.{close}
 
 abbrev μ-group : Measures 2 group-kinds.ps ℕ
-μ-group κs a = ?
+μ-group κs a = 2 * (a .1 .1 .1 .0)
 
 abbrev μ-segment : Measures 2 segment-kinds.ps ℕ
-μ-segment κs a = ?
+μ-segment κs a = 2 * (a .1 .1 .1 .0) + 1
 
 abbrev group-at : ℕ → In 2 group-kinds.ps
 group-at t = and 2 group-kinds.ps (is 2 group-kinds.ps μ-group t) group.Pre
@@ -32,198 +37,16 @@ abbrev segment-below : ℕ → In 2 segment-kinds.ps
 segment-below t = and 2 segment-kinds.ps (falls 2 segment-kinds.ps _<_ μ-segment t) segment.Pre
 
 abbrev group-Inv-loop : group-lts.InvT-loop
-group-Inv-loop cells facts v left rest₀ rest = ?
+group-Inv-loop cells facts v left rest₀ rest = (1 ≤ rest) × (rest ≤ left) × GroupAt cells facts (v .0) left rest
 
 abbrev group-μ-loop : group-lts.MeasureT-loop
-group-μ-loop cells facts v left rest₀ rest = ?
-
--- src/readers.rt:109:5
-group-loop-holds : (t : ℕ) → group-lts.Need-loop-holds (
-  segment-below t,
-  segment.Post,
-  twin-reads.Asked,
-  twin-reads.Learnt,
-) (group-at t) group.Post group-Inv-loop group-μ-loop
-group-loop-holds t c = ?
-
--- src/readers.rt:111:41
-group-sub-segment : (t : ℕ) → group-lts.Need-sub-segment (
-  segment-below t,
-  segment.Post,
-  twin-reads.Asked,
-  twin-reads.Learnt,
-) (group-at t) group.Post group-Inv-loop group-μ-loop
-group-sub-segment t c = ?
-
--- src/readers.rt:111:9
-group-segment-requires : (t : ℕ) → group-lts.Need-segment-requires (
-  segment-below t,
-  segment.Post,
-  twin-reads.Asked,
-  twin-reads.Learnt,
-) (group-at t) group.Post group-Inv-loop group-μ-loop
-group-segment-requires t c κs = ?
-
--- src/readers.rt:113:13
-group-returns : (t : ℕ) → group-lts.Need-returns (
-  segment-below t,
-  segment.Post,
-  twin-reads.Asked,
-  twin-reads.Learnt,
-) (group-at t) group.Post group-Inv-loop group-μ-loop
-group-returns t c = ?
-
--- src/readers.rt:115:13
-group-twin-requires : (t : ℕ) → group-lts.Need-twin-requires (
-  segment-below t,
-  segment.Post,
-  twin-reads.Asked,
-  twin-reads.Learnt,
-) (group-at t) group.Post group-Inv-loop group-μ-loop
-group-twin-requires t c κs = ?
-
--- src/readers.rt:116:13
-group-returns-2 : (t : ℕ) → group-lts.Need-returns-2 (
-  segment-below t,
-  segment.Post,
-  twin-reads.Asked,
-  twin-reads.Learnt,
-) (group-at t) group.Post group-Inv-loop group-μ-loop
-group-returns-2 t c = ?
-
--- src/readers.rt:109:5
-group-loop-less : (t : ℕ) → group-lts.Need-loop-less (
-  segment-below t,
-  segment.Post,
-  twin-reads.Asked,
-  twin-reads.Learnt,
-) (group-at t) group.Post group-Inv-loop group-μ-loop
-group-loop-less t c = ?
-
--- src/readers.rt:109:5
-group-loop-again : (t : ℕ) → group-lts.Need-loop-again (
-  segment-below t,
-  segment.Post,
-  twin-reads.Asked,
-  twin-reads.Learnt,
-) (group-at t) group.Post group-Inv-loop group-μ-loop
-group-loop-again t c = ?
+group-μ-loop cells facts v left rest₀ rest = rest
 
 abbrev segment-Inv-loop : segment-lts.InvT-loop
-segment-Inv-loop cells facts p left c₀ rest₀ c rest = ?
+segment-Inv-loop cells facts p left c₀ rest₀ c rest = (rest ≤ left) × SegmentAt cells facts (p .0) left c rest
 
 abbrev segment-μ-loop : segment-lts.MeasureT-loop
-segment-μ-loop cells facts p left c₀ rest₀ c rest = ?
-
--- src/readers.rt:129:5
-segment-loop-holds : (t : ℕ) → segment-lts.Need-loop-holds (
-  code-before-reads.Asked,
-  code-before-reads.Learnt,
-  fact-reads.Asked,
-  fact-reads.Learnt,
-  group-below t,
-  group.Post,
-) (segment-at t) segment.Post segment-Inv-loop segment-μ-loop
-segment-loop-holds t c = ?
-
--- src/readers.rt:130:13
-segment-code-before-requires : (t : ℕ) → segment-lts.Need-code-before-requires (
-  code-before-reads.Asked,
-  code-before-reads.Learnt,
-  fact-reads.Asked,
-  fact-reads.Learnt,
-  group-below t,
-  group.Post,
-) (segment-at t) segment.Post segment-Inv-loop segment-μ-loop
-segment-code-before-requires t c κs = ?
-
--- src/readers.rt:132:13
-segment-returns : (t : ℕ) → segment-lts.Need-returns (
-  code-before-reads.Asked,
-  code-before-reads.Learnt,
-  fact-reads.Asked,
-  fact-reads.Learnt,
-  group-below t,
-  group.Post,
-) (segment-at t) segment.Post segment-Inv-loop segment-μ-loop
-segment-returns t c = ?
-
--- src/readers.rt:135:13
-segment-returns-2 : (t : ℕ) → segment-lts.Need-returns-2 (
-  code-before-reads.Asked,
-  code-before-reads.Learnt,
-  fact-reads.Asked,
-  fact-reads.Learnt,
-  group-below t,
-  group.Post,
-) (segment-at t) segment.Post segment-Inv-loop segment-μ-loop
-segment-returns-2 t c = ?
-
--- src/readers.rt:137:12
-segment-fact-requires : (t : ℕ) → segment-lts.Need-fact-requires (
-  code-before-reads.Asked,
-  code-before-reads.Learnt,
-  fact-reads.Asked,
-  fact-reads.Learnt,
-  group-below t,
-  group.Post,
-) (segment-at t) segment.Post segment-Inv-loop segment-μ-loop
-segment-fact-requires t c κs = ?
-
--- src/readers.rt:138:13
-segment-returns-3 : (t : ℕ) → segment-lts.Need-returns-3 (
-  code-before-reads.Asked,
-  code-before-reads.Learnt,
-  fact-reads.Asked,
-  fact-reads.Learnt,
-  group-below t,
-  group.Post,
-) (segment-at t) segment.Post segment-Inv-loop segment-μ-loop
-segment-returns-3 t c = ?
-
--- src/readers.rt:141:9
-segment-group-requires : (t : ℕ) → segment-lts.Need-group-requires (
-  code-before-reads.Asked,
-  code-before-reads.Learnt,
-  fact-reads.Asked,
-  fact-reads.Learnt,
-  group-below t,
-  group.Post,
-) (segment-at t) segment.Post segment-Inv-loop segment-μ-loop
-segment-group-requires t c κs = ?
-
--- src/readers.rt:129:5
-segment-loop-less : (t : ℕ) → segment-lts.Need-loop-less (
-  code-before-reads.Asked,
-  code-before-reads.Learnt,
-  fact-reads.Asked,
-  fact-reads.Learnt,
-  group-below t,
-  group.Post,
-) (segment-at t) segment.Post segment-Inv-loop segment-μ-loop
-segment-loop-less t c = ?
-
--- src/readers.rt:129:5
-segment-loop-again : (t : ℕ) → segment-lts.Need-loop-again (
-  code-before-reads.Asked,
-  code-before-reads.Learnt,
-  fact-reads.Asked,
-  fact-reads.Learnt,
-  group-below t,
-  group.Post,
-) (segment-at t) segment.Post segment-Inv-loop segment-μ-loop
-segment-loop-again t c = ?
-
--- src/readers.rt:123:1
-segment-returns-4 : (t : ℕ) → segment-lts.Need-returns-4 (
-  code-before-reads.Asked,
-  code-before-reads.Learnt,
-  fact-reads.Asked,
-  fact-reads.Learnt,
-  group-below t,
-  group.Post,
-) (segment-at t) segment.Post segment-Inv-loop segment-μ-loop
-segment-returns-4 t c = ?
+segment-μ-loop cells facts p left c₀ rest₀ c rest = rest
 
 pub +group+segment-spec : {M : Type 1} → statement M
 +group+segment-spec = close μ-group μ-segment (λ t. group-lts.spec (
@@ -236,14 +59,59 @@ pub +group+segment-spec : {M : Type 1} → statement M
     group.Post
     group-Inv-loop
     group-μ-loop
-    (group-loop-holds t)
-    (group-sub-segment t)
-    (group-segment-requires t)
-    (group-returns t)
-    (group-twin-requires t)
-    (group-returns-2 t)
-    (group-loop-less t)
-    (group-loop-again t))
+    -- loop-holds
+    (λ c. (
+      c .before .pre .1 .3,
+      omega arith,
+      group-starts (c .before .pre .1 .0) (c .before .pre .1 .3)
+          (c .before .pre .1 .4),
+    ))
+    -- sub-segment
+    (λ c. omega arith)
+    -- segment-requires
+    (λ c κs. (
+      omega arith,
+      (
+        fits-less (c .before .before .pre .1 .0) (c .loop .rest - 1) (omega arith),
+        c .before .before .pre .1 .1,
+      ),
+    ))
+    -- returns
+    (λ c. (
+      omega arith,
+      group-ends (fits-less (c .before .before .before .before .pre .1 .0)
+          (c .before .before .loop .rest) (c .before .before .loop .inv .1)) (c .before .before .loop .inv .0)
+          (c .before .before .loop .inv .2) (c .before .segment .ensures .1) (c .if1 .taken),
+    ))
+    -- twin-requires
+    (λ c κs. (
+      fits-less (c .before .before .before .before .pre .1 .0) (c .before .before .loop .rest)
+          (c .before .before .loop .inv .1),
+      c .before .before .before .before .pre .1 .1,
+      c .before .before .before .before .pre .1 .2,
+      omega arith,
+      omega arith,
+    ))
+    -- returns-2
+    (λ c. (
+      omega arith,
+      group-stops (fits-less (c .before .before .before .before .before .before .pre .1 .0)
+          (c .before .before .before .before .loop .rest) (c .before .before .before .before .loop .inv .1))
+          (c .before .before .before .before .loop .inv .0) (c .before .before .before .before .loop .inv .2)
+          (c .before .before .before .segment .ensures .1) (omega arith) (c .before .twin .ensures) (c .if2 .taken),
+    ))
+    -- loop-less
+    (λ c. omega arith)
+    -- loop-again
+    (λ c. (
+      omega arith,
+      omega arith,
+      group-goes
+          (fits-less (c .before .before .before .before .before .before .pre .1 .0)
+          (c .before .before .before .before .loop .rest) (c .before .before .before .before .loop .inv .1))
+          (c .before .before .before .before .loop .inv .0) (c .before .before .before .before .loop .inv .2)
+          (c .before .before .before .segment .ensures .1) (omega arith) (c .before .twin .ensures) (c .if2 .left),
+    )))
     λ t. segment-lts.spec (
       code-before-reads.Asked,
       code-before-reads.Learnt,
@@ -256,13 +124,75 @@ pub +group+segment-spec : {M : Type 1} → statement M
     segment.Post
     segment-Inv-loop
     segment-μ-loop
-    (segment-loop-holds t)
-    (segment-code-before-requires t)
-    (segment-returns t)
-    (segment-returns-2 t)
-    (segment-fact-requires t)
-    (segment-returns-3 t)
-    (segment-group-requires t)
-    (segment-loop-less t)
-    (segment-loop-again t)
-    (segment-returns-4 t)
+    -- loop-holds
+    (λ c. (omega arith, segment-starts))
+    -- code-before-requires
+    (λ c κs. (
+      fits-less (c .before .before .before .pre .1 .0) (c .before .loop .rest) (c .before .loop .inv .0),
+      omega
+          arith,
+    ))
+    -- returns
+    (λ c. (
+      c .before .before .before .before .loop .inv .0,
+      segment-low
+          (c .before .before .before .before .loop .inv .1)
+          (fits-less (c .before .before .before .before .before .before .pre .1 .0)
+          (c .before .before .before .before .loop .rest) (c .before .before .before .before .loop .inv .0)) (omega arith)
+          (c .before .before .before .before .before .before .pre .1 .1) (c .before .before .code-before .ensures)
+          (c .if1 .taken),
+    ))
+    -- returns-2
+    (λ c. (
+      c .before .before .before .before .before .before .loop .inv .0,
+      segment-high
+          (c .before .before .before .before .before .before .loop .inv .1)
+          (fits-less (c .before .before .before .before .before .before .before .before .pre .1 .0)
+          (c .before .before .before .before .before .before .loop .rest)
+          (c .before .before .before .before .before .before .loop .inv .0)) (omega arith)
+          (c .before .before .before .before .before .before .before .before .pre .1 .1)
+          (c .before .before .before .before .code-before .ensures) (c .if2 .taken),
+    ))
+    -- fact-requires
+    (λ c κs. (omega arith, omega arith))
+    -- returns-3
+    (λ c. (
+      c .before .before .before .before .before .before .before .before .before .loop .inv .0,
+      segment-other
+          (c .before .before .before .before .before .before .before .before .before .loop .inv .1)
+          (fits-less (c .before .before .before .before .before .before .before .before .before .before .before .pre .1 .0)
+          (c .before .before .before .before .before .before .before .before .before .loop .rest)
+          (c .before .before .before .before .before .before .before .before .before .loop .inv .0)) (omega arith)
+          (c .before .before .before .before .before .before .before .before .before .before .before .pre .1 .1)
+          (c .before .before .before .before .before .before .before .code-before .ensures)
+          (λ e. c .if3 .taken (c .before .before .fact .ensures .0 ∙ e)),
+    ))
+    -- group-requires
+    (λ c κs. (
+      omega arith,
+      (
+        fits-less (c .before .before .before .before .before .before .before .before .before .before
+            .before .pre .1 .0) (c .before .before .before .before .before .before .before .before .before .loop .rest)
+            (c .before .before .before .before .before .before .before .before .before .loop .inv .0),
+        omega arith,
+        omega arith,
+        omega arith,
+        sym (c .before .before .before .before .before .before .before .code-before .ensures),
+      ),
+    ))
+    -- loop-less
+    (λ c. omega arith)
+    -- loop-again
+    (λ c. (
+      omega arith,
+      segment-goes (c .before .before .before .before .before .before .before .before .before .before
+          .loop .inv .1) (fits-less (c .before .before .before .before .before .before .before .before .before .before .before
+          .before .pre .1 .0) (c .before .before .before .before .before .before .before .before .before .before .loop .rest)
+          (c .before .before .before .before .before .before .before .before .before .before .loop .inv .0)) (omega arith)
+          (c .before .before .before .before .before .before .before .before .before .before .before .before .pre .1 .1)
+          (c .before .before .before .before .before .before .before .before .code-before .ensures)
+          (c .before .before .before .before .before .before .if1 .left)
+          (sym (c .before .before .before .fact .ensures .0) ∙ c .before .if3 .left) (c .group .ensures .1),
+    ))
+    -- returns-4
+    (λ c. (c .before .loop .inv .0, segment-ends (c .before .loop .inv .1) (omega arith)))

@@ -7,11 +7,11 @@ use borrow.Author.Needs.{needs}
 use Rattle.table_check.proofs.readers.code_before.Statement.{statement}
 use Rattle.table_check.proofs.readers.code_before.Tie as tie
 
--- src/readers.rt:64:9
+-- src/readers.rt: let at = start_before(cells, facts, left);
 start-before-requires : tie.Need-start-before-requires
 start-before-requires c κs = search needs
 
--- src/readers.rt:65:20
+-- src/readers.rt: TypeIndex(wide(cells[at]))
 shared-slice-read-wide : tie.Need-shared-slice-read-wide
 shared-slice-read-wide c = omega (
   arith,
@@ -20,11 +20,11 @@ shared-slice-read-wide c = omega (
   c .before .start-before .ensures,
 )
 
--- src/readers.rt:65:15
+-- src/readers.rt: TypeIndex(wide(cells[at]))
 wide-requires : tie.Need-wide-requires
 wide-requires c κs = search needs
 
--- src/readers.rt:60:1
+-- src/readers.rt: fn code_before(cells: &[u8], facts: &[u8; 132], left: usize) -> TypeIndex
 returns : tie.Need-returns
 returns c = let ·args = c .before .before .before .before .args in
     let ·start-before = c .before .before .start-before in

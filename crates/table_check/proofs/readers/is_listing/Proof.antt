@@ -9,22 +9,22 @@ use borrow.Author.Needs.{needs}
 use Rattle.table_check.proofs.readers.is_listing.Statement.{statement}
 use Rattle.table_check.proofs.readers.is_listing.Tie as tie
 
--- src/readers.rt:151:9
+-- src/readers.rt: let n = count(tab);
 count-requires : tie.Need-count-requires
 count-requires c κs = search needs
 
--- src/readers.rt:153:9
+-- src/readers.rt: return true;
 returns : tie.Need-returns
 returns c = let ·args = c .before .before .before .before .args in
     let ·pre = c .before .before .before .before .pre in
     listing-none (·args .cat .now) (·args .tab .now) (·pre .0) (c .before .count .result) (c .before .count .ensures .0)
     (c .if1 .taken)
 
--- src/readers.rt:155:8
+-- src/readers.rt: if code_at(cat, tab, size, CellNumber(0)).0 != 1 {
 code-at-requires : tie.Need-code-at-requires
 code-at-requires c κs = search needs
 
--- src/readers.rt:156:9
+-- src/readers.rt: return false;
 returns-2 : tie.Need-returns-2
 returns-2 c = let ·args = c .before .before .before .before .before .before .before .args in
     let ·pre = c .before .before .before .before .before .before .before .pre in
@@ -33,23 +33,23 @@ returns-2 c = let ·args = c .before .before .before .before .before .before .be
     listing-other (·args .cat .now) (·args .tab .now) (·pre .0) (·count .result) (·count .ensures .0) (·if1 .left)
     (·code-at .result) (·code-at .ensures) (c .if2 .taken)
 
--- src/readers.rt:159:5
+-- src/readers.rt: fill(cat, size, &mut facts);
 fill-requires : tie.Need-fill-requires
 fill-requires c κs = search needs
 
--- src/readers.rt:160:9
+-- src/readers.rt: let end = start_of(tab, size, CellNumber(n));
 start-of-requires : tie.Need-start-of-requires
 start-of-requires c κs = let ·count = c .before .before .before .before .before .before .count in
     let ·pre = c .before .before .before .before .before .before .before .before .before .pre in
     rw (·count .ensures .0) (inside-sized (·pre .1))
 
--- src/readers.rt:161:11
+-- src/readers.rt: group(&tab[..end], &facts, TypeIndex(1), n) == 0
 slice-aggregate-group : tie.Need-slice-aggregate-group
 slice-aggregate-group c =
     let ·args = c .before .before .before .before .before .before .before .before .before .before .before .args in
     sym (length-take-le (c .before .start-of .result) (·args .tab .now) (c .before .start-of .ensures .1))
 
--- src/readers.rt:161:5
+-- src/readers.rt: group(&tab[..end], &facts, TypeIndex(1), n) == 0
 group-requires : tie.Need-group-requires
 group-requires c κs =
     let ·args = c .before .before .before .before .before .before .before .before .before .before .before .before .args
@@ -78,7 +78,7 @@ group-requires c κs =
           (c .before .before .before .before .before .if2 .left),
     )
 
--- src/readers.rt:147:1
+-- src/readers.rt: pub(crate) fn is_listing(cat: &[u8], tab: &[u8], size: usize) -> bool
 returns-3 : tie.Need-returns-3
 returns-3 c =
     let ·args = c .before .before .before .before .before .before .before .before .before .before .before .before

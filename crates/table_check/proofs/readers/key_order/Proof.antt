@@ -6,48 +6,48 @@ use Rattle.table_check.proofs.Before.{fits-less, key-in, key-worked}
 use Rattle.table_check.proofs.readers.key_order.Statement.{statement}
 use Rattle.table_check.proofs.readers.key_order.Tie as tie
 
--- src/readers.rt:74:9
+-- src/readers.rt: let from = fact(facts, t, 2);
 fact-requires : tie.Need-fact-requires
 fact-requires c κs = search needs
 
--- src/readers.rt:75:9
+-- src/readers.rt: let long = fact(facts, t, 3);
 fact-requires-2 : tie.Need-fact-requires-2
 fact-requires-2 c κs = search needs
 
--- src/readers.rt:76:13
+-- src/readers.rt: let a = start_before(cells, facts, last) + from;
 start-before-requires : tie.Need-start-before-requires
 start-before-requires c κs = search needs
 
--- src/readers.rt:76:13
+-- src/readers.rt: let a = start_before(cells, facts, last) + from;
 add-a : tie.Need-add-a
 add-a c = search needs
 
--- src/readers.rt:77:13
+-- src/readers.rt: let b = start_before(cells, facts, left) + from;
 start-before-requires-2 : tie.Need-start-before-requires-2
 start-before-requires-2 c κs = let ·pre = c .before .before .before .before .pre in
     fits-less (·pre .0) _ (·pre .3)
 
--- src/readers.rt:77:13
+-- src/readers.rt: let b = start_before(cells, facts, left) + from;
 add-b : tie.Need-add-b
 add-b c = search needs
 
--- src/readers.rt:78:13
+-- src/readers.rt: let x = a + long;
 add-x : tie.Need-add-x
 add-x c = search needs
 
--- src/readers.rt:79:13
+-- src/readers.rt: let y = b + long;
 add-y : tie.Need-add-y
 add-y c = search needs
 
--- src/readers.rt:80:14
+-- src/readers.rt: order_of(&cells[a..x], &cells[b..y])
 sub-order-of : tie.Need-sub-order-of
 sub-order-of c = search needs
 
--- src/readers.rt:80:14
+-- src/readers.rt: order_of(&cells[a..x], &cells[b..y])
 part-order-of-start : tie.Need-part-order-of-start
 part-order-of-start c = search needs
 
--- src/readers.rt:80:14
+-- src/readers.rt: order_of(&cells[a..x], &cells[b..y])
 part-order-of-end : tie.Need-part-order-of-end
 part-order-of-end c = let ·args = c .before .before .before .before .before .args in
     omega (
@@ -58,15 +58,15 @@ part-order-of-end c = let ·args = c .before .before .before .before .before .ar
       c .before .before .fact2 .ensures .0,
     )
 
--- src/readers.rt:80:28
+-- src/readers.rt: order_of(&cells[a..x], &cells[b..y])
 sub-order-of-2 : tie.Need-sub-order-of-2
 sub-order-of-2 c = search needs
 
--- src/readers.rt:80:28
+-- src/readers.rt: order_of(&cells[a..x], &cells[b..y])
 part-order-of-start-2 : tie.Need-part-order-of-start-2
 part-order-of-start-2 c = search needs
 
--- src/readers.rt:80:28
+-- src/readers.rt: order_of(&cells[a..x], &cells[b..y])
 part-order-of-end-2 : tie.Need-part-order-of-end-2
 part-order-of-end-2 c = let ·args = c .before .before .before .before .before .before .args in
     omega (
@@ -79,11 +79,11 @@ part-order-of-end-2 c = let ·args = c .before .before .before .before .before .
       c .before .before .before .fact2 .ensures .0,
     )
 
--- src/readers.rt:80:5
+-- src/readers.rt: order_of(&cells[a..x], &cells[b..y])
 order-of-requires : tie.Need-order-of-requires
 order-of-requires c κs = search needs
 
--- src/readers.rt:69:1
+-- src/readers.rt: fn key_order(cells: &[u8], facts: &[u8; 132], t: TypeIndex, last: usize, left: usize) -> Order
 returns : tie.Need-returns
 returns c = let ·pre = c .before .before .before .before .before .before .before .before .pre in
     let ·start-before = c .before .before .before .before .start-before in

@@ -5,44 +5,44 @@ use borrow.Author.Needs.{needs}
 use Rattle.table_check.proofs.readers.twin.Statement.{statement}
 use Rattle.table_check.proofs.readers.twin.Tie as tie
 
--- src/readers.rt:88:8
+-- src/readers.rt: if code_before(cells, facts, left).0 != t.0 {
 code-before-requires : tie.Need-code-before-requires
 code-before-requires c κs = (fits-less (c .before .pre .0) _ (c .before .pre .4), c .before .pre .3)
 
--- src/readers.rt:89:9
+-- src/readers.rt: return false;
 returns : tie.Need-returns
 returns c = let ·pre = c .before .before .before .before .before .pre in
     let ·code-before = c .before .before .before .code-before in
     other-type (·pre .0) (·pre .1) (·pre .3) (·pre .4) (λ e. c .if1 .taken (·code-before .ensures ∙ e))
 
--- src/readers.rt:91:9
+-- src/readers.rt: let kind = fact(facts, t, 1);
 fact-requires : tie.Need-fact-requires
 fact-requires c κs = search needs
 
--- src/readers.rt:93:9
+-- src/readers.rt: return true;
 returns-2 : tie.Need-returns-2
 returns-2 c = let ·pre = c .before .before .before .before .before .before .before .pre in
     let ·code-before = c .before .before .before .before .before .code-before in let ·if1 = c .before .before .if1 in
     no-key (·pre .0) (·pre .1) (·pre .3) (·pre .4) (sym (·code-before .ensures) ∙ ·if1 .left) (c .before .fact .result)
     (c .before .fact .ensures .0) (c .if2 .taken)
 
--- src/readers.rt:95:11
+-- src/readers.rt: match key_order(cells, facts, t, last, left) {
 key-order-requires : tie.Need-key-order-requires
 key-order-requires c κs = search needs
 
--- src/readers.rt:96:27
+-- src/readers.rt: Order::Smaller => true,
 enum-told : tie.Need-enum-told
 enum-told c = search needs
 
--- src/readers.rt:97:25
+-- src/readers.rt: Order::Equal => kind != 1,
 enum-told-2 : tie.Need-enum-told-2
 enum-told-2 c = search needs
 
--- src/readers.rt:98:27
+-- src/readers.rt: Order::Greater => false,
 enum-told-3 : tie.Need-enum-told-3
 enum-told-3 c = search needs
 
--- src/readers.rt:84:1
+-- src/readers.rt: fn twin(cells: &[u8], facts: &[u8; 132], t: TypeIndex, last: usize, left: usize) -> bool
 returns-3 : tie.Need-returns-3
 returns-3 c = let ·pre = c .before .before .before .before .before .before .before .before .before .before .pre in
     let ·code-before = c .before .before .before .before .before .before .before .before .code-before in
@@ -51,7 +51,7 @@ returns-3 c = let ·pre = c .before .before .before .before .before .before .bef
     smaller-key (·pre .0) (·pre .1) (·pre .3) (·pre .4) (sym (·code-before .ensures) ∙ ·if1 .left) (·fact .result)
     (·fact .ensures .0) (sym (c .enum-told .given .1) ∙ ·key-order .ensures)
 
--- src/readers.rt:84:1
+-- src/readers.rt: fn twin(cells: &[u8], facts: &[u8; 132], t: TypeIndex, last: usize, left: usize) -> bool
 returns-4 : tie.Need-returns-4
 returns-4 c = let ·pre = c .before .before .before .before .before .before .before .before .before .before .pre in
     let ·code-before = c .before .before .before .before .before .before .before .before .code-before in
@@ -60,7 +60,7 @@ returns-4 c = let ·pre = c .before .before .before .before .before .before .bef
     equal-key (·pre .0) (·pre .1) (·pre .3) (·pre .4) (sym (·code-before .ensures) ∙ ·if1 .left) (·fact .result)
     (·fact .ensures .0) (·if2 .left) (sym (c .enum-told2 .given .1) ∙ ·key-order .ensures)
 
--- src/readers.rt:84:1
+-- src/readers.rt: fn twin(cells: &[u8], facts: &[u8; 132], t: TypeIndex, last: usize, left: usize) -> bool
 returns-5 : tie.Need-returns-5
 returns-5 c = let ·pre = c .before .before .before .before .before .before .before .before .before .before .pre in
     let ·code-before = c .before .before .before .before .before .before .before .before .code-before in
