@@ -1,9 +1,9 @@
 -- The twin-group reader over cell numbers: which cell is the next twin, and what is left behind one. Assumes nothing.
-use mathlib.Core.Path.{_≡_, refl, ap, sym, _∙_}
-use mathlib.Core.Bool.{Bool, true, false, not}
+use mathlib.Core.Path.{_≡_, ap, sym, _∙_}
+use mathlib.Core.Bool.{true, false, not}
 use mathlib.Core.Option.{Option, none, some}
 use mathlib.Core.List.{List}
-use Prim.Native.Nat.{ℕ, zero, suc, _+_, _-_, _<_, _≤_}
+use Prim.Native.Nat.{ℕ, suc, _-_, _≤_}
 use native.Mathlib.Omega.{arith}
 use lib.Dec.{eqb}
 use borrow.Author.Tests.{le-ltb, eq-eqb, ne-eqb, eqb-true}
@@ -76,7 +76,9 @@ module _ (cat : Bytes) (cs : List Segment) (v : ℕ) where
   -- a twin has the type of its group
   pub twin-type : (q : Option ℕ) (i : ℕ) → isTwin cat cs v q i ≡ true → typ cat cs i ≡ v
   unfolding isTwin
-  twin-type q i e = eqb-true (typ cat cs i) v (both-left (eqb (typ cat cs i) v) (after (typ cat cs) (fit cat cs) (Groups.ok (typ cat cs) (fit cat cs) (keyOk cat cs)) q i) e)
+  twin-type q i e =
+      eqb-true (typ cat cs i) v
+      (both-left (eqb (typ cat cs i) v) (after (typ cat cs) (fit cat cs) (Groups.ok (typ cat cs) (fit cat cs) (keyOk cat cs)) q i) e)
 
   -- the first cell of type v is a twin
   pub first-twin : (i : ℕ) → typ cat cs i ≡ v → isTwin cat cs v none i ≡ true

@@ -1,30 +1,30 @@
 -- The two readers: where each starts, goes on and stops, said of every catalogue and table that it is told of. Assumes nothing.
-use mathlib.Core.Path.{_≡_, ap, sym, _∙_}
+use mathlib.Core.Path.{_≡_, sym, _∙_}
 use mathlib.Core.Bool.{Bool, true, false, not}
 use mathlib.Core.Option.{none, some}
 use Prim.Native.Nat.{ℕ, suc, _-_, _<_, _≤_}
 use native.Mathlib.Omega.{arith}
 use Rattle.blocks.proofs.Negated.{told-no, told-yes}
-use Rattle.forest.specs.Numbers.{range}
 use Rattle.rules.specs.Block.{Bytes}
 use Rattle.rules.specs.Catalogue.{types}
 use Rattle.rules.specs.Table.{count, listing}
 use Rattle.table_check.specs.Groups.{typ, isTwin, afterGroup}
-use Rattle.table_check.specs.Readers.{fact, codeBefore, Fits, Told, TwinIs, GroupLeaves, SegmentLeaves, GroupAt, SegmentAt}
+use Rattle.table_check.specs.Readers.{fact, codeBefore, Fits, Headed, Told, TwinIs, GroupLeaves, SegmentLeaves, GroupAt, SegmentAt}
 use Rattle.table_check.proofs.Groups as Groups
 use Rattle.table_check.proofs.Rows as Rows
 use Rattle.table_check.proofs.Told.{told-left, told-type, told-child, told-other, told-high}
 
 module _ {cells facts : Bytes} {v left : ℕ} where
   -- the twin-group reader starts at a cell of type v
-  pub group-starts : Fits cells facts left → 1 ≤ left → codeBefore cells facts left ≡ v → GroupAt cells facts v left left
-  group-starts f l e = record {
-    type = λ t k. told-type t f l ∙ e;
-    is = λ t k. Groups.group-twin _ _ _ _ _ _ l (Groups.first-twin _ _ _ _ (told-type t f l ∙ e));
+  pub group-starts : Headed cells facts v left → GroupAt cells facts v left left
+  group-starts h = record {
+    type = λ t k. told-type t (h .fits) (h .some) ∙ h .code;
+    is = λ t k. Groups.group-twin _ _ _ _ _ _ (h .some) (Groups.first-twin _ _ _ _ (told-type t (h .fits) (h .some) ∙ h .code));
   }
 
   -- it stands at a twin, and behind that one's segment `rest` cells are left
-  module _ {last rest : ℕ} (f : Fits cells facts last) (l : 1 ≤ last) (g : GroupAt cells facts v left last) (s : SegmentLeaves cells facts v (last - 1) rest) where
+  module _ {last rest : ℕ} (f : Fits cells facts last) (l : 1 ≤ last) (g : GroupAt cells facts v left last)
+      (s : SegmentLeaves cells facts v (last - 1) rest) where
     behind : {cat tab : Bytes} → Told cat tab cells facts → v ≤ types cat
         → afterGroup cat (listing cat tab) v (some (count tab - last)) (count tab - rest) rest ≡ afterGroup cat (listing cat tab) v none (count tab - left) left
     behind {cat} {tab} t k =
@@ -68,13 +68,13 @@ module _ {cells facts : Bytes} {p left : ℕ} where
       segment-low h = record { is = λ t. sym (g .is t) ∙ Rows.row-low _ _ _ _ _ _ (omega (arith, type-is t)) }
 
       pub segment-high : 32 < u → SegmentLeaves cells facts p left rest
-      segment-high h = record { is = λ t. sym (g .is t) ∙ Rows.row-unfit _ _ _ _ _ _ (told-high t _ a _ (omega (arith, type-is t))) }
+      segment-high h = record { is = λ t. sym (g .is t) ∙ Rows.row-unfit _ _ _ _ _ _ (told-high t _ _ (omega (arith, type-is t))) }
 
       pub segment-other : (fact facts u 0 ≡ p → ⊥) → SegmentLeaves cells facts p left rest
-      segment-other n = record { is = λ t. sym (g .is t) ∙ Rows.row-unfit _ _ _ _ _ _ (told-other t _ a _ (rw (type-is t) n)) }
+      segment-other n = record { is = λ t. sym (g .is t) ∙ Rows.row-unfit _ _ _ _ _ _ (told-other t _ _ (rw (type-is t) n)) }
 
       pub segment-goes : {r : ℕ} → c < u → fact facts u 0 ≡ p → GroupLeaves cells facts u rest r → SegmentAt cells facts p left u r
       segment-goes {r} h q w = record {
-        is = λ t. let k = told-child t p a u (omega arith) q in
+        is = λ t. let k = told-child t p u a (omega arith) q in
             Rows.row-group _ _ _ _ _ _ _ _ _ l (type-is t) h (k .0) (k .1) (w .is t (k .0)) ∙ g .is t;
       }

@@ -1,11 +1,9 @@
 -- The row of facts as it is filled: the cell size, then type by type. Assumes nothing.
-use mathlib.Core.Path.{_≡_, refl, ap, sym, _∙_}
-use mathlib.Core.Bool.{true}
+use mathlib.Core.Path.{_≡_, refl, ap, _∙_}
 use Prim.Native.Nat.{ℕ, zero, suc, _+_, _*_, _<_, _≤_}
 use native.Mathlib.Omega.{arith}
 use lib.ListN.{length, set, replicate, length-set, length-replicate}
 use lib.Seq.{getD-set-same, getD-set-other}
-use Rattle.terms.specs.Names.{code}
 use Rattle.forest.specs.Forest.{inside, outside, side}
 use Rattle.rules.specs.Block.{Bytes, byte}
 use Rattle.rules.specs.Catalogue.{typeByte, parentOf, keyKind, keyStart, keyLength}
@@ -20,7 +18,8 @@ zero-at (suc n) (suc i) = zero-at n i
 -- the cell size in an empty row
 pub row-sized : (cat facts : Bytes) (size : ℕ) → facts ≡ replicate 132 0 → Filled cat size 0 (set facts 0 size)
 row-sized cat facts size e =
-    let other : (i : ℕ) → 0 < i → byte (set facts 0 size) i ≡ 0 = λ i l. getD-set-other facts 0 i size 0 (λ z. omega arith) ∙ ap (λ (b : Bytes). byte b i) e ∙ zero-at 132 i in
+    let other : (i : ℕ) → 0 < i → byte (set facts 0 size) i ≡ 0 =
+    λ i l. getD-set-other facts 0 i size 0 (λ z. omega arith) ∙ ap (λ (b : Bytes). byte b i) e ∙ zero-at 132 i in
     let long : length facts ≡ 132 = ap length e ∙ length-replicate {A = ℕ} 132 0 in
     record {
       whole = length-set facts 0 size ∙ long;
@@ -96,7 +95,12 @@ module _ (cat facts : Bytes) (size v : ℕ) (f : Filled cat size v facts) (l : v
   entry-kept : (w : ℕ) → Entry cat facts w → w ≤ v → Entry cat next w
   entry-kept w e h =
       let same : (k : ℕ) → k < 4 → fact next w k ≡ fact facts w k = λ k b. four-before facts _ _ _ _ _ (4 * w + k) (omega arith) in
-      record { parent = same 0 (omega arith) ∙ e .parent; kind = same 1 (omega arith) ∙ e .kind; start = same 2 (omega arith) ∙ e .start; long = same 3 (omega arith) ∙ e .long }
+      record {
+        parent = same 0 (omega arith) ∙ e .parent;
+        kind = same 1 (omega arith) ∙ e .kind;
+        start = same 2 (omega arith) ∙ e .start;
+        long = same 3 (omega arith) ∙ e .long;
+      }
 
   pub row-next : Filled cat size (v + 1) next
   row-next = record {

@@ -1,5 +1,5 @@
 -- What the row and the slice tell of a catalogue and a table: of a cell its type and its key, of a type whose child it is. Assumes nothing.
-use mathlib.Core.Path.{_≡_, refl, ap, sym, _∙_}
+use mathlib.Core.Path.{_≡_, ap, sym, _∙_}
 use mathlib.Core.Bool.{true, false}
 use Prim.Native.Nat.{ℕ, suc, _+_, _-_, _*_, _<_, _≤_}
 use native.Mathlib.Nat.{mul-le-mul-right, add-mul}
@@ -40,7 +40,7 @@ module _ {cat tab cells facts : Bytes} (t : Told cat tab cells facts) where
   cut-part : (i long : ℕ) → i + long ≤ length cells → part cells i long ≡ part tab i long
   cut-part i long l = let h : i + long ≤ startOf tab (byte facts 0) (count tab) = omega (arith, told-length) in rw (t .cut) (part-front long i _ tab h)
 
-  -- all cells of the table are there
+  -- every key lies within its cell
   keys-told : (v : ℕ) → fact facts v 2 + fact facts v 3 ≤ byte facts 0
   keys-told v = elim (side 0 v) [
     | inside l ↦ elim (side (types cat) v) [
@@ -48,9 +48,11 @@ module _ {cat tab cells facts : Bytes} (t : Told cat tab cells facts) where
       | outside h ↦ (let e = t .row .entry v l h in
           omega (arith, e .start, e .long, type-facts cat (t .good) (code v) l h .key-within, cell-holds cat (t .good) (code v) l h, t .sized .is))
     ]
-    | outside l ↦ (let z : v ≡ 0 = omega arith in rw z (omega (arith, t .row .first 2 (omega arith) (omega arith), t .row .first 3 (omega arith) (omega arith))))
+    | outside l ↦ (let z : v ≡ 0 = omega arith in
+        rw z (omega (arith, t .row .first 2 (omega arith) (omega arith), t .row .first 3 (omega arith) (omega arith))))
   ]
 
+  -- all cells of the table are there
   pub told-fits : Fits cells facts (count tab)
   told-fits = record {
     inside = record {
@@ -116,21 +118,20 @@ module _ {cat tab cells facts : Bytes} (t : Told cat tab cells facts) where
           ∙ key-part (t .sized) (t .good) at-in c h (y .start) (y .long)
 
   -- a code that the row gives the parent p is a type beneath p; one that it gives another, or that it has no place for, is none
-  module _ (p : ℕ) (some : 1 ≤ p) where
-    pub told-child : (u : ℕ) → 1 ≤ u → fact facts u 0 ≡ p → (u ≤ types cat) × (par cat u ≡ p)
-    told-child u a e = elim (side (types cat) u) [
-      | inside h ↦ absurd (omega (arith, t .row .none u 0 h (omega arith)))
-      | outside h ↦ (h, sym (t .row .entry u a h .parent) ∙ e)
-    ]
+  pub told-child : (p u : ℕ) → 1 ≤ p → 1 ≤ u → fact facts u 0 ≡ p → (u ≤ types cat) × (par cat u ≡ p)
+  told-child p u o a e = elim (side (types cat) u) [
+    | inside h ↦ absurd (omega (arith, t .row .none u 0 h (omega arith)))
+    | outside h ↦ (h, sym (t .row .entry u a h .parent) ∙ e)
+  ]
 
-    pub told-other : (i : ℕ) → (fact facts (typ cat (listing cat tab) i) 0 ≡ p → ⊥) → fit cat (listing cat tab) p i ≡ false
-    told-other i n = elim (is (fit cat (listing cat tab) p i)) [
-      | on h ↦ (let z = child-is cat p (segment (listing cat tab) i) h in absurd (n (t .row .entry _ (z .0) (z .1) .parent ∙ z .2)))
-      | off h ↦ h
-    ]
+  pub told-other : (p i : ℕ) → (fact facts (typ cat (listing cat tab) i) 0 ≡ p → ⊥) → fit cat (listing cat tab) p i ≡ false
+  told-other p i n = elim (is (fit cat (listing cat tab) p i)) [
+    | on h ↦ (let z = child-is cat p (segment (listing cat tab) i) h in absurd (n (t .row .entry _ (z .0) (z .1) .parent ∙ z .2)))
+    | off h ↦ h
+  ]
 
-    pub told-high : (i : ℕ) → 32 < typ cat (listing cat tab) i → fit cat (listing cat tab) p i ≡ false
-    told-high i l = elim (is (fit cat (listing cat tab) p i)) [
-      | on h ↦ absurd (omega (arith, child-is cat p (segment (listing cat tab) i) h .1, header-facts cat (t .good) .types-most))
-      | off h ↦ h
-    ]
+  pub told-high : (p i : ℕ) → 32 < typ cat (listing cat tab) i → fit cat (listing cat tab) p i ≡ false
+  told-high p i l = elim (is (fit cat (listing cat tab) p i)) [
+    | on h ↦ absurd (omega (arith, child-is cat p (segment (listing cat tab) i) h .1, header-facts cat (t .good) .types-most))
+    | off h ↦ h
+  ]

@@ -2,7 +2,7 @@
 use mathlib.Core.Path.{_≡_, refl, ap, sym, _∙_}
 use mathlib.Core.Bool.{true, false}
 use mathlib.Core.Option.{none}
-use mathlib.Core.List.{List, [], _∷_, map}
+use mathlib.Core.List.{List, _∷_, map}
 use Prim.Native.Nat.{ℕ, zero, suc, _+_, _-_, _≤_}
 use native.Mathlib.Omega.{arith}
 use lib.Dec.{eqb}
@@ -22,7 +22,7 @@ use Rattle.rules.proofs.Catalogue.{par, listing-reader}
 use Rattle.rules.proofs.Cells.{listing-length}
 use Rattle.catalogue.proofs.Hierarchy.{header-facts, parent-first, parent-least}
 use Rattle.table_check.specs.Groups.{typ, fit, keyOk, afterGroup}
-use Rattle.table_check.specs.Readers.{codeBefore, Fits, Told, GroupLeaves}
+use Rattle.table_check.specs.Readers.{Fits, Headed, Told, GroupLeaves}
 use Rattle.table_check.proofs.Groups.{first-other, group-none, group-stop}
 use Rattle.table_check.proofs.Told.{told-fits, told-type}
 use Rattle.table_check.proofs.Types.{child-is, is-child, child-after}
@@ -45,7 +45,8 @@ module _ (cat : Bytes) (g : goodCatalogue cat ≡ true) (cs : List Segment) wher
     | outside l ↦ l
   ]
 
-  top-row : (xs : List ℕ) → reads (typ cat cs) (fit cat cs) (Groups.ok (typ cat cs) (fit cat cs) (keyOk cat cs)) 0 none xs ≡ Groups.group (typ cat cs) (fit cat cs) (keyOk cat cs) 1 none xs
+  top-row : (xs : List ℕ)
+      → Groups.rest-of (typ cat cs) (fit cat cs) (keyOk cat cs) 0 none xs ≡ Groups.group (typ cat cs) (fit cat cs) (keyOk cat cs) 1 none xs
   top-row xs =
       Groups.above-start (typ cat cs) (fit cat cs) (keyOk cat cs) 0 0 (λ d e. child-after cat g 0 (segment cs d) e) xs
       ∙ Groups.above-group (typ cat cs) (fit cat cs) (keyOk cat cs) 0 0 first-child xs
@@ -82,13 +83,17 @@ module _ (cat tab : Bytes) (g : goodCatalogue cat ≡ true) (n : ℕ) (e : n ≡
 
     -- the reader is lent all cells, the first one a root
     module _ {cells facts : Bytes} (t : Told cat tab cells facts) where
-      pub listing-fits : Fits cells facts n
-      listing-fits = rw e (told-fits t)
-
-      pub listing-root : (u : TypeCode) → u ≡ segment (listing cat tab) 0 .code → u .0 ≡ 1 → codeBefore cells facts n ≡ 1
-      listing-root u h o =
+      pub listing-headed : (u : TypeCode) → u ≡ segment (listing cat tab) 0 .code → u .0 ≡ 1 → Headed cells facts 1 n
+      listing-headed u h o =
           let z : count tab - n ≡ 0 = omega arith in
-          sym (rw z at (told-type t listing-fits (omega arith))) ∙ sym (ap (λ (v : TypeCode). v .0) h) ∙ o
+          let f : Fits cells facts n = rw e (told-fits t) in
+          record {
+            fits = f;
+            least = omega arith;
+            most = omega arith;
+            some = omega arith;
+            code = sym (rw z at (told-type t f (omega arith))) ∙ sym (ap (λ (v : TypeCode). v .0) h) ∙ o;
+          }
 
       pub listing-read : {r : ℕ} → GroupLeaves cells facts 1 n r → eqb r 0 ≡ goodListing cat (listing cat tab)
       listing-read {r} h =

@@ -47,6 +47,22 @@ pub record Fits (cells facts : Bytes) (left : ℕ) : Type 0 where
   pub inside : Inside cells (byte facts 0) left
   pub keys : (v : ℕ) → fact facts v 2 + fact facts v 3 ≤ byte facts 0
 
+-- the next cell of so many has type v, for which the row has a place
+pub record Headed (cells facts : Bytes) (v left : ℕ) : Type 0 where
+  pub fits : Fits cells facts left
+  pub least : 1 ≤ v
+  pub most : v ≤ 32
+  pub some : 1 ≤ left
+  pub code : codeBefore cells facts left ≡ v
+
+-- the cell at which `left` are left stands behind the one at which `last` were left, and the row has a place for type v
+pub record Follows (cells facts : Bytes) (v last left : ℕ) : Type 0 where
+  pub fits : Fits cells facts last
+  pub least : 1 ≤ v
+  pub most : v ≤ 32
+  pub some : 1 ≤ left
+  pub behind : left ≤ last
+
 -- the row tells of this catalogue, and the slice ends with the last cell of this table
 pub record Told (cat tab cells facts : Bytes) : Type 0 where
   pub good : goodCatalogue cat ≡ true
@@ -54,8 +70,7 @@ pub record Told (cat tab cells facts : Bytes) : Type 0 where
   pub cut : cells ≡ take (startOf tab (byte facts 0) (count tab)) tab
   pub row : Filled cat (byte facts 0) (types cat) facts
 
--- The readers see neither catalogue nor table: each answer is for every one of both that the row and the slice tell of.
-
+-- The readers see neither catalogue nor table: each answer is for all that the row and the slice tell of.
 -- the cell at which `left` are left is a twin of type v behind the one at which `last` were left
 pub record TwinIs (cells facts : Bytes) (v last left : ℕ) (r : Bool) : Type 0 where
   pub is : {cat tab : Bytes} → Told cat tab cells facts → v ≤ types cat → typ cat (listing cat tab) (count tab - last) ≡ v

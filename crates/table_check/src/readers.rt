@@ -18,7 +18,7 @@ ghost use Rattle.rules.specs.Catalogue.{types, goodCatalogue};
 ghost use Rattle.rules.specs.Cells.{goodListing};
 ghost use Rattle.rules.specs.Table.{listing};
 ghost use Rattle.cells.specs.Lent.{Sized};
-ghost use Rattle.table_check.specs.Readers.{fact, startBefore, codeBefore, keyBefore, Filled, Fits, TwinIs, GroupLeaves, SegmentLeaves};
+ghost use Rattle.table_check.specs.Readers.{fact, startBefore, codeBefore, keyBefore, Filled, Fits, Headed, Follows, TwinIs, GroupLeaves, SegmentLeaves};
 
 // A type's code as the row of facts is asked by it: a byte would be kept twice in each frame, narrow and wide.
 struct TypeIndex(usize);
@@ -67,7 +67,7 @@ fn code_before(cells: &[u8], facts: &[u8; 132], left: usize) -> TypeIndex
 
 // How the key of a cell of type t, at which `last` were left, stands to that of a later one, at which `left` are left.
 fn key_order(cells: &[u8], facts: &[u8; 132], t: TypeIndex, last: usize, left: usize) -> Order
-    requires { ⌜ Fits (now cells) (now facts) last × (t .0 ≤ 32) × (1 ≤ left) × (left ≤ last) ⌝ }
+    requires { ⌜ Follows (now cells) (now facts) (t .0) last left ⌝ }
     ensures { λ r. ⌜ r ≡ order (keyBefore (now (cells .entry)) (now (facts .entry)) (t .0) last)
         (keyBefore (now (cells .entry)) (now (facts .entry)) (t .0) left) ⌝ }
 {
@@ -82,7 +82,7 @@ fn key_order(cells: &[u8], facts: &[u8; 132], t: TypeIndex, last: usize, left: u
 
 // Whether the next cell is the next twin of type t behind the twin at which `last` were left.
 fn twin(cells: &[u8], facts: &[u8; 132], t: TypeIndex, last: usize, left: usize) -> bool
-    requires { ⌜ Fits (now cells) (now facts) last × (1 ≤ t .0) × (t .0 ≤ 32) × (1 ≤ left) × (left ≤ last) ⌝ }
+    requires { ⌜ Follows (now cells) (now facts) (t .0) last left ⌝ }
     ensures { λ r. ⌜ TwinIs (now (cells .entry)) (now (facts .entry)) (t .0) last left r ⌝ }
 {
     if code_before(cells, facts, left).0 != t.0 {
@@ -102,7 +102,7 @@ fn twin(cells: &[u8], facts: &[u8; 132], t: TypeIndex, last: usize, left: usize)
 // "a group of twins is a row of segments of one type": the next cell is the first twin of type v. The twins are read in a loop, so that a call stands
 // only for a level.
 fn group(cells: &[u8], facts: &[u8; 132], v: TypeIndex, left: usize) -> usize
-    requires { ⌜ Fits (now cells) (now facts) left × (1 ≤ v .0) × (v .0 ≤ 32) × (1 ≤ left) × (codeBefore (now cells) (now facts) left ≡ v .0) ⌝ }
+    requires { ⌜ Headed (now cells) (now facts) (v .0) left ⌝ }
     ensures { λ r. ⌜ (r < left) × GroupLeaves (now (cells .entry)) (now (facts .entry)) (v .0) left r ⌝ }
 {
     let mut rest = left;

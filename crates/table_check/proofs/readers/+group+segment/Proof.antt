@@ -1,9 +1,10 @@
 use mathlib.Core.Path.{sym, _∙_}
 use Prim.Native.Nat.{ℕ, _+_, _*_, _-_, _<_, _≤_}
 use native.Mathlib.Omega.{arith}
-use Rattle.table_check.specs.Readers.{GroupAt, SegmentAt}
+use Rattle.table_check.specs.Readers.{Fits, GroupAt, SegmentAt}
 use Rattle.table_check.proofs.Before.{fits-less}
-use Rattle.table_check.proofs.Reading.{group-starts, group-ends, group-stops, group-goes, segment-starts, segment-ends, segment-low, segment-high, segment-other, segment-goes}
+use Rattle.table_check.proofs.Reading.{group-starts, group-ends, group-stops, group-goes}
+use Rattle.table_check.proofs.Reading.{segment-starts, segment-ends, segment-low, segment-high, segment-other, segment-goes}
 use borrow.Fn.Kinds.{In}
 use borrow.Fn.PlainCycle.{Measures, is, falls, and}
 use Rattle.table_check.proofs.readers.group.Reads as group
@@ -37,13 +38,15 @@ abbrev segment-below : ℕ → In 2 segment-kinds.ps
 segment-below t = and 2 segment-kinds.ps (falls 2 segment-kinds.ps _<_ μ-segment t) segment.Pre
 
 abbrev group-Inv-loop : group-lts.InvT-loop
-group-Inv-loop cells facts v left rest₀ rest = (1 ≤ rest) × (rest ≤ left) × GroupAt cells facts (v .0) left rest
+group-Inv-loop cells facts v left rest₀ rest = Fits cells facts rest × (1 ≤ rest) × (rest ≤ left) × GroupAt cells
+    facts (v .0) left rest
 
 abbrev group-μ-loop : group-lts.MeasureT-loop
 group-μ-loop cells facts v left rest₀ rest = rest
 
 abbrev segment-Inv-loop : segment-lts.InvT-loop
-segment-Inv-loop cells facts p left c₀ rest₀ c rest = (rest ≤ left) × SegmentAt cells facts (p .0) left c rest
+segment-Inv-loop cells facts p left c₀ rest₀ c rest = Fits cells facts rest × (rest ≤ left) × SegmentAt cells facts
+    (p .0) left c rest
 
 abbrev segment-μ-loop : segment-lts.MeasureT-loop
 segment-μ-loop cells facts p left c₀ rest₀ c rest = rest
@@ -60,56 +63,48 @@ pub +group+segment-spec : {M : Type 1} → statement M
     group-Inv-loop
     group-μ-loop
     -- loop-holds
-    (λ c. (
-      c .before .pre .1 .3,
-      omega arith,
-      group-starts (c .before .pre .1 .0) (c .before .pre .1 .3)
-          (c .before .pre .1 .4),
-    ))
+    (λ c. (c .before .pre .1 .fits, c .before .pre .1 .some, omega arith, group-starts (c .before .pre .1)))
     -- sub-segment
     (λ c. omega arith)
     -- segment-requires
     (λ c κs. (
       omega arith,
       (
-        fits-less (c .before .before .pre .1 .0) (c .loop .rest - 1) (omega arith),
-        c .before .before .pre .1 .1,
+        fits-less (c .loop .inv .0) (c .loop .rest - 1) (omega arith),
+        c .before .before .pre .1 .least,
       ),
     ))
     -- returns
     (λ c. (
       omega arith,
-      group-ends (fits-less (c .before .before .before .before .pre .1 .0)
-          (c .before .before .loop .rest) (c .before .before .loop .inv .1)) (c .before .before .loop .inv .0)
-          (c .before .before .loop .inv .2) (c .before .segment .ensures .1) (c .if1 .taken),
+      group-ends (c .before .before .loop .inv .0) (c .before .before .loop .inv .1)
+          (c .before .before .loop .inv .3) (c .before .segment .ensures .1) (c .if1 .taken),
     ))
     -- twin-requires
-    (λ c κs. (
-      fits-less (c .before .before .before .before .pre .1 .0) (c .before .before .loop .rest)
-          (c .before .before .loop .inv .1),
-      c .before .before .before .before .pre .1 .1,
-      c .before .before .before .before .pre .1 .2,
-      omega arith,
-      omega arith,
-    ))
+    (λ c κs. record {
+      fits = c .before .before .loop .inv .0;
+      least = c .before .before .before .before .pre .1 .least;
+      most = c .before .before .before .before .pre .1 .most;
+      some = omega arith;
+      behind = omega arith;
+    })
     -- returns-2
     (λ c. (
       omega arith,
-      group-stops (fits-less (c .before .before .before .before .before .before .pre .1 .0)
-          (c .before .before .before .before .loop .rest) (c .before .before .before .before .loop .inv .1))
-          (c .before .before .before .before .loop .inv .0) (c .before .before .before .before .loop .inv .2)
+      group-stops (c .before .before .before .before .loop .inv .0)
+          (c .before .before .before .before .loop .inv .1) (c .before .before .before .before .loop .inv .3)
           (c .before .before .before .segment .ensures .1) (omega arith) (c .before .twin .ensures) (c .if2 .taken),
     ))
     -- loop-less
     (λ c. omega arith)
     -- loop-again
     (λ c. (
+      fits-less (c .before .before .before .before .loop .inv .0) (c .before .before .before .segment .result)
+          (omega arith),
       omega arith,
       omega arith,
-      group-goes
-          (fits-less (c .before .before .before .before .before .before .pre .1 .0)
-          (c .before .before .before .before .loop .rest) (c .before .before .before .before .loop .inv .1))
-          (c .before .before .before .before .loop .inv .0) (c .before .before .before .before .loop .inv .2)
+      group-goes (c .before .before .before .before .loop .inv .0)
+          (c .before .before .before .before .loop .inv .1) (c .before .before .before .before .loop .inv .3)
           (c .before .before .before .segment .ensures .1) (omega arith) (c .before .twin .ensures) (c .if2 .left),
     )))
     λ t. segment-lts.spec (
@@ -125,74 +120,68 @@ pub +group+segment-spec : {M : Type 1} → statement M
     segment-Inv-loop
     segment-μ-loop
     -- loop-holds
-    (λ c. (omega arith, segment-starts))
+    (λ c. (c .before .pre .1 .0, omega arith, segment-starts))
     -- code-before-requires
-    (λ c κs. (
-      fits-less (c .before .before .before .pre .1 .0) (c .before .loop .rest) (c .before .loop .inv .0),
-      omega
-          arith,
-    ))
+    (λ c κs. (c .before .loop .inv .0, omega arith))
     -- returns
-    (λ c. (
-      c .before .before .before .before .loop .inv .0,
-      segment-low
-          (c .before .before .before .before .loop .inv .1)
-          (fits-less (c .before .before .before .before .before .before .pre .1 .0)
-          (c .before .before .before .before .loop .rest) (c .before .before .before .before .loop .inv .0)) (omega arith)
-          (c .before .before .before .before .before .before .pre .1 .1) (c .before .before .code-before .ensures)
+    (λ c. let ·loop = c .before .before .before .before .loop in
+    let ·loop-test = c .before .before .before .loop-test in
+    let ·pre = c .before .before .before .before .before .before .pre in
+    let ·code-before = c .before .before .code-before in (
+      ·loop .inv .1,
+      segment-low (·loop .inv .2) (·loop .inv .0) (·loop-test .taken) (·pre .1 .1) (·code-before .ensures)
           (c .if1 .taken),
     ))
     -- returns-2
-    (λ c. (
-      c .before .before .before .before .before .before .loop .inv .0,
-      segment-high
-          (c .before .before .before .before .before .before .loop .inv .1)
-          (fits-less (c .before .before .before .before .before .before .before .before .pre .1 .0)
-          (c .before .before .before .before .before .before .loop .rest)
-          (c .before .before .before .before .before .before .loop .inv .0)) (omega arith)
-          (c .before .before .before .before .before .before .before .before .pre .1 .1)
-          (c .before .before .before .before .code-before .ensures) (c .if2 .taken),
+    (λ c. let ·loop = c .before .before .before .before .before .before .loop in
+    let ·loop-test = c .before .before .before .before .before .loop-test in
+    let ·pre = c .before .before .before .before .before .before .before .before .pre in
+    let ·code-before = c .before .before .before .before .code-before in (
+      ·loop .inv .1,
+      segment-high (·loop .inv .2) (·loop .inv .0) (·loop-test .taken) (·pre .1 .1)
+          (·code-before .ensures) (c .if2 .taken),
     ))
     -- fact-requires
-    (λ c κs. (omega arith, omega arith))
+    (λ c κs. (c .if2 .left, omega arith))
     -- returns-3
-    (λ c. (
-      c .before .before .before .before .before .before .before .before .before .loop .inv .0,
-      segment-other
-          (c .before .before .before .before .before .before .before .before .before .loop .inv .1)
-          (fits-less (c .before .before .before .before .before .before .before .before .before .before .before .pre .1 .0)
-          (c .before .before .before .before .before .before .before .before .before .loop .rest)
-          (c .before .before .before .before .before .before .before .before .before .loop .inv .0)) (omega arith)
-          (c .before .before .before .before .before .before .before .before .before .before .before .pre .1 .1)
-          (c .before .before .before .before .before .before .before .code-before .ensures)
-          (λ e. c .if3 .taken (c .before .before .fact .ensures .0 ∙ e)),
+    (λ c. let ·loop = c .before .before .before .before .before .before .before .before .before .loop in
+    let ·loop-test = c .before .before .before .before .before .before .before .before .loop-test in
+    let ·pre = c .before .before .before .before .before .before .before .before .before .before .before .pre in
+    let ·code-before = c .before .before .before .before .before .before .before .code-before in
+    let ·fact = c .before .before .fact in (
+      ·loop .inv .1,
+      segment-other (·loop .inv .2) (·loop .inv .0) (·loop-test .taken) (·pre .1 .1)
+          (·code-before .ensures) (λ e. c .if3 .taken (·fact .ensures .0 ∙ e)),
     ))
     -- group-requires
     (λ c κs. (
       omega arith,
-      (
-        fits-less (c .before .before .before .before .before .before .before .before .before .before
-            .before .pre .1 .0) (c .before .before .before .before .before .before .before .before .before .loop .rest)
-            (c .before .before .before .before .before .before .before .before .before .loop .inv .0),
-        omega arith,
-        omega arith,
-        omega arith,
-        sym (c .before .before .before .before .before .before .before .code-before .ensures),
-      ),
+      record {
+        fits = c .before .before .before .before .before .before .before .before .before
+            .loop .inv .0;
+        least = omega arith;
+        most = c .before .before .before .if2 .left;
+        some =
+            c .before .before .before .before .before .before .before .before .loop-test .taken;
+        code = sym
+            (c .before .before .before .before .before .before .before .code-before .ensures);
+      },
     ))
     -- loop-less
     (λ c. omega arith)
     -- loop-again
     (λ c. (
+      fits-less (c .before .before .before .before .before .before .before .before .before .before .loop .inv .0)
+          (c .group .result) (omega arith),
       omega arith,
-      segment-goes (c .before .before .before .before .before .before .before .before .before .before
-          .loop .inv .1) (fits-less (c .before .before .before .before .before .before .before .before .before .before .before
-          .before .pre .1 .0) (c .before .before .before .before .before .before .before .before .before .before .loop .rest)
-          (c .before .before .before .before .before .before .before .before .before .before .loop .inv .0)) (omega arith)
+      segment-goes
+          (c .before .before .before .before .before .before .before .before .before .before .loop .inv .2)
+          (c .before .before .before .before .before .before .before .before .before .before .loop .inv .0)
+          (c .before .before .before .before .before .before .before .before .before .loop-test .taken)
           (c .before .before .before .before .before .before .before .before .before .before .before .before .pre .1 .1)
           (c .before .before .before .before .before .before .before .before .code-before .ensures)
           (c .before .before .before .before .before .before .if1 .left)
           (sym (c .before .before .before .fact .ensures .0) ∙ c .before .if3 .left) (c .group .ensures .1),
     ))
     -- returns-4
-    (λ c. (c .before .loop .inv .0, segment-ends (c .before .loop .inv .1) (omega arith)))
+    (λ c. (c .before .loop .inv .1, segment-ends (c .before .loop .inv .2) (omega arith)))

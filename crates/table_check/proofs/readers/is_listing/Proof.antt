@@ -1,11 +1,9 @@
-use mathlib.Core.Path.{_≡_, sym, _∙_}
-use native.Mathlib.Omega.{arith}
-use lib.ListN.{length}
+use borrow.Author.Needs.{needs}
+use mathlib.Core.Path.{sym}
 use lib.Seq.{length-take-le}
 use Rattle.cells.proofs.Start.{inside-sized}
 use Rattle.table_check.proofs.Told.{told-by}
-use Rattle.table_check.proofs.Top.{listing-none, listing-other, listing-fits, listing-root, listing-read}
-use borrow.Author.Needs.{needs}
+use Rattle.table_check.proofs.Top.{listing-none, listing-other, listing-headed, listing-read}
 use Rattle.table_check.proofs.readers.is_listing.Statement.{statement}
 use Rattle.table_check.proofs.readers.is_listing.Tie as tie
 
@@ -54,29 +52,15 @@ group-requires : tie.Need-group-requires
 group-requires c κs =
     let ·args = c .before .before .before .before .before .before .before .before .before .before .before .before .args
     in
-    let t = told-by (c .before .before .before .before .before .before .before .before .before .before .before .before
-    .pre .0) (c .before .before .before .before .before .before .before .before .before .before .before .before .pre .1)
-    (c .before .before .before .fill .ensures)
-    (c .before .before .before .before .before .before .before .before .before .count .ensures .0)
-    (c .before .before .start-of .ensures .0) in (
-      listing-fits (·args .cat .now) (·args .tab .now)
-          (c .before .before .before .before .before .before .before .before .before .before .before .before .pre .0)
-          (c .before .before .before .before .before .before .before .before .before .count .result)
-          (c .before .before .before .before .before .before .before .before .before .count .ensures .0)
-          (c .before .before .before .before .before .before .before .before .if1 .left) t,
-      omega arith,
-      omega arith,
-      omega
-          arith,
-      listing-root (·args .cat .now) (·args .tab .now)
-          (c .before .before .before .before .before .before .before .before .before .before .before .before .pre .0)
-          (c .before .before .before .before .before .before .before .before .before .count .result)
-          (c .before .before .before .before .before .before .before .before .before .count .ensures .0)
-          (c .before .before .before .before .before .before .before .before .if1 .left) t
-          (c .before .before .before .before .before .before .before .code-at .result)
-          (c .before .before .before .before .before .before .before .code-at .ensures)
-          (c .before .before .before .before .before .if2 .left),
-    )
+    let ·pre = c .before .before .before .before .before .before .before .before .before .before .before .before .pre in
+    let ·count = c .before .before .before .before .before .before .before .before .before .count in
+    let ·if1 = c .before .before .before .before .before .before .before .before .if1 in
+    let ·fill = c .before .before .before .fill in let ·start-of = c .before .before .start-of in
+    let ·code-at = c .before .before .before .before .before .before .before .code-at in
+    let ·if2 = c .before .before .before .before .before .if2 in
+    listing-headed (·args .cat .now) (·args .tab .now) (·pre .0) (·count .result) (·count .ensures .0) (·if1 .left)
+    (told-by (·pre .0) (·pre .1) (·fill .ensures) (·count .ensures .0) (·start-of .ensures .0)) (·code-at .result)
+    (·code-at .ensures) (·if2 .left)
 
 -- src/readers.rt: pub(crate) fn is_listing(cat: &[u8], tab: &[u8], size: usize) -> bool
 returns-3 : tie.Need-returns-3

@@ -16,7 +16,8 @@ fact-requires-2 c κs = search needs
 
 -- src/readers.rt: let a = start_before(cells, facts, last) + from;
 start-before-requires : tie.Need-start-before-requires
-start-before-requires c κs = search needs
+start-before-requires c κs = let ·pre = c .before .before .before .pre in
+    ·pre .fits
 
 -- src/readers.rt: let a = start_before(cells, facts, last) + from;
 add-a : tie.Need-add-a
@@ -25,7 +26,7 @@ add-a c = search needs
 -- src/readers.rt: let b = start_before(cells, facts, left) + from;
 start-before-requires-2 : tie.Need-start-before-requires-2
 start-before-requires-2 c κs = let ·pre = c .before .before .before .before .pre in
-    fits-less (·pre .0) _ (·pre .3)
+    fits-less (·pre .fits) _ (·pre .behind)
 
 -- src/readers.rt: let b = start_before(cells, facts, left) + from;
 add-b : tie.Need-add-b
@@ -52,7 +53,12 @@ part-order-of-end : tie.Need-part-order-of-end
 part-order-of-end c = let ·args = c .before .before .before .before .before .args in
     omega (
       arith,
-      key-in (c .before .before .before .before .before .pre .0) (·args .t .0) (omega arith),
+      key-in (c .before .before .before .before .before .pre .fits) (·args .t .0)
+          (omega (
+            arith,
+            c .before .before .before .before .before .pre .some,
+            c .before .before .before .before .before .pre .behind,
+          )),
       c .before .start-before .ensures,
       c .before .before .before .fact .ensures .0,
       c .before .before .fact2 .ensures .0,
@@ -71,9 +77,9 @@ part-order-of-end-2 : tie.Need-part-order-of-end-2
 part-order-of-end-2 c = let ·args = c .before .before .before .before .before .before .args in
     omega (
       arith,
-      key-in (fits-less (c .before .before .before .before .before .before .pre .0) _
-          (c .before .before .before .before .before .before .pre .3)) (·args .t .0)
-          (c .before .before .before .before .before .before .pre .2),
+      key-in (fits-less (c .before .before .before .before .before .before .pre .fits) _
+          (c .before .before .before .before .before .before .pre .behind)) (·args .t .0)
+          (c .before .before .before .before .before .before .pre .some),
       c .before .start-before2 .ensures,
       c .before .before .before .before .fact .ensures .0,
       c .before .before .before .fact2 .ensures .0,
@@ -90,9 +96,9 @@ returns c = let ·pre = c .before .before .before .before .before .before .befor
     let ·fact = c .before .before .before .before .before .before .fact in
     let ·fact2 = c .before .before .before .before .before .fact2 in
     let ·start-before2 = c .before .before .before .start-before2 in
-    c .order-of .ensures ∙ ap₂ order (key-worked (·pre .0) _ (·start-before .ensures) (·fact .ensures .0)
-    (·fact2 .ensures .0)) (key-worked (fits-less (·pre .0) _ (·pre .3)) _ (·start-before2 .ensures) (·fact .ensures .0)
-    (·fact2 .ensures .0))
+    c .order-of .ensures ∙ ap₂ order (key-worked (·pre .fits) _ (·start-before .ensures) (·fact .ensures .0)
+    (·fact2 .ensures .0)) (key-worked (fits-less (·pre .fits) _ (·pre .behind)) _ (·start-before2 .ensures)
+    (·fact .ensures .0) (·fact2 .ensures .0))
 
 pub key-order-spec : {M : Type 1} → statement M
 key-order-spec =

@@ -1,19 +1,19 @@
+use borrow.Author.Needs.{needs}
 use mathlib.Core.Path.{sym, _∙_}
 use Rattle.table_check.proofs.Before.{fits-less}
 use Rattle.table_check.proofs.Twins.{other-type, no-key, smaller-key, equal-key, greater-key}
-use borrow.Author.Needs.{needs}
 use Rattle.table_check.proofs.readers.twin.Statement.{statement}
 use Rattle.table_check.proofs.readers.twin.Tie as tie
 
 -- src/readers.rt: if code_before(cells, facts, left).0 != t.0 {
 code-before-requires : tie.Need-code-before-requires
-code-before-requires c κs = (fits-less (c .before .pre .0) _ (c .before .pre .4), c .before .pre .3)
+code-before-requires c κs = (fits-less (c .before .pre .fits) _ (c .before .pre .behind), c .before .pre .some)
 
 -- src/readers.rt: return false;
 returns : tie.Need-returns
 returns c = let ·pre = c .before .before .before .before .before .pre in
     let ·code-before = c .before .before .before .code-before in
-    other-type (·pre .0) (·pre .1) (·pre .3) (·pre .4) (λ e. c .if1 .taken (·code-before .ensures ∙ e))
+    other-type (·pre) (λ e. c .if1 .taken (·code-before .ensures ∙ e))
 
 -- src/readers.rt: let kind = fact(facts, t, 1);
 fact-requires : tie.Need-fact-requires
@@ -23,12 +23,13 @@ fact-requires c κs = search needs
 returns-2 : tie.Need-returns-2
 returns-2 c = let ·pre = c .before .before .before .before .before .before .before .pre in
     let ·code-before = c .before .before .before .before .before .code-before in let ·if1 = c .before .before .if1 in
-    no-key (·pre .0) (·pre .1) (·pre .3) (·pre .4) (sym (·code-before .ensures) ∙ ·if1 .left) (c .before .fact .result)
-    (c .before .fact .ensures .0) (c .if2 .taken)
+    no-key (·pre) (sym (·code-before .ensures) ∙ ·if1 .left) (c .before .fact .result) (c .before .fact .ensures .0)
+    (c .if2 .taken)
 
 -- src/readers.rt: match key_order(cells, facts, t, last, left) {
 key-order-requires : tie.Need-key-order-requires
-key-order-requires c κs = search needs
+key-order-requires c κs = let ·pre = c .before .before .before .before .before .before .before .pre in
+    ·pre
 
 -- src/readers.rt: Order::Smaller => true,
 enum-told : tie.Need-enum-told
@@ -48,8 +49,8 @@ returns-3 c = let ·pre = c .before .before .before .before .before .before .bef
     let ·code-before = c .before .before .before .before .before .before .before .before .code-before in
     let ·if1 = c .before .before .before .before .before .if1 in let ·fact = c .before .before .before .before .fact in
     let ·key-order = c .before .before .key-order in
-    smaller-key (·pre .0) (·pre .1) (·pre .3) (·pre .4) (sym (·code-before .ensures) ∙ ·if1 .left) (·fact .result)
-    (·fact .ensures .0) (sym (c .enum-told .given .1) ∙ ·key-order .ensures)
+    smaller-key (·pre) (sym (·code-before .ensures) ∙ ·if1 .left) (·fact .result) (·fact .ensures .0)
+    (sym (c .enum-told .given .1) ∙ ·key-order .ensures)
 
 -- src/readers.rt: fn twin(cells: &[u8], facts: &[u8; 132], t: TypeIndex, last: usize, left: usize) -> bool
 returns-4 : tie.Need-returns-4
@@ -57,8 +58,8 @@ returns-4 c = let ·pre = c .before .before .before .before .before .before .bef
     let ·code-before = c .before .before .before .before .before .before .before .before .code-before in
     let ·if1 = c .before .before .before .before .before .if1 in let ·fact = c .before .before .before .before .fact in
     let ·if2 = c .before .before .before .if2 in let ·key-order = c .before .before .key-order in
-    equal-key (·pre .0) (·pre .1) (·pre .3) (·pre .4) (sym (·code-before .ensures) ∙ ·if1 .left) (·fact .result)
-    (·fact .ensures .0) (·if2 .left) (sym (c .enum-told2 .given .1) ∙ ·key-order .ensures)
+    equal-key (·pre) (sym (·code-before .ensures) ∙ ·if1 .left) (·fact .result) (·fact .ensures .0) (·if2 .left)
+    (sym (c .enum-told2 .given .1) ∙ ·key-order .ensures)
 
 -- src/readers.rt: fn twin(cells: &[u8], facts: &[u8; 132], t: TypeIndex, last: usize, left: usize) -> bool
 returns-5 : tie.Need-returns-5
@@ -66,8 +67,8 @@ returns-5 c = let ·pre = c .before .before .before .before .before .before .bef
     let ·code-before = c .before .before .before .before .before .before .before .before .code-before in
     let ·if1 = c .before .before .before .before .before .if1 in let ·fact = c .before .before .before .before .fact in
     let ·if2 = c .before .before .before .if2 in let ·key-order = c .before .before .key-order in
-    greater-key (·pre .0) (·pre .1) (·pre .3) (·pre .4) (sym (·code-before .ensures) ∙ ·if1 .left) (·fact .result)
-    (·fact .ensures .0) (·if2 .left) (sym (c .enum-told3 .given .1) ∙ ·key-order .ensures)
+    greater-key (·pre) (sym (·code-before .ensures) ∙ ·if1 .left) (·fact .result) (·fact .ensures .0) (·if2 .left)
+    (sym (c .enum-told3 .given .1) ∙ ·key-order .ensures)
 
 pub twin-spec : {M : Type 1} → statement M
 twin-spec =
