@@ -70,11 +70,11 @@ module _ {cells facts : Bytes} {p left : ℕ} where
       pub segment-high : 32 < u → SegmentLeaves cells facts p left rest
       segment-high h = record { is = λ t. sym (g .is t) ∙ Rows.row-unfit _ _ _ _ _ _ (told-high t _ _ (omega (arith, type-is t))) }
 
-      pub segment-other : (fact facts u 0 ≡ p → ⊥) → SegmentLeaves cells facts p left rest
-      segment-other n = record { is = λ t. sym (g .is t) ∙ Rows.row-unfit _ _ _ _ _ _ (told-other t _ _ (rw (type-is t) n)) }
+      pub segment-other : {q : ℕ} → q ≡ fact facts u 0 → (q ≡ p → ⊥) → SegmentLeaves cells facts p left rest
+      segment-other y n = record { is = λ t. sym (g .is t) ∙ Rows.row-unfit _ _ _ _ _ _ (told-other t _ _ (rw (type-is t) (λ z. n (y ∙ z)))) }
 
-      pub segment-goes : {r : ℕ} → c < u → fact facts u 0 ≡ p → GroupLeaves cells facts u rest r → SegmentAt cells facts p left u r
-      segment-goes {r} h q w = record {
-        is = λ t. let k = told-child t p u a (omega arith) q in
+      pub segment-goes : {q r : ℕ} → c < u → q ≡ fact facts u 0 → q ≡ p → GroupLeaves cells facts u rest r → SegmentAt cells facts p left u r
+      segment-goes h y z w = record {
+        is = λ t. let k = told-child t p u a (omega arith) (sym y ∙ z) in
             Rows.row-group _ _ _ _ _ _ _ _ _ l (type-is t) h (k .0) (k .1) (w .is t (k .0)) ∙ g .is t;
       }

@@ -1,4 +1,4 @@
-use mathlib.Core.Path.{sym, _∙_}
+use mathlib.Core.Path.{sym}
 use Prim.Native.Nat.{ℕ, _+_, _*_, _-_, _<_, _≤_}
 use native.Mathlib.Omega.{arith}
 use Rattle.table_check.specs.Readers.{Fits, GroupAt, SegmentAt}
@@ -82,10 +82,12 @@ pub +group+segment-spec : {M : Type 1} → statement M
     ))
     -- twin-requires
     (λ c κs. record {
-      fits = c .before .before .loop .inv .0;
-      least = c .before .before .before .before .pre .1 .least;
+      fits = fits-less (c .before .before .before .before .pre .1 .fits) _ (omega arith);
+      least =
+          c .before .before .before .before .pre .1 .least;
       most = c .before .before .before .before .pre .1 .most;
-      some = omega arith;
+      some =
+          omega arith;
       behind = omega arith;
     })
     -- returns-2
@@ -151,7 +153,7 @@ pub +group+segment-spec : {M : Type 1} → statement M
     let ·fact = c .before .before .fact in (
       ·loop .inv .1,
       segment-other (·loop .inv .2) (·loop .inv .0) (·loop-test .taken) (·pre .1 .1)
-          (·code-before .ensures) (λ e. c .if3 .taken (·fact .ensures .0 ∙ e)),
+          (·code-before .ensures) (·fact .ensures .0) (c .if3 .taken),
     ))
     -- group-requires
     (λ c κs. (
@@ -180,8 +182,8 @@ pub +group+segment-spec : {M : Type 1} → statement M
           (c .before .before .before .before .before .before .before .before .before .loop-test .taken)
           (c .before .before .before .before .before .before .before .before .before .before .before .before .pre .1 .1)
           (c .before .before .before .before .before .before .before .before .code-before .ensures)
-          (c .before .before .before .before .before .before .if1 .left)
-          (sym (c .before .before .before .fact .ensures .0) ∙ c .before .if3 .left) (c .group .ensures .1),
+          (c .before .before .before .before .before .before .if1 .left) (c .before .before .before .fact .ensures .0)
+          (c .before .if3 .left) (c .group .ensures .1),
     ))
     -- returns-4
     (λ c. (c .before .loop .inv .1, segment-ends (c .before .loop .inv .2) (omega arith)))

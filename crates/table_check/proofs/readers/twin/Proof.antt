@@ -13,7 +13,7 @@ code-before-requires c κs = (fits-less (c .before .pre .fits) _ (c .before .pre
 returns : tie.Need-returns
 returns c = let ·pre = c .before .before .before .before .before .pre in
     let ·code-before = c .before .before .before .code-before in
-    other-type (·pre) (λ e. c .if1 .taken (·code-before .ensures ∙ e))
+    other-type (·pre) (·code-before .ensures) (c .if1 .taken)
 
 -- src/readers.rt: let kind = fact(facts, t, 1);
 fact-requires : tie.Need-fact-requires
@@ -23,7 +23,7 @@ fact-requires c κs = search needs
 returns-2 : tie.Need-returns-2
 returns-2 c = let ·pre = c .before .before .before .before .before .before .before .pre in
     let ·code-before = c .before .before .before .before .before .code-before in let ·if1 = c .before .before .if1 in
-    no-key (·pre) (sym (·code-before .ensures) ∙ ·if1 .left) (c .before .fact .result) (c .before .fact .ensures .0)
+    no-key (·pre) (·code-before .ensures) (·if1 .left) (c .before .fact .result) (c .before .fact .ensures .0)
     (c .if2 .taken)
 
 -- src/readers.rt: match key_order(cells, facts, t, last, left) {
@@ -49,7 +49,7 @@ returns-3 c = let ·pre = c .before .before .before .before .before .before .bef
     let ·code-before = c .before .before .before .before .before .before .before .before .code-before in
     let ·if1 = c .before .before .before .before .before .if1 in let ·fact = c .before .before .before .before .fact in
     let ·key-order = c .before .before .key-order in
-    smaller-key (·pre) (sym (·code-before .ensures) ∙ ·if1 .left) (·fact .result) (·fact .ensures .0)
+    smaller-key (·pre) (·code-before .ensures) (·if1 .left) (·fact .result) (·fact .ensures .0)
     (sym (c .enum-told .given .1) ∙ ·key-order .ensures)
 
 -- src/readers.rt: fn twin(cells: &[u8], facts: &[u8; 132], t: TypeIndex, last: usize, left: usize) -> bool
@@ -58,7 +58,7 @@ returns-4 c = let ·pre = c .before .before .before .before .before .before .bef
     let ·code-before = c .before .before .before .before .before .before .before .before .code-before in
     let ·if1 = c .before .before .before .before .before .if1 in let ·fact = c .before .before .before .before .fact in
     let ·if2 = c .before .before .before .if2 in let ·key-order = c .before .before .key-order in
-    equal-key (·pre) (sym (·code-before .ensures) ∙ ·if1 .left) (·fact .result) (·fact .ensures .0) (·if2 .left)
+    equal-key (·pre) (·code-before .ensures) (·if1 .left) (·fact .result) (·fact .ensures .0) (·if2 .left)
     (sym (c .enum-told2 .given .1) ∙ ·key-order .ensures)
 
 -- src/readers.rt: fn twin(cells: &[u8], facts: &[u8; 132], t: TypeIndex, last: usize, left: usize) -> bool
@@ -67,7 +67,7 @@ returns-5 c = let ·pre = c .before .before .before .before .before .before .bef
     let ·code-before = c .before .before .before .before .before .before .before .before .code-before in
     let ·if1 = c .before .before .before .before .before .if1 in let ·fact = c .before .before .before .before .fact in
     let ·if2 = c .before .before .before .if2 in let ·key-order = c .before .before .key-order in
-    greater-key (·pre) (sym (·code-before .ensures) ∙ ·if1 .left) (·fact .result) (·fact .ensures .0) (·if2 .left)
+    greater-key (·pre) (·code-before .ensures) (·if1 .left) (·fact .result) (·fact .ensures .0) (·if2 .left)
     (sym (c .enum-told3 .given .1) ∙ ·key-order .ensures)
 
 pub twin-spec : {M : Type 1} → statement M
