@@ -63,14 +63,14 @@ pub record Follows (cells facts : Bytes) (v last left : ℕ) : Type 0 where
   pub some : 1 ≤ left
   pub behind : left ≤ last
 
--- the row tells of this catalogue, and the slice ends with the last cell of this table
+-- The row tells of this catalogue, and the slice ends with the last cell of this table. The readers see neither: each of their answers is for every
+-- catalogue and table of which this holds.
 pub record Told (cat tab cells facts : Bytes) : Type 0 where
   pub good : goodCatalogue cat ≡ true
   pub sized : Sized cat tab (byte facts 0)
   pub cut : cells ≡ take (startOf tab (byte facts 0) (count tab)) tab
   pub row : Filled cat (byte facts 0) (types cat) facts
 
--- The readers see neither catalogue nor table: each answer is for all that the row and the slice tell of.
 -- the cell at which `left` are left is a twin of type v behind the one at which `last` were left
 pub record TwinIs (cells facts : Bytes) (v last left : ℕ) (r : Bool) : Type 0 where
   pub is : {cat tab : Bytes} → Told cat tab cells facts → v ≤ types cat → typ cat (listing cat tab) (count tab - last) ≡ v
