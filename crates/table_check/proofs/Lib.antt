@@ -1,6 +1,12 @@
 pub mod Unused
 pub mod Types
+pub mod Row
+pub mod Before
+pub mod Told
 pub mod Groups
+pub mod Rows
+pub mod Twins
+pub mod Reading
 pub mod Top
 pub mod Space
 pub mod Frame

@@ -1,11 +1,11 @@
 -- What the readers need of a good catalogue: which types are child types of a type. Assumes nothing.
 use mathlib.Core.Path.{_≡_}
-use mathlib.Core.Bool.{true, false}
+use mathlib.Core.Bool.{true}
 use Prim.Native.Nat.{ℕ, _<_, _≤_}
 use native.Mathlib.Omega.{arith}
 use lib.Dec.{eqb}
 use borrow.Author.Tests.{eq-eqb, eqb-true}
-use Rattle.forest.specs.Good.{on, off, is, both-left, both-right}
+use Rattle.forest.specs.Good.{both-left, both-right}
 use Rattle.rules.specs.Block.{Bytes}
 use Rattle.rules.specs.Catalogue.{types, isType, goodCatalogue}
 use Rattle.rules.specs.Cells.{Segment, typeNumber, isChild}
@@ -23,12 +23,6 @@ module _ (cat : Bytes) where
   pub is-child : (p : ℕ) (s : Segment) → 0 < typeNumber s → typeNumber s ≤ types cat → par cat (typeNumber s) ≡ p → isChild cat p s ≡ true
   unfolding isChild
   is-child p s a b e = rw (range-type cat (s .code) a b, eq-eqb (par cat (typeNumber s)) p e)
-
-  pub no-child : (p : ℕ) (s : Segment) → (par cat (typeNumber s) ≡ p → ⊥) → isChild cat p s ≡ false
-  no-child p s n = elim (is (isChild cat p s)) [
-    | on h ↦ absurd (n (child-is p s h .2))
-    | off h ↦ h
-  ]
 
   module _ (g : goodCatalogue cat ≡ true) where
     -- child types come after their parent

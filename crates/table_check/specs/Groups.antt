@@ -1,39 +1,12 @@
 -- What the twin-group reader and the segment reader leave of a stretch of cells. Assumes nothing: these are definitions.
-use mathlib.Core.Path.{_≡_}
-use mathlib.Core.Bool.{Bool, true, false}
+use mathlib.Core.Bool.{Bool}
 use mathlib.Core.Option.{Option, none, some}
 use mathlib.Core.List.{List}
-use Prim.Native.Nat.{ℕ, _+_, _-_, _<_, _≤_}
-use lib.ListN.{length}
-use Rattle.terms.specs.declared.TypeCode.{TypeCode}
+use Prim.Native.Nat.{ℕ, suc, _-_}
 use Rattle.forest.specs.Numbers.{range}
 use Rattle.forest.specs.Groups as Groups
 use Rattle.rules.specs.Block.{Bytes}
-use Rattle.rules.specs.Catalogue.{isType, goodCatalogue}
 use Rattle.rules.specs.Cells.{Segment, segment, typeNumber, isChild, twinOrder}
-use Rattle.cells.specs.Lent.{Sized}
-
--- a good catalogue, the cells within the slice, and a type of the catalogue
-pub record Known (cat tab : Bytes) (size : ℕ) (v : TypeCode) : Type 0 where
-  pub good : goodCatalogue cat ≡ true
-  pub sized : Sized cat tab size
-  pub known : isType cat v ≡ true
-
--- unless the first twin is sought, `last` is a cell of type v
-pub record Behind (cs : List Segment) (v : TypeCode) (first : Bool) (last : ℕ) : Type 0 where
-  pub within : first ≡ false → last < length cs
-  pub same : first ≡ false → segment cs last .code ≡ v
-
--- the twin read last
-abbrev pub prior : Bool → ℕ → Option ℕ
-prior true last = none
-prior false last = some last
-
--- the reader stops at cell r and leaves the cells from there on, of the `left` cells from i on
-pub record Ends (L : List ℕ) (i left r : ℕ) : Type 0 where
-  pub low : i ≤ r
-  pub high : r ≤ i + left
-  pub rest : L ≡ range r (i + left - r)
 
 -- the reader of rows (forest: Groups) over cell numbers
 module _ (cat : Bytes) (cs : List Segment) where
@@ -58,6 +31,10 @@ module _ (cat : Bytes) (cs : List Segment) where
   unfoldable pub afterRow : ℕ → ℕ → ℕ → List ℕ
   afterRow p i left = Groups.rest-of typ fit keyOk p none (range i left)
 
-  -- the same, where the groups of the types up to b have been read
+  -- what is left of the cells behind the twins of type v, cell i being one of them and the first of `left` cells
+  unfoldable pub afterTwin : ℕ → ℕ → ℕ → List ℕ
+  afterTwin v i left = Groups.group typ fit keyOk v (some i) (afterRow v (suc i) (left - 1))
+
+  -- what is left behind the row, where the groups of the types up to b have been read
   unfoldable pub afterTypes : ℕ → ℕ → ℕ → ℕ → List ℕ
   afterTypes p b i left = Groups.aboveOf typ fit keyOk p b (range i left)

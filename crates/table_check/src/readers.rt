@@ -1,98 +1,146 @@
 // The listing of the cells: the twin-group reader and the segment reader call each other, and each call has fewer cells left to read.
-// Each answers the number of the first cell that it does not take.
-use catalogue::entries::key_kind;
-use catalogue::entries::parent;
+// A call stands for a level, and stack is what a controller has least of: so both hand on the cells, a row of what the catalogue says of its types, a
+// type, and how many cells are left, and nothing else. Each answers how many cells are left behind what it has read.
+use blocks::slices::order_of;
+use blocks::wide;
 use catalogue::entry_bytes::types;
-use cells::keys::key_order;
 use cells::lookup::code_at;
 use cells::lookup::count;
+use cells::lookup::start_of;
 use terms::CellNumber;
 use terms::Order;
-use terms::TypeCode;
 ghost use mathlib.Core.Path.{_≡_};
 ghost use mathlib.Core.Bool.{true};
-ghost use mathlib.Core.Option.{none};
-ghost use Prim.Native.Nat.{_+_, _-_, _≤_, _<_};
-ghost use Rattle.rules.specs.Catalogue.{goodCatalogue};
-ghost use Rattle.rules.specs.Cells.{segment, goodListing};
-ghost use Rattle.rules.specs.Table.{count, listing};
+ghost use Prim.Native.Nat.{_≤_, _<_};
+ghost use lib.ListN.{replicate};
+ghost use Rattle.rules.specs.Order.{order};
+ghost use Rattle.rules.specs.Catalogue.{types, goodCatalogue};
+ghost use Rattle.rules.specs.Cells.{goodListing};
+ghost use Rattle.rules.specs.Table.{listing};
 ghost use Rattle.cells.specs.Lent.{Sized};
-ghost use Rattle.table_check.specs.Groups.{Known, Behind, prior, isTwin, afterGroup, afterRow, Ends};
+ghost use Rattle.table_check.specs.Readers.{fact, startBefore, codeBefore, keyBefore, Filled, Fits, Headed, Follows, TwinIs, GroupLeaves, SegmentLeaves};
 
-// Whether cell i is the next twin of type v behind the twin `last`, or the first of them.
-fn twin(
-    cat: &[u8],
-    tab: &[u8],
-    size: usize,
-    v: TypeCode,
-    first: bool,
-    last: usize,
-    i: usize,
-) -> bool
-    requires { ⌜ Known (now cat) (now tab) size v × Behind (listing (now cat) (now tab)) v first last × (i < count (now tab)) ⌝ }
-    ensures { λ r. ⌜ r ≡ isTwin (now (cat .entry)) (listing (now (cat .entry)) (now (tab .entry))) (v .0) (prior first last) i ⌝ }
+// A type's code as the row of facts is asked by it: a byte would be kept twice in each frame, narrow and wide.
+struct TypeIndex(usize);
+
+// The row: 4 bytes a type, its parent and its key's kind, start and length; the first byte of all is the cell size. A code that no type has is nobody's
+// child there: 0 stands for its parent, and no segment has type 0.
+fn fill(cat: &[u8], size: usize, facts: &mut [u8; 132])
+    requires { ⌜ (goodCatalogue (now cat) ≡ true) × (size ≤ 121) × (now facts ≡ replicate 132 0) ⌝ }
+    ensures { λ _. ⌜ Filled (now (cat .entry)) size (types (now (cat .entry))) (now (facts .exit)) ⌝ }
 {
-    if code_at(cat, tab, size, CellNumber(i)).0 != v.0 {
+    facts[0] = size as u8;
+    let mut v: usize = 0;
+    while v < wide(types(cat)) {
+        v += 1;
+        facts[4 * v] = cat[8 * v];
+        facts[4 * v + 1] = cat[8 * v + 2];
+        facts[4 * v + 2] = cat[8 * v + 3];
+        facts[4 * v + 3] = cat[8 * v + 4];
+    }
+}
+
+// Byte k of what the row tells of a type.
+fn fact(facts: &[u8; 132], t: TypeIndex, k: usize) -> usize
+    requires { ⌜ (t .0 ≤ 32) × (k < 4) ⌝ }
+    ensures { λ r. ⌜ (r ≡ fact (now (facts .entry)) (t .0) k) × (r < 256) ⌝ }
+{
+    wide(facts[4 * t.0 + k])
+}
+
+// Where the cell begins from which on `left` cells are left: the slice ends with the last cell.
+fn start_before(cells: &[u8], facts: &[u8; 132], left: usize) -> usize
+    requires { ⌜ Fits (now cells) (now facts) left ⌝ }
+    ensures { λ r. ⌜ r ≡ startBefore (now (cells .entry)) (now (facts .entry)) left ⌝ }
+{
+    cells.len() - left * wide(facts[0])
+}
+
+// The type of that cell.
+fn code_before(cells: &[u8], facts: &[u8; 132], left: usize) -> TypeIndex
+    requires { ⌜ Fits (now cells) (now facts) left × (1 ≤ left) ⌝ }
+    ensures { λ r. ⌜ r .0 ≡ codeBefore (now (cells .entry)) (now (facts .entry)) left ⌝ }
+{
+    let at = start_before(cells, facts, left);
+    TypeIndex(wide(cells[at]))
+}
+
+// How the key of a cell of type t, at which `last` were left, stands to that of a later one, at which `left` are left.
+fn key_order(cells: &[u8], facts: &[u8; 132], t: TypeIndex, last: usize, left: usize) -> Order
+    requires { ⌜ Follows (now cells) (now facts) (t .0) last left ⌝ }
+    ensures { λ r. ⌜ r ≡ order (keyBefore (now (cells .entry)) (now (facts .entry)) (t .0) last)
+        (keyBefore (now (cells .entry)) (now (facts .entry)) (t .0) left) ⌝ }
+{
+    let from = fact(facts, t, 2);
+    let long = fact(facts, t, 3);
+    let a = start_before(cells, facts, last) + from;
+    let b = start_before(cells, facts, left) + from;
+    let x = a + long;
+    let y = b + long;
+    order_of(&cells[a..x], &cells[b..y])
+}
+
+// Whether the next cell is the next twin of type t behind the twin at which `last` were left.
+fn twin(cells: &[u8], facts: &[u8; 132], t: TypeIndex, last: usize, left: usize) -> bool
+    requires { ⌜ Follows (now cells) (now facts) (t .0) last left ⌝ }
+    ensures { λ r. ⌜ TwinIs (now (cells .entry)) (now (facts .entry)) (t .0) last left r ⌝ }
+{
+    if code_before(cells, facts, left).0 != t.0 {
         return false;
     }
-    if first {
-        return true;
-    }
-    let kind = key_kind(cat, v);
+    let kind = fact(facts, t, 1);
     if kind == 0 {
         return true;
     }
-    match key_order(cat, tab, size, CellNumber(last), CellNumber(i)) {
+    match key_order(cells, facts, t, last, left) {
         Order::Smaller => true,
         Order::Equal => kind != 1,
         Order::Greater => false,
     }
 }
 
-// "a group of twins is a row of segments of one type": where the twins of type v end, of the `left` cells from i on. The twins are read in a loop, so
-// that a call stands only for a level.
-fn group(cat: &[u8], tab: &[u8], size: usize, v: TypeCode, i: usize, left: usize) -> usize
-    requires { ⌜ Known (now cat) (now tab) size v × (i + left ≤ count (now tab)) ⌝ }
-    ensures { λ r. ⌜ Ends (afterGroup (now (cat .entry)) (listing (now (cat .entry)) (now (tab .entry))) (v .0) none i left) i left r ⌝ }
+// "a group of twins is a row of segments of one type": the next cell is the first twin of type v. The twins are read in a loop, so that a call stands
+// only for a level.
+fn group(cells: &[u8], facts: &[u8; 132], v: TypeIndex, left: usize) -> usize
+    requires { ⌜ Headed (now cells) (now facts) (v .0) left ⌝ }
+    ensures { λ r. ⌜ (r < left) × GroupLeaves (now (cells .entry)) (now (facts .entry)) (v .0) left r ⌝ }
 {
-    let end = i + left;
-    let mut first = true;
-    let mut last = i;
-    let mut j = i;
-    while j < end {
-        if !twin(cat, tab, size, v, first, last, j) {
-            return j;
+    let mut rest = left;
+    loop {
+        let last = rest;
+        rest = segment(cells, facts, v, last - 1);
+        if rest == 0 {
+            return rest;
         }
-        first = false;
-        last = j;
-        j = segment(cat, tab, size, j, end - j);
+        if !twin(cells, facts, v, last, rest) {
+            return rest;
+        }
     }
-    j
 }
 
-// "a segment is its cell followed by its groups of child types in ascending code": where the segment of cell i ends.
-// The types beneath a type stand together right behind it, so the first type of a smaller parent ends the search for child types.
-fn segment(cat: &[u8], tab: &[u8], size: usize, i: usize, left: usize) -> usize
-    requires { ⌜ Known (now cat) (now tab) size (segment (listing (now cat) (now tab)) i .code) × (0 < left) × (i + left ≤ count (now tab)) ⌝ }
-    ensures { λ r. ⌜ Ends (afterRow (now (cat .entry)) (listing (now (cat .entry)) (now (tab .entry)))
-        (segment (listing (now (cat .entry)) (now (tab .entry))) i .code .0) (i + 1) (left - 1)) (i + 1) (left - 1) r ⌝ }
+// "a segment is its cell followed by its groups of child types in ascending code": the groups of a segment of type p, whose cell is read. The next cell
+// tells which group comes next, so that no type is asked for whose group is empty.
+fn segment(cells: &[u8], facts: &[u8; 132], p: TypeIndex, left: usize) -> usize
+    requires { ⌜ Fits (now cells) (now facts) left × (1 ≤ p .0) ⌝ }
+    ensures { λ r. ⌜ (r ≤ left) × SegmentLeaves (now (cells .entry)) (now (facts .entry)) (p .0) left r ⌝ }
 {
-    let p = code_at(cat, tab, size, CellNumber(i)).0;
-    let top = types(cat);
-    let end = i + left;
-    let mut j = i + 1;
-    let mut v = p;
-    while v < top {
-        v += 1;
-        let q = parent(cat, TypeCode(v)).0;
-        if q < p {
-            return j;
+    let mut c = p.0;
+    let mut rest = left;
+    while 0 < rest {
+        let u = code_before(cells, facts, rest);
+        if u.0 <= c {
+            return rest;
         }
-        if q == p {
-            j = group(cat, tab, size, TypeCode(v), j, end - j);
+        if 32 < u.0 {
+            return rest;
         }
+        if fact(facts, u, 0) != p.0 {
+            return rest;
+        }
+        c = u.0;
+        rest = group(cells, facts, u, rest);
     }
-    j
+    rest
 }
 
 // "The first n cells are the parent-first listing of a forest": "The top is one group of type 1."
@@ -101,5 +149,14 @@ pub(crate) fn is_listing(cat: &[u8], tab: &[u8], size: usize) -> bool
     ensures { λ r. ⌜ r ≡ goodListing (now (cat .entry)) (listing (now (cat .entry)) (now (tab .entry))) ⌝ }
 {
     let n = count(tab);
-    group(cat, tab, size, TypeCode(1), 0, n) == n
+    if n == 0 {
+        return true;
+    }
+    if code_at(cat, tab, size, CellNumber(0)).0 != 1 {
+        return false;
+    }
+    let mut facts = [0u8; 132];
+    fill(cat, size, &mut facts);
+    let end = start_of(tab, size, CellNumber(n));
+    group(&tab[..end], &facts, TypeIndex(1), n) == 0
 }

@@ -1,20 +1,10 @@
-use mathlib.Core.Path.{_≡_, refl, ap, sym, _∙_}
-use mathlib.Core.Bool.{true}
-use mathlib.Core.Option.{none}
-use Prim.Native.Nat.{ℕ, _<_, _+_, _*_, _-_, _≤_}
+use mathlib.Core.Path.{sym}
+use Prim.Native.Nat.{ℕ, _+_, _*_, _-_, _<_, _≤_}
 use native.Mathlib.Omega.{arith}
-use Rattle.terms.specs.declared.TypeCode.{TypeCode}
-use Rattle.terms.specs.Names.{code}
-use Rattle.rules.specs.Catalogue.{isType}
-use Rattle.rules.specs.Cells.{segment}
-use Rattle.rules.specs.Table.{listing}
-use Rattle.rules.proofs.Cells.{listing-length}
-use Rattle.table_check.specs.Groups.{Behind, prior, afterGroup, afterRow, afterTypes}
-use Rattle.catalogue.proofs.Chains.{clash}
-use Rattle.catalogue.proofs.Hierarchy.{type-range, range-type, no-later-child}
-use Rattle.blocks.proofs.Negated.{told-no, told-yes}
-use Rattle.rules.proofs.Catalogue.{par}
-use Rattle.table_check.proofs.Groups.{group-empty, group-stop, group-step, group-ends, twin-type, types-first, types-pass, types-group, types-done}
+use Rattle.table_check.specs.Readers.{Fits, GroupAt, SegmentAt}
+use Rattle.table_check.proofs.Before.{fits-less}
+use Rattle.table_check.proofs.Reading.{group-starts, group-ends, group-stops, group-goes}
+use Rattle.table_check.proofs.Reading.{segment-starts, segment-ends, segment-low, segment-high, segment-other, segment-goes}
 use borrow.Fn.Kinds.{In}
 use borrow.Fn.PlainCycle.{Measures, is, falls, and}
 use Rattle.table_check.proofs.readers.group.Reads as group
@@ -23,18 +13,17 @@ use Rattle.table_check.proofs.readers.+group+segment.Lts-group as group
 use Rattle.table_check.proofs.readers.segment.Reads as segment
 use Rattle.table_check.proofs.readers.segment.Kinds as segment-kinds
 use Rattle.table_check.proofs.readers.+group+segment.Lts-segment as segment-lts
-use Rattle.catalogue.proofs.entries.parent.Reads as parent-reads
-use Rattle.catalogue.proofs.entry_bytes.types.Reads as types-reads
-use Rattle.cells.proofs.lookup.code_at.Reads as code-at-reads
+use Rattle.table_check.proofs.readers.code_before.Reads as code-before-reads
+use Rattle.table_check.proofs.readers.fact.Reads as fact-reads
 use Rattle.table_check.proofs.readers.twin.Reads as twin-reads
 use Rattle.table_check.proofs.readers.+group+segment.{statement}
 use Rattle.table_check.proofs.readers.+group+segment.Tie.{close}
 
 abbrev μ-group : Measures 2 group-kinds.ps ℕ
-μ-group κs a = 2 * (a .1 .1 .1 .1 .1 .0) + 1
+μ-group κs a = 2 * (a .1 .1 .1 .0)
 
 abbrev μ-segment : Measures 2 segment-kinds.ps ℕ
-μ-segment κs a = 2 * (a .1 .1 .1 .1 .0)
+μ-segment κs a = 2 * (a .1 .1 .1 .0) + 1
 
 abbrev group-at : ℕ → In 2 group-kinds.ps
 group-at t = and 2 group-kinds.ps (is 2 group-kinds.ps μ-group t) group.Pre
@@ -49,110 +38,82 @@ abbrev segment-below : ℕ → In 2 segment-kinds.ps
 segment-below t = and 2 segment-kinds.ps (falls 2 segment-kinds.ps _<_ μ-segment t) segment.Pre
 
 abbrev group-Inv-loop : group-lts.InvT-loop
-group-Inv-loop cat tab size v i left end first₀ last₀ j₀ first last j = (i ≤ j) × (j ≤ end) × Behind
-    (listing cat tab) v first last × (afterGroup cat (listing cat tab) (v .0) (prior first last) j (end - j) ≡
-    afterGroup cat (listing cat tab) (v .0) none i left)
+group-Inv-loop cells facts v left rest₀ rest = Fits cells facts rest × (1 ≤ rest) × (rest ≤ left) × GroupAt cells
+    facts (v .0) left rest
 
 abbrev group-μ-loop : group-lts.MeasureT-loop
-group-μ-loop cat tab size v i left end first₀ last₀ j₀ first last j = end - j
+group-μ-loop cells facts v left rest₀ rest = rest
 
 abbrev segment-Inv-loop : segment-lts.InvT-loop
-segment-Inv-loop cat tab size i left p top end j₀ v₀ j v = (i < j) × (j ≤ end) × (p ≤ v) × (v ≤ top) ×
-    (afterTypes cat (listing cat tab) p v j (end - j) ≡ afterRow cat (listing cat tab) p (i + 1) (left - 1))
+segment-Inv-loop cells facts p left c₀ rest₀ c rest = Fits cells facts rest × (rest ≤ left) × SegmentAt cells facts
+    (p .0) left c rest
 
 abbrev segment-μ-loop : segment-lts.MeasureT-loop
-segment-μ-loop cat tab size i left p top end j₀ v₀ j v = top - v
+segment-μ-loop cells facts p left c₀ rest₀ c rest = rest
 
 pub +group+segment-spec : {M : Type 1} → statement M
 +group+segment-spec = close μ-group μ-segment (λ t. group-lts.spec (
-  twin-reads.Asked,
-  twin-reads.Learnt,
   segment-below t,
   segment.Post,
+  twin-reads.Asked,
+  twin-reads.Learnt,
 )
     (group-at t)
     group.Post
     group-Inv-loop
     group-μ-loop
-    -- add-end
-    (λ c. omega arith)
     -- loop-holds
-    (λ c. let ·args = c .before .before .args in (
-      omega arith,
-      omega arith,
-      record {
-        within = λ e. absurd (clash {b = true} refl e);
-        same = λ e. absurd
-            (clash {b = true} refl e);
-      },
-      let z : ·args .i + ·args .left - ·args .i ≡ ·args .left = omega arith in ap
-          (afterGroup (·args .cat .now) (listing (·args .cat .now) (·args .tab .now)) (·args .v .0) none (·args .i)) z,
-    ))
-    -- twin-requires
-    (λ c κs. (c .before .before .before .before .pre .1 .0, c .before .loop .inv .2, omega arith))
-    -- returns
-    (λ c. let ·args = c .before .before .before .before .before .before .args in
-    group-ends (·args .cat .now) (listing (·args .cat .now) (·args .tab .now)) (·args .v .0) (·args .i) (·args .left)
-    (c .before .before .before .loop .j) (prior (c .before .before .before .loop .first)
-    (c .before .before .before .loop .last)) (c .before .before .before .loop .inv .0)
-    (c .before .before .before .loop .inv .1)
-    (group-stop (·args .cat .now) (listing (·args .cat .now) (·args .tab .now)) (·args .v .0)
-    (c .before .before .before .loop .j) _ (prior (c .before .before .before .loop .first)
-    (c .before .before .before .loop .last)) (λ z. omega arith) (told-no (c .before .twin .ensures) (c .if1 .taken)))
-    (c .before .before .before .loop .inv .3))
+    (λ c. (c .before .pre .1 .fits, c .before .pre .1 .some, omega arith, group-starts (c .before .pre .1)))
     -- sub-segment
     (λ c. omega arith)
     -- segment-requires
-    (λ c κs. let ·args = c .before .before .before .before .before .before .args in (
+    (λ c κs. (
       omega arith,
       (
-        record {
-          good = c .before .before .before .before .before .before .pre .1 .0 .good;
-          sized =
-              c .before .before .before .before .before .before .pre .1 .0 .sized;
-          known = ap (isType (·args .cat .now))
-              (twin-type (·args .cat .now) (listing (·args .cat .now) (·args .tab .now)) (·args .v)
-              (prior (c .before .before .before .loop .first) (c .before .before .before .loop .last))
-              (c .before .before .before .loop .j) (told-yes (c .before .twin .ensures) (c .if1 .left))) ∙
-              c .before .before .before .before .before .before .pre .1 .0 .known;
-        },
-        omega arith,
-        omega arith,
+        fits-less (c .loop .inv .0) (c .loop .rest - 1) (omega arith),
+        c .before .before .pre .1 .least,
       ),
     ))
-    -- loop-less
-    (λ c. omega (arith, c .segment .ensures .low))
-    -- loop-again
-    (λ c. let ·args = c .before .before .before .before .before .before .before .args in (
-      omega (arith, c .segment .ensures .low),
-      omega (arith, c .segment .ensures .high),
-      record {
-        within = λ e. omega (arith, listing-length (·args .cat .now) (·args .tab .now));
-        same = λ e. twin-type
-            (·args .cat .now) (listing (·args .cat .now) (·args .tab .now)) (·args .v)
-            (prior (c .before .before .before .before .loop .first) (c .before .before .before .before .loop .last))
-            (c .before .before .before .before .loop .j) (told-yes (c .before .before .twin .ensures) (c .before .if1 .left));
-      },
-      group-step (·args .cat .now) (listing (·args .cat .now) (·args .tab .now)) (·args .v .0)
-          (c .before .before .before .before .loop .j) (·args .i + ·args .left) (c .segment .result)
-          (prior (c .before .before .before .before .loop .first) (c .before .before .before .before .loop .last)) _
-          (c .before .before .before .loop-test .taken) (told-yes (c .before .before .twin .ensures) (c .before .if1 .left))
-          (c .segment .ensures) (c .before .before .before .before .loop .inv .3),
+    -- returns
+    (λ c. (
+      omega arith,
+      group-ends (c .before .before .loop .inv .0) (c .before .before .loop .inv .1)
+          (c .before .before .loop .inv .3) (c .before .segment .ensures .1) (c .if1 .taken),
     ))
+    -- twin-requires
+    (λ c κs. record {
+      fits = fits-less (c .before .before .before .before .pre .1 .fits) _ (omega arith);
+      least =
+          c .before .before .before .before .pre .1 .least;
+      most = c .before .before .before .before .pre .1 .most;
+      some =
+          omega arith;
+      behind = omega arith;
+    })
     -- returns-2
-    (λ c. let ·args = c .before .before .before .before .args in
-    group-ends (·args .cat .now) (listing (·args .cat .now) (·args .tab .now)) (·args .v .0) (·args .i) (·args .left)
-    (c .before .loop .j) (prior (c .before .loop .first) (c .before .loop .last)) (c .before .loop .inv .0)
-    (c .before .loop .inv .1) (group-empty (·args .cat .now) (listing (·args .cat .now) (·args .tab .now)) (·args .v .0)
-    (c .before .loop .j) _ (prior (c .before .loop .first) (c .before .loop .last)) (omega arith))
-    (c .before .loop .inv .3)))
+    (λ c. (
+      omega arith,
+      group-stops (c .before .before .before .before .loop .inv .0)
+          (c .before .before .before .before .loop .inv .1) (c .before .before .before .before .loop .inv .3)
+          (c .before .before .before .segment .ensures .1) (omega arith) (c .before .twin .ensures) (c .if2 .taken),
+    ))
+    -- loop-less
+    (λ c. omega arith)
+    -- loop-again
+    (λ c. (
+      fits-less (c .before .before .before .before .loop .inv .0) (c .before .before .before .segment .result)
+          (omega arith),
+      omega arith,
+      omega arith,
+      group-goes (c .before .before .before .before .loop .inv .0)
+          (c .before .before .before .before .loop .inv .1) (c .before .before .before .before .loop .inv .3)
+          (c .before .before .before .segment .ensures .1) (omega arith) (c .before .twin .ensures) (c .if2 .left),
+    )))
     λ t. segment-lts.spec (
-      code-at-reads.Asked,
-      code-at-reads.Learnt,
-      types-reads.Asked,
-      types-reads.Learnt,
-      parent-reads.Asked,
-      parent-reads.Learnt,
+      code-before-reads.Asked,
+      code-before-reads.Learnt,
+      fact-reads.Asked,
+      fact-reads.Learnt,
       group-below t,
       group.Post,
     )
@@ -160,104 +121,69 @@ pub +group+segment-spec : {M : Type 1} → statement M
     segment.Post
     segment-Inv-loop
     segment-μ-loop
-    -- code-at-requires
-    (λ c κs. (c .before .before .pre .1 .0 .sized, omega arith))
-    -- types-requires
-    (λ c κs. omega arith)
-    -- add-end
-    (λ c. omega arith)
-    -- add-j
-    (λ c. omega arith)
     -- loop-holds
-    (λ c. let ·args = c .before .before .before .before .args in (
-      omega arith,
-      omega arith,
-      omega arith,
-      omega (
-        arith,
-        ap (λ (u : TypeCode). u .0) (c .before .code-at .ensures),
-        type-range (·args .cat .now) _
-            (c .before .before .before .before .pre .1 .0 .known) .1,
-        c .types .ensures,
-      ),
-      types-first (·args .cat .now)
-          (listing (·args .cat .now) (·args .tab .now)) (c .before .before .before .before .pre .1 .0 .good)
-          (c .before .code-at .result .0) (·args .i) (·args .left) (omega arith),
-    ))
-    -- add-v
-    (λ c. omega arith)
-    -- parent-requires
-    (λ c κs. omega arith)
+    (λ c. (c .before .pre .1 .0, omega arith, segment-starts))
+    -- code-before-requires
+    (λ c κs. (c .before .loop .inv .0, omega arith))
     -- returns
-    (λ c. let ·args = c .before .before .before .before .before .before .before .before .args in
-    let below : par (·args .cat .now) (c .before .before .before .loop .v + 1) <
-    c .before .before .before .before .before .code-at .result .0 = omega
-    (arith, ap (λ (u : TypeCode). u .0) (c .before .parent .ensures), c .if1 .taken) in rw
-    (← c .before .before .before .before .before .code-at .ensures)
-    (types-done (·args .cat .now) (listing (·args .cat .now) (·args .tab .now))
-    (c .before .before .before .before .before .before .before .before .pre .1 .0 .good)
-    (c .before .before .before .before .before .code-at .result .0) (c .before .before .before .loop .v) (·args .i)
-    (·args .left) (c .before .before .before .loop .j)
-    (λ w l m. no-later-child (·args .cat .now)
-    (c .before .before .before .before .before .before .before .before .pre .1 .0 .good)
-    (c .before .before .before .before .before .code-at .result .0) (c .before .before .before .loop .v + 1) w
-    (omega arith) below (omega arith) m) (omega arith) (omega arith) (c .before .before .before .loop .inv .4)))
-    -- sub-group
-    (λ c. omega arith)
+    (λ c. let ·loop = c .before .before .before .before .loop in
+    let ·loop-test = c .before .before .before .loop-test in
+    let ·pre = c .before .before .before .before .before .before .pre in
+    let ·code-before = c .before .before .code-before in (
+      ·loop .inv .1,
+      segment-low (·loop .inv .2) (·loop .inv .0) (·loop-test .taken) (·pre .1 .1) (·code-before .ensures)
+          (c .if1 .taken),
+    ))
+    -- returns-2
+    (λ c. let ·loop = c .before .before .before .before .before .before .loop in
+    let ·loop-test = c .before .before .before .before .before .loop-test in
+    let ·pre = c .before .before .before .before .before .before .before .before .pre in
+    let ·code-before = c .before .before .before .before .code-before in (
+      ·loop .inv .1,
+      segment-high (·loop .inv .2) (·loop .inv .0) (·loop-test .taken) (·pre .1 .1)
+          (·code-before .ensures) (c .if2 .taken),
+    ))
+    -- fact-requires
+    (λ c κs. (c .if2 .left, omega arith))
+    -- returns-3
+    (λ c. let ·loop = c .before .before .before .before .before .before .before .before .before .loop in
+    let ·loop-test = c .before .before .before .before .before .before .before .before .loop-test in
+    let ·pre = c .before .before .before .before .before .before .before .before .before .before .before .pre in
+    let ·code-before = c .before .before .before .before .before .before .before .code-before in
+    let ·fact = c .before .before .fact in (
+      ·loop .inv .1,
+      segment-other (·loop .inv .2) (·loop .inv .0) (·loop-test .taken) (·pre .1 .1)
+          (·code-before .ensures) (·fact .ensures .0) (c .if3 .taken),
+    ))
     -- group-requires
-    (λ c κs. let ·args = c .before .before .before .before .before .before .before .before .before .args in (
+    (λ c κs. (
       omega arith,
-      (
-        record {
-          good = c .before .before .before .before .before .before .before .before .before .pre .1 .0
-              .good;
-          sized = c .before .before .before .before .before .before .before .before .before .pre .1 .0 .sized;
-          known =
-              range-type (·args .cat .now) (code (c .before .before .before .before .loop .v + 1)) (omega arith)
-              (omega (arith, c .before .before .before .before .before .types .ensures));
-        },
-        omega arith,
-      ),
+      record {
+        fits = c .before .before .before .before .before .before .before .before .before
+            .loop .inv .0;
+        least = omega arith;
+        most = c .before .before .before .if2 .left;
+        some =
+            c .before .before .before .before .before .before .before .before .loop-test .taken;
+        code = sym
+            (c .before .before .before .before .before .before .before .code-before .ensures);
+      },
     ))
     -- loop-less
     (λ c. omega arith)
     -- loop-again
-    (λ c. let ·args = c .before .before .before .before .before .before .before .before .before .before .args in (
+    (λ c. (
+      fits-less (c .before .before .before .before .before .before .before .before .before .before .loop .inv .0)
+          (c .group .result) (omega arith),
       omega arith,
-      omega arith,
-      omega arith,
-      omega arith,
-      types-group (·args .cat .now)
-          (listing (·args .cat .now) (·args .tab .now))
-          (c .before .before .before .before .before .before .before .before .before .before .pre .1 .0 .good)
-          (c .before .before .before .before .before .before .before .code-at .result .0)
-          (c .before .before .before .before .before .loop .v) (c .before .before .before .before .before .loop .j)
-          (·args .i + ·args .left) (c .group .result) _
-          (sym (ap (λ (u : TypeCode). u .0) (c .before .before .before .parent .ensures)) ∙ c .before .if2 .taken)
-          (omega (arith, c .before .before .before .before .before .before .types .ensures)) (omega arith) (c .group .ensures)
-          (c .before .before .before .before .before .loop .inv .4),
+      segment-goes
+          (c .before .before .before .before .before .before .before .before .before .before .loop .inv .2)
+          (c .before .before .before .before .before .before .before .before .before .before .loop .inv .0)
+          (c .before .before .before .before .before .before .before .before .before .loop-test .taken)
+          (c .before .before .before .before .before .before .before .before .before .before .before .before .pre .1 .1)
+          (c .before .before .before .before .before .before .before .before .code-before .ensures)
+          (c .before .before .before .before .before .before .if1 .left) (c .before .before .before .fact .ensures .0)
+          (c .before .if3 .left) (c .group .ensures .1),
     ))
-    -- loop-less-2
-    (λ c. omega arith)
-    -- loop-again-2
-    (λ c. let ·args = c .before .before .before .before .before .before .before .before .before .args in (
-      omega arith,
-      omega arith,
-      omega arith,
-      omega arith,
-      types-pass (·args .cat .now)
-          (listing (·args .cat .now) (·args .tab .now))
-          (c .before .before .before .before .before .before .before .before .before .pre .1 .0 .good)
-          (c .before .before .before .before .before .before .code-at .result .0) (c .before .before .before .before .loop .v)
-          (c .before .before .before .before .loop .j) (·args .i + ·args .left) _
-          (λ e. c .if2 .left (ap (λ (u : TypeCode). u .0) (c .before .before .parent .ensures) ∙ e))
-          (c .before .before .before .before .loop .inv .4),
-    ))
-    -- returns-2
-    (λ c. let ·args = c .before .before .before .before .before .before .args in
-    rw (← c .before .before .before .code-at .ensures)
-    (types-done (·args .cat .now) (listing (·args .cat .now) (·args .tab .now))
-    (c .before .before .before .before .before .before .pre .1 .0 .good) (c .before .before .before .code-at .result .0)
-    (c .before .loop .v) (·args .i) (·args .left) (c .before .loop .j)
-    (λ w l m e. omega (arith, c .before .before .types .ensures)) (omega arith) (omega arith)
-    (c .before .loop .inv .4)))
+    -- returns-4
+    (λ c. (c .before .loop .inv .1, segment-ends (c .before .loop .inv .2) (omega arith)))
