@@ -73,7 +73,7 @@ pub fn called_change(
     }
 }
 
-// A get on blocks and a position that are sound. It is lent the table to read only: that a get leaves the table needs no word.
+// The calls below 7 on blocks and a position that are sound: the gets, and 0, which is refused. The table is only read.
 pub fn get_sound(
     cat: &[u8],
     tab: &[u8],
@@ -94,7 +94,7 @@ pub fn get_sound(
     called_get(cat, tab, size, pos, number, list, area)
 }
 
-// A change on blocks and a position that are sound, or a number of no call. It is lent the area to read only.
+// The calls from 7 on: the changes, and what is refused above 9. The area is only read.
 pub fn change_sound(
     cat: &[u8],
     tab: &mut [u8],
@@ -108,9 +108,9 @@ pub fn change_sound(
         ≡ soundOutcome (now (cat .entry)) (now (tab .entry)) pos number (now (list .entry)) (now (area .entry)) ⌝ }
 {
     let size = wide(tab[5]);
-    let s = refusals::misused_sound(cat, size, pos, number, list, area);
-    if terms::statuses::number(s) != 0 {
-        return answers::stopped(s, pos);
+    let refusal = refusals::misused_sound(cat, size, pos, number, list, area);
+    if terms::statuses::number(refusal) != 0 {
+        return answers::stopped(refusal, pos);
     }
     called_change(cat, tab, size, pos, number, list, area)
 }

@@ -17,7 +17,7 @@ slice-read-wide c = let ·args = c .before .before .before .before .before .args
 wide-requires : tie.Need-wide-requires
 wide-requires c κs = search needs
 
--- src/lib.rt: let s = refusals::misused_sound(cat, size, pos, number, list, area);
+-- src/lib.rt: let refusal = refusals::misused_sound(cat, size, pos, number, list, area);
 misused-sound-requires : tie.Need-misused-sound-requires
 misused-sound-requires c κs = let ·args = c .before .before .before .before .before .before .args in
     let ·pre = c .before .before .before .before .before .before .pre in (
@@ -26,15 +26,15 @@ misused-sound-requires c κs = let ·args = c .before .before .before .before .b
       ·pre .0 .catalogue,
     )
 
--- src/lib.rt: if terms::statuses::number(s) != 0 {
+-- src/lib.rt: if terms::statuses::number(refusal) != 0 {
 number-requires : tie.Need-number-requires
 number-requires c κs = search needs
 
--- src/lib.rt: return answers::stopped(s, pos);
+-- src/lib.rt: return answers::stopped(refusal, pos);
 stopped-requires : tie.Need-stopped-requires
 stopped-requires c κs = search needs
 
--- src/lib.rt: return answers::stopped(s, pos);
+-- src/lib.rt: return answers::stopped(refusal, pos);
 returns : tie.Need-returns
 returns c = let ·args = c .before .before .before .before .before .before .before .before .before .before .args in
     let ·misused-sound = c .before .before .before .misused-sound in let ·number = c .before .before .number in
