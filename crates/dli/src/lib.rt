@@ -1,11 +1,11 @@
-// The nine calls: `call` takes anything, `call_sound` what a check has accepted and only calls have changed since, `called_sound` what no refusal
-// stops.
+// The nine calls: `call` takes anything, `call_sound` what a check has accepted and only calls have changed since, `called_get` and `called_change`
+// what no refusal stops. The gets stand apart from the changes, so that the frame of one is not held by the other.
 
 use blocks::wide;
 use terms::Answer;
 use terms::Position;
 ghost use mathlib.Core.Path.{_≡_};
-ghost use Prim.Native.Nat.{_≤_};
+ghost use Prim.Native.Nat.{_<_, _≤_};
 ghost use Rattle.rules.specs.Outcome.{outcome, soundOutcome};
 ghost use Rattle.answers.specs.Ready.{SoundFor, made, left};
 ghost use Rattle.dli.specs.Called.{Callable, Getting, calledOutcome, getOf};
@@ -32,8 +32,28 @@ fn get(
     }
 }
 
-// ISRT, REPL or DLET.
-fn change(
+// The get of this number alone: its refusals have been looked at, by whomever and in whatever order, and none holds.
+pub fn called_get(
+    cat: &[u8],
+    tab: &[u8],
+    size: usize,
+    pos: Position,
+    number: u8,
+    list: &[u8],
+    area: &mut [u8],
+) -> Answer
+    requires { ⌜ Callable (now cat) (now tab) size pos number (now list) (now area) × (number < 7) ⌝ }
+    ensures { λ r. ⌜ made r (now (tab .entry)) (now (area .exit))
+        ≡ calledOutcome (now (cat .entry)) (now (tab .entry)) pos number (now (list .entry)) (now (area .entry)) ⌝ }
+{
+    if number < 4 {
+        return get(cat, tab, size, pos, number, list, area, false);
+    }
+    get(cat, tab, size, pos, number - 3, list, area, true)
+}
+
+// ISRT, REPL or DLET alone, as the gets above.
+pub fn called_change(
     cat: &[u8],
     tab: &mut [u8],
     size: usize,
@@ -53,27 +73,46 @@ fn change(
     }
 }
 
-// The call of this number alone: its refusals have been looked at, by whomever and in whatever order, and none holds.
-pub fn called_sound(
+// The calls below 7 on blocks and a position that are sound: the gets, and 0, which is refused. The table is only read.
+pub fn get_sound(
     cat: &[u8],
-    tab: &mut [u8],
-    size: usize,
+    tab: &[u8],
     pos: Position,
     number: u8,
     list: &[u8],
     area: &mut [u8],
 ) -> Answer
-    requires { ⌜ Callable (now cat) (now tab) size pos number (now list) (now area) ⌝ }
-    ensures { λ r. ⌜ made r (now (tab .exit)) (now (area .exit))
-        ≡ calledOutcome (now (cat .entry)) (now (tab .entry)) pos number (now (list .entry)) (now (area .entry)) ⌝ }
+    requires { ⌜ SoundFor (now cat) (now tab) pos × (number < 7) ⌝ }
+    ensures { λ r. ⌜ made r (now (tab .entry)) (now (area .exit))
+        ≡ soundOutcome (now (cat .entry)) (now (tab .entry)) pos number (now (list .entry)) (now (area .entry)) ⌝ }
 {
-    if number < 4 {
-        return get(cat, tab, size, pos, number, list, area, false);
+    let size = wide(tab[5]);
+    let s = refusals::misused_sound(cat, size, pos, number, list, area);
+    if terms::statuses::number(s) != 0 {
+        return answers::stopped(s, pos);
     }
-    if number < 7 {
-        return get(cat, tab, size, pos, number - 3, list, area, true);
+    called_get(cat, tab, size, pos, number, list, area)
+}
+
+// The calls from 7 on: the changes, and what is refused above 9. The area is only read.
+pub fn change_sound(
+    cat: &[u8],
+    tab: &mut [u8],
+    pos: Position,
+    number: u8,
+    list: &[u8],
+    area: &[u8],
+) -> Answer
+    requires { ⌜ SoundFor (now cat) (now tab) pos × (7 ≤ number) ⌝ }
+    ensures { λ r. ⌜ made r (now (tab .exit)) (now (area .entry))
+        ≡ soundOutcome (now (cat .entry)) (now (tab .entry)) pos number (now (list .entry)) (now (area .entry)) ⌝ }
+{
+    let size = wide(tab[5]);
+    let refusal = refusals::misused_sound(cat, size, pos, number, list, area);
+    if terms::statuses::number(refusal) != 0 {
+        return answers::stopped(refusal, pos);
     }
-    change(cat, tab, size, pos, number, list, area)
+    called_change(cat, tab, size, pos, number, list, area)
 }
 
 // The call of this number, on blocks and a position that are sound: nothing of them is tested again.
@@ -89,12 +128,10 @@ pub fn call_sound(
     ensures { λ r. ⌜ made r (now (tab .exit)) (now (area .exit))
         ≡ soundOutcome (now (cat .entry)) (now (tab .entry)) pos number (now (list .entry)) (now (area .entry)) ⌝ }
 {
-    let size = wide(tab[5]);
-    let s = refusals::misused_sound(cat, size, pos, number, list, area);
-    if terms::statuses::number(s) != 0 {
-        return answers::stopped(s, pos);
+    if number < 7 {
+        return get_sound(cat, tab, pos, number, list, area);
     }
-    called_sound(cat, tab, size, pos, number, list, area)
+    change_sound(cat, tab, pos, number, list, area)
 }
 
 // The call of this number, on anything at all: "Every call on every input ends with a status of the table."

@@ -1,42 +1,38 @@
 -- What a call leaves fits the block and the number that it comes back in. Assumes nothing.
 use mathlib.Core.Path.{_≡_, refl, ap, sym, _∙_, subst}
-use mathlib.Core.Bool.{Bool, true, false, true≢false, _&&_, not}
+use mathlib.Core.Bool.{Bool, true, false, true≢false, _&&_}
 use mathlib.Core.List.{List}
 use Prim.Native.Nat.{ℕ, _≤_}
 use native.Mathlib.Omega.{arith}
 use lib.Dec.{eqb}
 use lib.ListN.{length}
-use borrow.Author.Tests.{le-leb, eqb-true, eqb-false, ltb-true, leb-true}
+use borrow.Author.Tests.{eqb-true, ltb-true, leb-true}
 use Rattle.terms.specs.declared.Place.{Place}
 use Rattle.terms.specs.declared.Place.the-variants.{On, Before}
 use Rattle.terms.specs.declared.Parentage.{Parentage}
 use Rattle.terms.specs.declared.Parentage.the-variants.{Absent, Of}
 use Rattle.terms.specs.declared.Position.{Position}
-use Rattle.terms.specs.declared.Status.{Status}
-use Rattle.terms.specs.declared.Status.the-variants.{Blank, CX, TX, PX}
 use Rattle.terms.specs.declared.Answer.{Answer}
 use Rattle.terms.specs.Choice.{pick}
 use Rattle.terms.specs.Statuses.{number}
 use Rattle.terms.specs.Moves.{placeNumber}
 use Rattle.forest.specs.Good.{on, off, is}
 use Rattle.rules.specs.Block.{Bytes}
-use Rattle.rules.specs.Catalogue.{goodCatalogue}
 use Rattle.rules.specs.Cells.{Segment}
-use Rattle.rules.specs.Table.{listing, goodTable}
-use Rattle.rules.specs.Position.{goodPlace, goodParentage, goodPosition, goodBlock, positionOf}
+use Rattle.rules.specs.Table.{listing}
+use Rattle.rules.specs.Position.{goodPlace, goodParentage, goodBlock, positionOf}
 use Rattle.rules.specs.Outcome.{Outcome, isBlank, isIsrt, unsound, outcome, soundOutcome, blockAfter}
 use Rattle.rules.proofs.Cells.{listing-length}
 use Rattle.rules.proofs.Block.{canonical}
 use Rattle.encoding.specs.Determined.{IsBytes}
 use Rattle.encoding.proofs.Bytes.{table-room, table-count}
 use Rattle.model.specs.Kept.{Kept}
-use Rattle.model.proofs.Asked.{sound-of, good-place, good-parentage, parent-before}
+use Rattle.model.proofs.Asked.{good-place, good-parentage, parent-before}
 use Rattle.model.proofs.Kept.{tables-stay-good}
 use Rattle.position.specs.Block.{parentageNumber}
-use Rattle.answers.specs.Told.{stoppedAnswer}
 use Rattle.answers.specs.Ready.{SoundFor, made}
-use Rattle.dli.proofs.Calls.{call-stopped, call-on}
-use Rattle.umbristal.specs.Face.{handedBack, handedBackOf, face, soundFace, packed, Fitting}
+use Rattle.dli.proofs.Calls.{call-on}
+use Rattle.umbristal.specs.Face.{handedBack, handedBackOf, soundFace, packed, Fitting}
 
 -- the cell numbers of a good position are no greater than the count
 module _ (cat : Bytes) (cs : List Segment) where
@@ -59,53 +55,28 @@ one-at-most : (b : Bool) → pick b 1 0 ≤ 1
 one-at-most true = omega arith
 one-at-most false = omega arith
 
--- a refusal before the call is one of 20, 21 and 22
-unsound-high : (cat tab : Bytes) (pos : Position) → (number (unsound cat tab pos) ≡ 0 → ⊥) → 20 ≤ number (unsound cat tab pos)
-unfolding unsound
-unsound-high cat tab pos n = high (goodCatalogue cat) (goodTable cat tab) (goodPosition cat (listing cat tab) pos) n
-  where
-    high : (a b c : Bool) → (number (pick (not a) CX (pick (not b) TX (pick (not c) PX Blank))) ≡ 0 → ⊥) → 20 ≤ number (pick (not a) CX (pick (not b) TX (pick (not c) PX Blank)))
-    high false b c n = omega arith
-    high true false c n = omega arith
-    high true true false n = omega arith
-    high true true true n = absurd (n refl)
-
 module _ (cat tab block : Bytes) (c : ℕ) (list area : Bytes) where
   abbrev pos : Position
   pos = positionOf block
 
-  -- refused before the call: nothing is removed, and the block stays
-  fit-refused : (number (unsound cat tab pos) ≡ 0 → ⊥) → Fitting block (outcome cat tab pos c list area .answer)
-  fit-refused n =
-      let s : Status = unsound cat tab pos in
-      let h : 20 ≤ number s = unsound-high cat tab pos n in
-      let e : stoppedAnswer s pos ≡ outcome cat tab pos c list area .answer = ap (λ (o : Outcome). o .answer) (call-stopped cat tab pos c list area s (number s) refl refl n) in
-      subst (Fitting block) e (rw (le-leb 20 (number s) h) (record { removed = omega arith; position = λ l. absurd (omega arith) }))
-
   -- called: the position afterwards is good, and what was removed was there
-  fit-called : IsBytes tab → IsBytes area → goodCatalogue cat ≡ true → goodTable cat tab ≡ true → goodPosition cat (listing cat tab) pos ≡ true
-      → Fitting block (outcome cat tab pos c list area .answer)
-  fit-called bytes full g good here =
+  fit-called : IsBytes tab → IsBytes area → SoundFor cat tab pos → Fitting block (outcome cat tab pos c list area .answer)
+  fit-called bytes full f =
       let o : Outcome = outcome cat tab pos c list area in
-      let k : Kept cat tab area c o = tables-stay-good cat tab pos c list area g bytes full good here in
+      let k : Kept cat tab area c o = tables-stay-good cat tab pos c list area (f .catalogue) bytes full (f .table) (f .position) in
       let cs : List Segment = listing cat (o .table) in
       let p : Position = o .answer .position in
       let q : goodPlace cat cs (p .place) ≡ true = good-place cat cs p (k .position) in
       let m : length cs ≤ 4096 = omega (arith, listing-length cat (o .table), table-count cat (o .table) (k .table), table-room cat (o .table) (k .table)) in
       record {
-        removed = omega (arith, k .counted, table-count cat tab good, table-room cat tab good, one-at-most (isIsrt c && isBlank (o .answer .status)));
+        removed = omega
+            (arith, k .counted, table-count cat tab (f .table), table-room cat tab (f .table), one-at-most (isIsrt c && isBlank (o .answer .status)));
         position = λ l. record {
-          long = block-long block (canonical .only cat (listing cat tab) block here);
+          long = block-long block (canonical .only cat (listing cat tab) block (f .position));
           place = omega (arith, m, place-near cat cs (p .place) q);
           parent = omega (arith, m, parent-near cat cs (p .place) (p .parentage) q (good-parentage cat cs p (k .position)));
         };
       }
-
-  fit-outcome : IsBytes tab → IsBytes area → Fitting block (outcome cat tab pos c list area .answer)
-  fit-outcome bytes full = elim (is (isBlank (unsound cat tab pos))) [
-    | on e ↦ (let k = sound-of cat tab pos e in fit-called bytes full (k .catalogue) (k .table) (k .position))
-    | off e ↦ fit-refused (eqb-false (number (unsound cat tab pos)) 0 e)
-  ]
 
   -- where a check has accepted all three, the two promises are one
   sound-none : SoundFor cat tab pos → number (unsound cat tab pos) ≡ 0
@@ -120,21 +91,16 @@ module _ (cat tab block : Bytes) (c : ℕ) (list area : Bytes) where
 
   -- as the code has it: p is the position read, a the answer, t and r the table and the area afterwards
   module _ (p : Position) (e : p ≡ pos) (a : Answer) (t r : Bytes) where
-    pub call-fits : IsBytes tab → IsBytes area → made a t r ≡ outcome cat tab p c list area → Fitting block a
-    call-fits bytes full h =
-        subst (Fitting block) (sym (ap (λ (o : Outcome). o .answer) h ∙ ap (λ (q : Position). outcome cat tab q c list area .answer) e)) (fit-outcome bytes full)
-
     pub sound-fits : IsBytes tab → IsBytes area → SoundFor cat tab pos → made a t r ≡ soundOutcome cat tab p c list area → Fitting block a
     sound-fits bytes full f h =
         subst (Fitting block)
-        (sym (ap (λ (o : Outcome). o .answer) h ∙ ap (λ (q : Position). soundOutcome cat tab q c list area .answer) e ∙ ap (λ (o : Outcome). o .answer) (sound-outcome f)))
-        (fit-outcome bytes full)
+        (sym
+        (ap (λ (o : Outcome). o .answer) h
+        ∙ ap (λ (q : Position). soundOutcome cat tab q c list area .answer) e
+        ∙ ap (λ (o : Outcome). o .answer) (sound-outcome f)))
+        (fit-called bytes full f)
 
     module _ (n : ℕ) (b : Bytes) (w : n ≡ packed a) (x : b ≡ blockAfter block a) where
-      pub call-left : made a t r ≡ outcome cat tab p c list area → handedBack n t b r ≡ face cat tab block c list area
-      unfolding face
-      call-left h = rw (w, x) (ap (handedBackOf block) (h ∙ ap (λ (q : Position). outcome cat tab q c list area) e))
-
       pub sound-left : made a t r ≡ soundOutcome cat tab p c list area → handedBack n t b r ≡ soundFace cat tab block c list area
       unfolding soundFace
       sound-left h = rw (w, x) (ap (handedBackOf block) (h ∙ ap (λ (q : Position). soundOutcome cat tab q c list area) e))

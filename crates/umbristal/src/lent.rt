@@ -2,9 +2,11 @@
 use position::block::put_position;
 use reports::Report;
 use terms::Answer;
+use terms::Status;
 use terms::statuses::number;
 ghost use mathlib.Core.Path.{_≡_};
 ghost use Prim.Native.Nat.{_<_};
+ghost use Rattle.terms.specs.Statuses.{number};
 ghost use Rattle.rules.specs.Outcome.{blockAfter};
 ghost use Rattle.umbristal.specs.Face.{packed, packedReport, Fitting};
 
@@ -40,6 +42,13 @@ pub(crate) fn leave(block: &mut [u8], a: Answer) -> u64
     let p = a.position;
     put_position(block, p);
     packed(a)
+}
+
+// A refusal before the call is its number alone: type, level, length and removed are 0, and the block stays.
+pub(crate) fn refused(s: Status) -> u64
+    ensures { λ r. ⌜ r ≡ number s ⌝ }
+{
+    long(number(s))
 }
 
 // The status of a report is the lowest byte; the number of cells stands where `removed` does.

@@ -4,6 +4,7 @@ mod lent;
 use crate::lent::packed_report;
 use blocks::wide;
 use position::block::position_of;
+use terms::Status;
 ghost use mathlib.Core.Path.{_≡_};
 ghost use mathlib.Core.Bool.{true};
 ghost use Prim.Native.Nat.{_<_, _≤_};
@@ -11,7 +12,7 @@ ghost use lib.ListN.{length};
 ghost use Rattle.rules.specs.Block.{byte};
 ghost use Rattle.terms.specs.Statuses.{number};
 ghost use Rattle.rules.specs.Position.{positionOf};
-ghost use Rattle.rules.specs.Outcome.{checkCatalogue, checkTable, makeStatus, madeTable};
+ghost use Rattle.rules.specs.Outcome.{checkCatalogue, checkTable, makeStatus, madeTable, unsound};
 ghost use Rattle.answers.specs.Ready.{SoundFor};
 ghost use Rattle.umbristal.specs.Face.{handedBack, face, soundFace, isStep, reportedBack, reportFace};
 
@@ -39,6 +40,36 @@ pub extern "C" fn umbristal_table_make(cat: &[u8], tab: &mut [u8]) -> u8
     terms::statuses::number(maker::make(cat, tab))
 }
 
+// The check before a call. It reads the position for itself, so that the caller's frame holds none meanwhile.
+fn unsound(cat: &[u8], tab: &[u8], pos: &[u8]) -> Status
+    ensures { λ r. ⌜ r ≡ unsound (now (cat .entry)) (now (tab .entry)) (positionOf (now (pos .entry))) ⌝ }
+{
+    refusals::unsound(cat, tab, position_of(pos))
+}
+
+// The calls below 7 on what is sound. Both exported calls come here and to `changed`: with two callers each, neither is taken in by the compiler, and
+// the frame of the gets is not held by the changes.
+fn got(cat: &[u8], tab: &[u8], pos: &mut [u8], number: u8, list: &[u8], area: &mut [u8]) -> u64
+    requires { ⌜ SoundFor (now cat) (now tab) (positionOf (now pos)) × (number < 7) ⌝ }
+    ensures { λ r. ⌜ handedBack r (now (tab .entry)) (now (pos .exit)) (now (area .exit))
+        ≡ soundFace (now (cat .entry)) (now (tab .entry)) (now (pos .entry)) number (now (list .entry)) (now (area .entry)) ⌝ }
+{
+    let p = position_of(pos);
+    let a = dli::get_sound(cat, tab, p, number, list, area);
+    lent::leave(pos, a)
+}
+
+// The calls from 7 on.
+fn changed(cat: &[u8], tab: &mut [u8], pos: &mut [u8], number: u8, list: &[u8], area: &[u8]) -> u64
+    requires { ⌜ SoundFor (now cat) (now tab) (positionOf (now pos)) × (7 ≤ number) ⌝ }
+    ensures { λ r. ⌜ handedBack r (now (tab .exit)) (now (pos .exit)) (now (area .entry))
+        ≡ soundFace (now (cat .entry)) (now (tab .entry)) (now (pos .entry)) number (now (list .entry)) (now (area .entry)) ⌝ }
+{
+    let p = position_of(pos);
+    let a = dli::change_sound(cat, tab, p, number, list, area);
+    lent::leave(pos, a)
+}
+
 // The call of this number, on anything at all. The position is lent as a block of 8 bytes; the answer's other parts come back in one number.
 #[no_mangle]
 pub extern "C" fn umbristal_call(
@@ -52,9 +83,14 @@ pub extern "C" fn umbristal_call(
     ensures { λ r. ⌜ handedBack r (now (tab .exit)) (now (pos .exit)) (now (area .exit))
         ≡ face (now (cat .entry)) (now (tab .entry)) (now (pos .entry)) number (now (list .entry)) (now (area .entry)) ⌝ }
 {
-    let p = position_of(pos);
-    let a = dli::call(cat, tab, p, number, list, area);
-    lent::leave(pos, a)
+    let s = unsound(cat, tab, pos);
+    if terms::statuses::number(s) != 0 {
+        return lent::refused(s);
+    }
+    if number < 7 {
+        return got(cat, tab, pos, number, list, area);
+    }
+    changed(cat, tab, pos, number, list, area)
 }
 
 // Whether nothing is left to refuse, and nothing to search.
@@ -100,9 +136,10 @@ pub extern "C" fn umbristal_call_sound(
     if is_step(tab, number, list, area) {
         return step(cat, tab, pos, list, area);
     }
-    let p = position_of(pos);
-    let a = dli::call_sound(cat, tab, p, number, list, area);
-    lent::leave(pos, a)
+    if number < 7 {
+        return got(cat, tab, pos, number, list, area);
+    }
+    changed(cat, tab, pos, number, list, area)
 }
 
 // The report by GN on the first list, with GNP on the second under each cell found: the numbers of the cells shown, 2 bytes each, high first.

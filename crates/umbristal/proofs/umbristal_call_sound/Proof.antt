@@ -1,7 +1,5 @@
 use mathlib.Core.Path.{_≡_, sym, _∙_}
-use native.Mathlib.Omega.{arith}
 use Rattle.rules.specs.Position.{positionOf}
-use Rattle.umbristal.proofs.Fitting.{sound-read, sound-fits, sound-left}
 use Rattle.umbristal.proofs.EmptyList.{sizes-in, step-is, step-left}
 use borrow.Author.Needs.{needs}
 use Rattle.umbristal.proofs.umbristal_call_sound.Statement.{statement}
@@ -47,68 +45,53 @@ returns c = let ·step = c .before .before .before .before .step in
     ·step .ensures ∙ step-left (·args .cat .now) (·args .tab .now) (·args .pos .now) (·args .number) (·args .list .now)
     (·args .area .now) (sym (·is-step .ensures) ∙ ·if1 .taken)
 
--- src/lib.rt: let p = position_of(pos);
-position-of-requires : tie.Need-position-of-requires
-position-of-requires c κs = search needs
-
--- src/lib.rt: let a = dli::call_sound(cat, tab, p, number, list, area);
-call-sound-requires : tie.Need-call-sound-requires
-call-sound-requires c κs =
-    let ·args = c .before .before .before .before .before .before .before .before .before .before .before .before
-    .before .args in let ·position-of = c .before .before .position-of in
+-- src/lib.rt: return got(cat, tab, pos, number, list, area);
+got-requires : tie.Need-got-requires
+got-requires c κs =
     let ·pre = c .before .before .before .before .before .before .before .before .before .before .before .before .before
-    .pre in
-    sound-read (·args .cat .now) (·args .tab .now) (·args .pos .now) (·args .number) (·args .list .now)
-    (·args .area .now) (·position-of .result) (·position-of .ensures) (·pre)
+    .pre in let ·if2 = c .before .before .before .if2 in
+    (·pre, ·if2 .taken)
 
--- src/lib.rt: lent::leave(pos, a)
-leave-requires : tie.Need-leave-requires
-leave-requires c κs =
-    let ·args = c .before .before .before .before .before .before .before .before .before .before .before .before
-    .before .before .before .before .before .before .before .args in
-    sound-fits (·args .cat .now) (·args .tab .now) (·args .pos .now) (·args .number) (·args .list .now)
-    (·args .area .now) (c .before .before .before .before .before .before .before .before .position-of .result)
-    (c .before .before .before .before .before .before .before .before .position-of .ensures)
-    (c .before .before .before .before .before .call-sound .result)
-    (c .before .before .before .before .before .call-sound .last .1 .0)
-    (c .before .before .before .before .before .call-sound .last .1 .1 .1 .1 .1 .0)
-    (λ i. omega (
-      arith,
-      c .before .before .before .before .before .before .before .before .before .before .before
-          .before .before .before .before .before .before .slice-known .given i,
-    ))
-    (λ i. omega (
-      arith,
-      c .before .before .before .before .before .before .before .before .before .before .before
-          .before .before .before .slice-known3 .given i,
-    ))
-    (c .before .before .before .before .before .before .before .before .before .before .before .before .before .before
-    .before .before .before .before .before .pre) (c .before .before .before .before .before .call-sound .ensures)
-
--- src/lib.rt: #[no_mangle]
+-- src/lib.rt: return got(cat, tab, pos, number, list, area);
 same-length-4 : tie.Need-same-length-4
 same-length-4 c = search needs
 
--- src/lib.rt: #[no_mangle]
+-- src/lib.rt: return got(cat, tab, pos, number, list, area);
 same-length-5 : tie.Need-same-length-5
 same-length-5 c = search needs
 
--- src/lib.rt: #[no_mangle]
+-- src/lib.rt: return got(cat, tab, pos, number, list, area);
 same-length-6 : tie.Need-same-length-6
 same-length-6 c = search needs
 
--- src/lib.rt: #[no_mangle]
+-- src/lib.rt: return got(cat, tab, pos, number, list, area);
 returns-2 : tie.Need-returns-2
-returns-2 c =
-    let ·args = c .before .before .before .before .before .before .before .before .before .before .before .before
-    .before .before .before .before .before .before .before .before .before .before .args in
-    let ·position-of = c .before .before .before .before .before .before .before .before .before .before .before
-    .position-of in let ·call-sound = c .before .before .before .before .before .before .before .before .call-sound in
-    let ·leave = c .before .before .leave in
-    sound-left (·args .cat .now) (·args .tab .now) (·args .pos .now) (·args .number) (·args .list .now)
-    (·args .area .now) (·position-of .result) (·position-of .ensures) (·call-sound .result) (·call-sound .last .1 .0)
-    (·call-sound .last .1 .1 .1 .1 .1 .0) (·leave .result) (·leave .last .0) (·leave .ensures .0) (·leave .ensures .1)
-    (·call-sound .ensures)
+returns-2 c = let ·got = c .before .before .before .before .got in
+    ·got .ensures
+
+-- src/lib.rt: changed(cat, tab, pos, number, list, area)
+changed-requires : tie.Need-changed-requires
+changed-requires c κs =
+    let ·pre = c .before .before .before .before .before .before .before .before .before .before .before .before .before
+    .pre in let ·if2 = c .before .before .before .if2 in
+    (·pre, ·if2 .left)
+
+-- src/lib.rt: #[no_mangle]
+same-length-7 : tie.Need-same-length-7
+same-length-7 c = search needs
+
+-- src/lib.rt: #[no_mangle]
+same-length-8 : tie.Need-same-length-8
+same-length-8 c = search needs
+
+-- src/lib.rt: #[no_mangle]
+same-length-9 : tie.Need-same-length-9
+same-length-9 c = search needs
+
+-- src/lib.rt: #[no_mangle]
+returns-3 : tie.Need-returns-3
+returns-3 c = let ·changed = c .before .before .before .before .changed in
+    ·changed .ensures
 
 pub umbristal-call-sound-spec : {M : Type 1} → statement M
 umbristal-call-sound-spec =
@@ -120,10 +103,13 @@ umbristal-call-sound-spec =
     same-length-2
     same-length-3
     returns
-    position-of-requires
-    call-sound-requires
-    leave-requires
+    got-requires
     same-length-4
     same-length-5
     same-length-6
-    returns-2)
+    returns-2
+    changed-requires
+    same-length-7
+    same-length-8
+    same-length-9
+    returns-3)

@@ -2,8 +2,8 @@ use mathlib.Core.Path.{ap, _∙_}
 use Rattle.rules.specs.Outcome.{isDlet, isHeld, isIsrt}
 use Rattle.dli.proofs.Calls.{ready, long-enough, is-held, has-list, did-insert, did-replace, is-nine, did-delete}
 use borrow.Author.Needs.{needs}
-use Rattle.dli.proofs.change.Statement.{statement}
-use Rattle.dli.proofs.change.Tie as tie
+use Rattle.dli.proofs.called_change.Statement.{statement}
+use Rattle.dli.proofs.called_change.Tie as tie
 
 -- src/lib.rt: 7 => changes::insert::insert(cat, tab, size, pos, list, area),
 insert-requires : tie.Need-insert-requires
@@ -35,11 +35,11 @@ delete-requires c κs = let ·args = c .before .before .before .before .before .
     (·pre .0) (ap isHeld (is-nine (·args .cat .now) (·args .tab .now) (·args .pos) (·args .number) (·args .list .now)
     (·args .area .now) (·pre .0) (·pre .1) (c .before .match .rest .0 .1) (c .before .match .rest .1)))
 
--- src/lib.rt: fn change(
+-- src/lib.rt: pub fn called_change(
 same-length : tie.Need-same-length
 same-length c = search needs
 
--- src/lib.rt: fn change(
+-- src/lib.rt: pub fn called_change(
 returns : tie.Need-returns
 returns c = let ·insert = c .before .before .insert in
     let ·args = c .before .before .before .before .before .before .before .before .before .args in
@@ -48,11 +48,11 @@ returns c = let ·insert = c .before .before .insert in
     ·insert .ensures ∙ did-insert (·args .cat .now) (·args .tab .now) (·args .pos) (·args .number) (·args .list .now)
     (·args .area .now) (·pre .0) (·match .keys1)
 
--- src/lib.rt: fn change(
+-- src/lib.rt: pub fn called_change(
 same-length-2 : tie.Need-same-length-2
 same-length-2 c = search needs
 
--- src/lib.rt: fn change(
+-- src/lib.rt: pub fn called_change(
 returns-2 : tie.Need-returns-2
 returns-2 c = let ·replace = c .before .before .replace in
     let ·args = c .before .before .before .before .before .before .before .before .before .args in
@@ -61,11 +61,11 @@ returns-2 c = let ·replace = c .before .before .replace in
     ·replace .ensures ∙ did-replace (·args .cat .now) (·args .tab .now) (·args .pos) (·args .number) (·args .list .now)
     (·args .area .now) (·pre .0) (·match .keys2)
 
--- src/lib.rt: fn change(
+-- src/lib.rt: pub fn called_change(
 same-length-3 : tie.Need-same-length-3
 same-length-3 c = search needs
 
--- src/lib.rt: fn change(
+-- src/lib.rt: pub fn called_change(
 returns-3 : tie.Need-returns-3
 returns-3 c = let ·delete = c .before .before .delete in
     let ·args = c .before .before .before .before .before .before .before .before .before .args in
@@ -76,8 +76,8 @@ returns-3 c = let ·delete = c .before .before .delete in
     (is-nine (·args .cat .now) (·args .tab .now) (·args .pos) (·args .number) (·args .list .now) (·args .area .now)
     (·pre .0) (·pre .1) (·match .rest .0 .1) (·match .rest .1))
 
-pub change-spec : {M : Type 1} → statement M
-change-spec =
+pub called-change-spec : {M : Type 1} → statement M
+called-change-spec =
     tie.close
     (tie.spec
     insert-requires

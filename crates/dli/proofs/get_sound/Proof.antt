@@ -3,15 +3,15 @@ use Rattle.terms.specs.declared.Answer.{Answer}
 use Rattle.answers.specs.Ready.{made}
 use Rattle.dli.proofs.Calls.{five-in, size-is, asked-stopped, callable, did-call}
 use borrow.Author.Needs.{needs}
-use Rattle.dli.proofs.call_sound.Statement.{statement}
-use Rattle.dli.proofs.call_sound.Tie as tie
+use Rattle.dli.proofs.get_sound.Statement.{statement}
+use Rattle.dli.proofs.get_sound.Tie as tie
 
 -- src/lib.rt: let size = wide(tab[5]);
-slice-read-wide : tie.Need-slice-read-wide
-slice-read-wide c = let ·args = c .before .before .before .before .before .args in
+shared-slice-read-wide : tie.Need-shared-slice-read-wide
+shared-slice-read-wide c = let ·args = c .before .before .before .before .before .args in
     let ·pre = c .before .before .before .before .before .pre in
     five-in (·args .cat .now) (·args .tab .now) (·args .pos) (·args .number) (·args .list .now) (·args .area .now)
-    (·pre)
+    (·pre .0)
 
 -- src/lib.rt: let size = wide(tab[5]);
 wide-requires : tie.Need-wide-requires
@@ -22,8 +22,8 @@ misused-sound-requires : tie.Need-misused-sound-requires
 misused-sound-requires c κs = let ·args = c .before .before .before .before .before .before .before .args in
     let ·pre = c .before .before .before .before .before .before .before .pre in (
       size-is (·args .cat .now) (·args .tab .now) (·args .pos) (·args .number) (·args .list .now) (·args .area .now)
-          (·pre) (c .before .wide .result) (c .before .wide .ensures .0),
-      ·pre .catalogue,
+          (·pre .0) (c .before .wide .result) (c .before .wide .ensures .0),
+      ·pre .0 .catalogue,
     )
 
 -- src/lib.rt: if terms::statuses::number(s) != 0 {
@@ -47,53 +47,47 @@ returns c =
     (·args .cat .now) (·args .tab .now) (·args .pos) (·args .number) (·args .list .now) (·args .area .now)
     (·misused-sound .result) (·number .result) (·misused-sound .ensures) (·number .ensures) (c .before .if1 .taken)
 
--- src/lib.rt: called_sound(cat, tab, size, pos, number, list, area)
-called-sound-requires : tie.Need-called-sound-requires
-called-sound-requires c κs =
-    let ·args = c .before .before .before .before .before .before .before .before .before .before .before .before .args
-    in
-    let ·pre = c .before .before .before .before .before .before .before .before .before .before .before .before .pre in
-    let ·misused-sound = c .before .before .before .before .misused-sound in
-    let ·number = c .before .before .before .number in let ·if1 = c .before .before .if1 in
-    let ·wide = c .before .before .before .before .before .before .wide in
-    callable (·args .cat .now) (·args .tab .now) (·args .pos) (·args .number) (·args .list .now) (·args .area .now)
-    (·pre) (·misused-sound .result) (·number .result) (·misused-sound .ensures) (·number .ensures) (·if1 .left)
-    (·wide .result) (·wide .ensures .0)
+-- src/lib.rt: called_get(cat, tab, size, pos, number, list, area)
+called-get-requires : tie.Need-called-get-requires
+called-get-requires c κs =
+    let ·args = c .before .before .before .before .before .before .before .before .before .before .before .args in
+    let ·pre = c .before .before .before .before .before .before .before .before .before .before .before .pre in
+    let ·misused-sound = c .before .before .before .misused-sound in let ·number = c .before .before .number in
+    let ·wide = c .before .before .before .before .before .wide in (
+      callable (·args .cat .now) (·args .tab .now) (·args .pos) (·args .number) (·args .list .now) (·args .area .now)
+          (·pre .0) (·misused-sound .result) (·number .result) (·misused-sound .ensures) (·number .ensures)
+          (c .before .if1 .left) (·wide .result) (·wide .ensures .0),
+      ·pre .1,
+    )
 
--- src/lib.rt: pub fn call_sound(
+-- src/lib.rt: pub fn get_sound(
 same-length-2 : tie.Need-same-length-2
 same-length-2 c = search needs
 
--- src/lib.rt: pub fn call_sound(
-same-length-3 : tie.Need-same-length-3
-same-length-3 c = search needs
-
--- src/lib.rt: pub fn call_sound(
+-- src/lib.rt: pub fn get_sound(
 returns-2 : tie.Need-returns-2
-returns-2 c = let ·called-sound = c .before .before .before .before .called-sound in
+returns-2 c = let ·called-get = c .before .before .called-get in
     let ·args = c .before .before .before .before .before .before .before .before .before .before .before .before
-    .before .before .before .before .before .args in
+    .before .before .args in
     let ·pre = c .before .before .before .before .before .before .before .before .before .before .before .before .before
-    .before .before .before .before .pre in
-    let ·misused-sound = c .before .before .before .before .before .before .before .before .before .misused-sound in
-    let ·number = c .before .before .before .before .before .before .before .before .number in
-    let ·if1 = c .before .before .before .before .before .before .before .if1 in
-    ·called-sound .ensures ∙ did-call (·args .cat .now) (·args .tab .now) (·args .pos) (·args .number)
-    (·args .list .now) (·args .area .now) (·pre) (·misused-sound .result) (·number .result) (·misused-sound .ensures)
-    (·number .ensures) (·if1 .left)
+    .before .pre in let ·misused-sound = c .before .before .before .before .before .before .misused-sound in
+    let ·number = c .before .before .before .before .before .number in
+    let ·if1 = c .before .before .before .before .if1 in
+    ·called-get .ensures ∙ did-call (·args .cat .now) (·args .tab .now) (·args .pos) (·args .number) (·args .list .now)
+    (·args .area .now) (·pre .0) (·misused-sound .result) (·number .result) (·misused-sound .ensures) (·number .ensures)
+    (·if1 .left)
 
-pub call-sound-spec : {M : Type 1} → statement M
-call-sound-spec =
+pub get-sound-spec : {M : Type 1} → statement M
+get-sound-spec =
     tie.close
     (tie.spec
-    slice-read-wide
+    shared-slice-read-wide
     wide-requires
     misused-sound-requires
     number-requires
     stopped-requires
     same-length
     returns
-    called-sound-requires
+    called-get-requires
     same-length-2
-    same-length-3
     returns-2)
