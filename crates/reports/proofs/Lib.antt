@@ -2,8 +2,9 @@ pub mod Given
 pub mod Steps
 pub mod Written
 pub mod OneList
+pub mod Both
 pub mod Tested
+pub mod Pass
 pub mod Outer
-pub mod Buffer
 pub mod Lists
 pub mod Whole

@@ -6,15 +6,15 @@ use Prim.Native.Nat.{ℕ, suc, _+_, _-_, _<_, _≤_}
 use native.Mathlib.Omega.{arith}
 use lib.Dec.{eqb}
 use lib.ListN.{length}
-use borrow.Author.Tests.{eq-eqb, ne-eqb}
+use borrow.Author.Tests.{eq-eqb, ne-eqb, not-true, not-false}
 use Rattle.terms.specs.declared.TypeCode.{TypeCode}
 use Rattle.terms.specs.declared.CellNumber.{CellNumber}
 use Rattle.terms.specs.declared.Qualification.{Qualification}
 use Rattle.terms.specs.declared.Argument.{Argument}
 use Rattle.terms.specs.declared.Found.the-variants.{At, Nothing}
 use Rattle.terms.specs.Choice.{pick}
-use Rattle.terms.specs.Names.{code, sameType}
-use Rattle.forest.specs.Good.{on, off, is, isNil}
+use Rattle.terms.specs.Names.{sameType}
+use Rattle.forest.specs.Good.{isNil}
 use Rattle.forest.specs.Numbers.{ancestors}
 use Rattle.rules.specs.Block.{Bytes, every}
 use Rattle.rules.specs.Cells.{Segment, segment, levelAt, rowAt}
@@ -25,16 +25,15 @@ use Rattle.cells.specs.Lent.{parentAt}
 use Rattle.arguments.specs.declared.Wanted.{Wanted}
 use Rattle.arguments.specs.declared.Wanted.the-variants.{Implied, Named}
 use Rattle.arguments.specs.Sound.{wantedOf, meaning}
-use Rattle.arguments.proofs.Sound.{sound-down, list-filled}
+use Rattle.arguments.proofs.Sound.{list-filled}
 use Rattle.arguments.proofs.Complete.{asked-wanted}
 use Rattle.search.specs.Good.{Testable}
 use Rattle.search.proofs.Branches.{named-testable, parent-none, parent-some}
 use Rattle.report_loops.specs.Plain.{heeds, meets, picked}
-use Rattle.report_loops.proofs.Asked.{asked-heeds}
 use Rattle.report_loops.proofs.Hits.{hits, hits-none, hits-first, hits-from}
 use Rattle.reports.specs.Shown.{putHit, shownFrom}
 use Rattle.reports.specs.Given.{Given}
-use Rattle.reports.proofs.Given.{sound-list, given-good}
+use Rattle.reports.proofs.Given.{sound-list, given-good, given-heeds}
 use Rattle.reports.proofs.Written.{put-length, show-none, show-next}
 
 every-here : (p : ℕ → Bool) (x : ℕ) (xs : List ℕ) → p x ≡ false → every p (x ∷ xs) ≡ false
@@ -48,6 +47,10 @@ every-on p x xs e = rw (every, e)
 every-none : (p : ℕ → Bool) → every p [] ≡ true
 unfolding every
 every-none p = refl
+
+-- a segment satisfies every argument for its type
+abbrev pub heededBy : Bytes → Bytes → Bytes → ℕ → Bool
+heededBy cat tab list j = every (heeds cat list (segment (listing cat tab) j)) (listRead cat list .arguments)
 
 -- the cells before i are read, and those of them that meet the list are shown
 pub record Passed (cat tab list : Bytes) (before : Bytes) (k i : ℕ) (out : Bytes) : Type 0 where
@@ -64,9 +67,8 @@ module _ {cat tab list : Bytes} {size : ℕ} (g : Given cat tab list size) where
   abbrev ar : List Argument
   ar = listRead cat list .arguments
 
-  -- a segment satisfies every argument for its type
-  abbrev pub heeded : ℕ → Bool
-  heeded j = every (heeds cat list (segment cs j)) ar
+  abbrev heeded : ℕ → Bool
+  heeded = heededBy cat tab list
 
   module _ (i : ℕ) (u : TypeCode) (e : u ≡ segment cs i .code) (w : Wanted) (f : w ≡ wantedOf ar u) where
     own-heeds : satisfies cat (segment cs i) (meaning cat list w) ≡ heeded i
@@ -74,7 +76,7 @@ module _ {cat tab list : Bytes} {size : ℕ} (g : Given cat tab list size) where
         ap (λ (v : Wanted). satisfies cat (segment cs i) (meaning cat list v)) f
         ∙ sym (ap (satisfies cat (segment cs i)) (asked-wanted cat list ar u))
         ∙ ap (λ (t : TypeCode). satisfies cat (segment cs i) (askedOf cat list ar t)) e
-        ∙ asked-heeds cat list (g .sound .catalogue) (segment cs i) (code 0) ar (sound-down cat list (sound-list g))
+        ∙ given-heeds g (segment cs i)
 
     pub heeds-implied : w ≡ Implied → true ≡ heeded i
     heeds-implied x = rw x at own-heeds
@@ -89,26 +91,23 @@ module _ {cat tab list : Bytes} {size : ℕ} (g : Given cat tab list size) where
   module _ (i : ℕ) where
     pub row-not : (b : Bool) → b ≡ heeded i → not b ≡ true → false ≡ every heeded (rowAt cat cs i)
     unfolding rowAt
-    row-not b e n = sym (every-here heeded i (ancestors (levelAt cat cs) i) (sym e ∙ not-yes b n))
-      where
-        not-yes : (b : Bool) → not b ≡ true → b ≡ false
-        not-yes true n = absurd (let z : _≡_ {A = ℕ} 0 1 = cc in omega arith)
-        not-yes false n = refl
+    row-not b e n = sym (every-here heeded i (ancestors (levelAt cat cs) i) (sym e ∙ not-true b n))
 
     here-yes : (b : Bool) → b ≡ heeded i → not b ≡ false → heeded i ≡ true
-    here-yes true e n = sym e
-    here-yes false e n = absurd (let z : _≡_ {A = ℕ} 0 1 = cc in omega arith)
+    here-yes b e n = sym e ∙ not-false b n
 
     pub row-top : (b : Bool) → b ≡ heeded i → not b ≡ false → Nothing ≡ parentAt cat cs i → true ≡ every heeded (rowAt cat cs i)
     unfolding rowAt
     row-top b e n p = sym (every-on heeded i (ancestors (levelAt cat cs) i) (here-yes b e n) ∙ ap (every heeded) (parent-none cat cs i p) ∙ every-none heeded)
 
-    pub row-up : (b : Bool) → b ≡ heeded i → not b ≡ false → (c : CellNumber) → At c ≡ parentAt cat cs i → (r : Bool) → r ≡ every heeded (rowAt cat cs (c .0)) → r ≡ every heeded (rowAt cat cs i)
+    pub row-up : (b : Bool) → b ≡ heeded i → not b ≡ false → (c : CellNumber) → At c ≡ parentAt cat cs i
+        → every heeded (rowAt cat cs (c .0)) ≡ every heeded (rowAt cat cs i)
     unfolding rowAt
-    row-up b e n c p r q = q ∙ sym (every-on heeded i (ancestors (levelAt cat cs) i) (here-yes b e n) ∙ ap (every heeded) (parent-some cat cs i c p .1))
+    row-up b e n c p = sym (every-on heeded i (ancestors (levelAt cat cs) i) (here-yes b e n) ∙ ap (every heeded) (parent-some cat cs i c p .1))
 
     meets-is : (l : List Argument) → isNil l ≡ false
-        → meets cat list cs l i ≡ (sameType (segment cs i .code) (lastArgument l .code) && every (λ j. every (heeds cat list (segment cs j)) l) (rowAt cat cs i))
+        → meets cat list cs l i
+        ≡ (sameType (segment cs i .code) (lastArgument l .code) && every (λ j. every (heeds cat list (segment cs j)) l) (rowAt cat cs i))
     meets-is [] e = absurd (let z : _≡_ {A = ℕ} 0 1 = cc in omega arith)
     meets-is (a ∷ l) e = refl
 
@@ -143,10 +142,11 @@ module _ {cat tab list : Bytes} {size : ℕ} (g : Given cat tab list size) where
     pub passed-small : i < count tab → (k < 65536) × (i < 65536)
     passed-small h = let q = g .sound .sized .few in (omega (arith, p .fewer), omega arith)
 
-    passed-hit : (b : Bool) → b ≡ met i → b ≡ true → i < count tab → (next : Bytes) → next ≡ putHit k i out → Passed cat tab list before (k + 1) (i + 1) next
-    passed-hit b e f h next q =
+    passed-hit : true ≡ met i → i < count tab → (next : Bytes) → next ≡ putHit k i out → Passed cat tab list before (k + 1) (i + 1) next
+    passed-hit e h next q =
         let w : suc i ≡ i + 1 = omega arith in
-        let z : hits met i (count tab) ≡ i ∷ hits met (i + 1) (count tab) = hits-first met i i (count tab) (omega arith) h (sym e ∙ f) (λ m x y. absurd (omega arith)) ∙ ap (λ (j : ℕ). i ∷ hits met j (count tab)) w in
+        let z : hits met i (count tab) ≡ i ∷ hits met (i + 1) (count tab) =
+        hits-first met i i (count tab) (omega arith) h (sym e) (λ m x y. absurd (omega arith)) ∙ ap (λ (j : ℕ). i ∷ hits met j (count tab)) w in
         let y = ap length z in
         record {
           inside = omega arith;
@@ -156,9 +156,10 @@ module _ {cat tab list : Bytes} {size : ℕ} (g : Given cat tab list size) where
           room = rw q (put-length k i out) ∙ p .room;
         }
 
-    passed-miss : (b : Bool) → b ≡ met i → b ≡ false → i < count tab → Passed cat tab list before k (i + 1) out
-    passed-miss b e f h =
-        let z : hits met i (count tab) ≡ hits met (i + 1) (count tab) = hits-from met i (i + 1) (count tab) (omega arith) (omega arith) (λ m x y. let w : m ≡ i = omega arith in rw w (sym e ∙ f)) in
+    passed-miss : false ≡ met i → i < count tab → Passed cat tab list before k (i + 1) out
+    passed-miss e h =
+        let z : hits met i (count tab) ≡ hits met (i + 1) (count tab) =
+        hits-from met i (i + 1) (count tab) (omega arith) (omega arith) (λ m x y. let w : m ≡ i = omega arith in rw w (sym e)) in
         let y = ap length z in
         record {
           inside = omega arith;
@@ -168,23 +169,14 @@ module _ {cat tab list : Bytes} {size : ℕ} (g : Given cat tab list size) where
           room = p .room;
         }
 
-    pub passed-next : (more : ℕ) (next : Bytes) → more ≡ pick (met i) (k + 1) k → next ≡ pick (met i) (putHit k i out) out → i < count tab → Passed cat tab list before more (i + 1) next
-    passed-next more next a b h = elim (is (met i)) [
-      | on e ↦ (let x : more ≡ k + 1 = rw e at a in let y : next ≡ putHit k i out = rw e at b in rw x (passed-hit (met i) refl e h next y))
-      | off e ↦ (let x : more ≡ k = rw e at a in let y : next ≡ out = rw e at b in rw (x, y) (passed-miss (met i) refl e h))
-    ]
+    -- b says whether cell i meets the list, and more and next are what is shown then
+    pub passed-next : (b : Bool) → b ≡ met i → (more : ℕ) (next : Bytes) → more ≡ pick b (k + 1) k → next ≡ pick b (putHit k i out) out → i < count tab
+        → Passed cat tab list before more (i + 1) next
+    passed-next true e more next x y h = rw x (passed-hit e h next y)
+    passed-next false e more next x y h = rw (x, y) (passed-miss e h)
 
     pub passed-all : count tab ≤ i → (k ≡ length (picked cat tab list)) × (out ≡ shownFrom 0 (picked cat tab list) before)
     passed-all h =
         let z : hits met i (count tab) ≡ [] = hits-none met i (count tab) (λ m x y. absurd (omega arith)) in
         let y = ap length z in
         (omega (arith, p .left), sym (show-none k out) ∙ ap (λ (xs : List ℕ). shownFrom k xs out) (sym z) ∙ p .shown)
-
--- one cell: shown, or passed by
-pub met-yes : {A : Type 0} (b m : Bool) (x y : A) → b ≡ m → not b ≡ false → x ≡ pick m x y
-met-yes true m x y e n = rw (← e)
-met-yes false m x y e n = absurd (let z : _≡_ {A = ℕ} 0 1 = cc in omega arith)
-
-pub met-no : {A : Type 0} (b m : Bool) (x y : A) → b ≡ m → not b ≡ true → y ≡ pick m x y
-met-no true m x y e n = absurd (let z : _≡_ {A = ℕ} 0 1 = cc in omega arith)
-met-no false m x y e n = rw (← e)

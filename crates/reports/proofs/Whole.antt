@@ -20,7 +20,6 @@ use Rattle.rules.specs.Outcome.{checkTable}
 use Rattle.cells.specs.Sound.{Sound}
 use Rattle.cells.proofs.Located.{good-sized, good-housed}
 use Rattle.answers.proofs.Statuses.{blank-is}
-use Rattle.arguments.proofs.Short.{sound-short}
 use Rattle.report_loops.specs.Plain.{filter, meets, picked}
 use Rattle.report_loops.proofs.Cut.{parts}
 use Rattle.reports.specs.declared.Report.{Report}
@@ -136,10 +135,6 @@ module _ (cat tab one two : Bytes) (s : Status) (n : ℕ) (e : s ≡ reportRefus
       second = record { sound = blocks size b; read = parts cat one two (lists .more) (lists .first) (lists .joined) .second; some = lists .more };
       joined = record { sound = blocks size b; read = lists .joined; some = rw length-append (omega (arith, lists .some)) };
     }
-
-    -- the joined list has room in the buffer
-    pub whole-joins : length one + length two ≤ 1845
-    whole-joins = omega (arith, length-append one two, sound-short cat (one ++ two) (record { catalogue = whole-good .0; read = lists .joined }))
 
     pub whole-shows : (out : Bytes) → showing (picked cat tab (one ++ two)) out ≡ report cat tab one two out
     unfolding report

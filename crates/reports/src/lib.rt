@@ -1,13 +1,11 @@
 // Three reports over one table: get-next with get-next-within-parent under each, get-next alone on the joined list, and a plain reading of every cell.
 // All three have one promise, so that no two of them can disagree.
-mod joining;
 mod nesting;
 mod plainly;
 mod refused;
 mod shown;
 mod single;
 
-use crate::joining::join;
 use crate::nesting::nested_sound;
 use crate::plainly::plain_sound;
 use crate::refused::report_refusal;
@@ -52,7 +50,7 @@ fn shows_nothing(s: Status) -> Report
     Report { status: s, hits: 0 }
 }
 
-// How many cells there are by this way, and as many of them as there is room for. `list` is the two lists joined.
+// How many cells there are by this way, and as many of them as there is room for.
 fn found_by(
     way: Way,
     cat: &[u8],
@@ -60,17 +58,16 @@ fn found_by(
     size: usize,
     one: &[u8],
     two: &[u8],
-    list: &[u8],
     out: &mut [u8],
 ) -> usize
-    requires { ⌜ GivenBoth (now cat) (now tab) (now one) (now two) size × (now list ≡ now one ++ now two) ⌝ }
+    requires { ⌜ GivenBoth (now cat) (now tab) (now one) (now two) size ⌝ }
     ensures { λ r. ⌜ (r ≡ length (picked (now (cat .entry)) (now (tab .entry)) (now (one .entry) ++ now (two .entry))))
         × (now (out .exit) ≡ shownFrom 0 (picked (now (cat .entry)) (now (tab .entry)) (now (one .entry) ++ now (two .entry))) (now (out .entry))) ⌝ }
 {
     match way {
         Way::Nested => nested_sound(cat, tab, one, two, out),
-        Way::Joined => joined_sound(cat, tab, list, out),
-        Way::Plain => plain_sound(cat, tab, size, list, out),
+        Way::Joined => joined_sound(cat, tab, size, one, two, out),
+        Way::Plain => plain_sound(cat, tab, size, one, two, out),
     }
 }
 
@@ -82,24 +79,23 @@ fn shown_by(
     size: usize,
     one: &[u8],
     two: &[u8],
-    list: &[u8],
     out: &mut [u8],
 ) -> Report
-    requires { ⌜ GivenBoth (now cat) (now tab) (now one) (now two) size × (now list ≡ now one ++ now two) ⌝ }
+    requires { ⌜ GivenBoth (now cat) (now tab) (now one) (now two) size ⌝ }
     ensures { λ r. ⌜ reported r (now (out .exit))
         ≡ showing (picked (now (cat .entry)) (now (tab .entry)) (now (one .entry) ++ now (two .entry))) (now (out .entry)) ⌝ }
 {
     if 2 * count(tab) <= out.len() {
-        return shows(found_by(way, cat, tab, size, one, two, list, out));
+        return shows(found_by(way, cat, tab, size, one, two, out));
     }
-    let all = found_by(way, cat, tab, size, one, two, list, &mut out[..0]);
+    let all = found_by(way, cat, tab, size, one, two, &mut out[..0]);
     if out.len() < 2 * all {
         return shows_nothing(Status::AB);
     }
-    shows(found_by(way, cat, tab, size, one, two, list, out))
+    shows(found_by(way, cat, tab, size, one, two, out))
 }
 
-// The blocks and the lists are tested once. A list without fault has at most 15 arguments of at most 123 bytes.
+// The blocks and the lists are tested once.
 fn report_by(way: Way, cat: &[u8], tab: &[u8], one: &[u8], two: &[u8], out: &mut [u8]) -> Report
     ensures { λ r. ⌜ reported r (now (out .exit)) ≡ report (now (cat .entry)) (now (tab .entry)) (now (one .entry)) (now (two .entry)) (now (out .entry)) ⌝ }
 {
@@ -107,10 +103,8 @@ fn report_by(way: Way, cat: &[u8], tab: &[u8], one: &[u8], two: &[u8], out: &mut
     if number(s) != 0 {
         return shows_nothing(s);
     }
-    let mut list = [0u8; 1845];
-    let long = join(&mut list, one, two);
     let size = wide(tab[5]);
-    shown_by(way, cat, tab, size, one, two, &list[..long], out)
+    shown_by(way, cat, tab, size, one, two, out)
 }
 
 // GN on the first list until GE, with GNP on the second until GE under each cell found.
@@ -120,7 +114,7 @@ pub fn nested(cat: &[u8], tab: &[u8], one: &[u8], two: &[u8], out: &mut [u8]) ->
     report_by(Way::Nested, cat, tab, one, two, out)
 }
 
-// GN alone, on the two lists joined, until GE.
+// GN alone, on the two lists joined, until GE. No joined list is made: each cell is tested with the one and then with the other.
 pub fn joined(cat: &[u8], tab: &[u8], one: &[u8], two: &[u8], out: &mut [u8]) -> Report
     ensures { λ r. ⌜ reported r (now (out .exit)) ≡ report (now (cat .entry)) (now (tab .entry)) (now (one .entry)) (now (two .entry)) (now (out .entry)) ⌝ }
 {

@@ -9,29 +9,24 @@ enum-told c = search needs
 
 -- src/lib.rt: Way::Nested => nested_sound(cat, tab, one, two, out),
 nested-sound-requires : tie.Need-nested-sound-requires
-nested-sound-requires c κs =
-    let ·pre = c .before .before .before .before .before .before .before .before .before .pre in
-    rw (told-size (·pre .0 .first)) at (·pre .0)
+nested-sound-requires c κs = let ·pre = c .before .before .before .before .before .before .before .before .pre in
+    rw (told-size (·pre .first)) at (·pre)
 
--- src/lib.rt: Way::Joined => joined_sound(cat, tab, list, out),
+-- src/lib.rt: Way::Joined => joined_sound(cat, tab, size, one, two, out),
 enum-told-2 : tie.Need-enum-told-2
 enum-told-2 c = search needs
 
--- src/lib.rt: Way::Joined => joined_sound(cat, tab, list, out),
+-- src/lib.rt: Way::Joined => joined_sound(cat, tab, size, one, two, out),
 joined-sound-requires : tie.Need-joined-sound-requires
-joined-sound-requires c κs =
-    let ·pre = c .before .before .before .before .before .before .before .before .before .pre in
-    rw (·pre .1) (rw (told-size (·pre .0 .first)) at (·pre .0 .joined))
+joined-sound-requires c κs = search needs
 
--- src/lib.rt: Way::Plain => plain_sound(cat, tab, size, list, out),
+-- src/lib.rt: Way::Plain => plain_sound(cat, tab, size, one, two, out),
 enum-told-3 : tie.Need-enum-told-3
 enum-told-3 c = search needs
 
--- src/lib.rt: Way::Plain => plain_sound(cat, tab, size, list, out),
+-- src/lib.rt: Way::Plain => plain_sound(cat, tab, size, one, two, out),
 plain-sound-requires : tie.Need-plain-sound-requires
-plain-sound-requires c κs =
-    let ·pre = c .before .before .before .before .before .before .before .before .before .pre in
-    rw (·pre .1) (·pre .0 .joined)
+plain-sound-requires c κs = search needs
 
 -- src/lib.rt: fn found_by(
 same-length : tie.Need-same-length
@@ -47,10 +42,7 @@ same-length-2 c = search needs
 
 -- src/lib.rt: fn found_by(
 returns-2 : tie.Need-returns-2
-returns-2 c =
-    let ·pre = c .before .before .before .before .before .before .before .before .before .before .before .before .pre in
-    let ·joined-sound = c .before .before .joined-sound in
-    rw (·pre .1) at (·joined-sound .ensures)
+returns-2 c = search needs
 
 -- src/lib.rt: fn found_by(
 same-length-3 : tie.Need-same-length-3
@@ -58,10 +50,7 @@ same-length-3 c = search needs
 
 -- src/lib.rt: fn found_by(
 returns-3 : tie.Need-returns-3
-returns-3 c =
-    let ·pre = c .before .before .before .before .before .before .before .before .before .before .before .before .pre in
-    let ·plain-sound = c .before .before .plain-sound in
-    rw (·pre .1) at (·plain-sound .ensures)
+returns-3 c = search needs
 
 pub found-by-spec : {M : Type 1} → statement M
 found-by-spec =

@@ -13,23 +13,23 @@ count-requires c κs = search needs
 mul-if1 : tie.Need-mul-if1
 mul-if1 c = search needs
 
--- src/lib.rt: return shows(found_by(way, cat, tab, size, one, two, list, out));
+-- src/lib.rt: return shows(found_by(way, cat, tab, size, one, two, out));
 found-by-requires : tie.Need-found-by-requires
 found-by-requires c κs = search needs
 
--- src/lib.rt: return shows(found_by(way, cat, tab, size, one, two, list, out));
+-- src/lib.rt: return shows(found_by(way, cat, tab, size, one, two, out));
 shows-requires : tie.Need-shows-requires
 shows-requires c κs = search needs
 
--- src/lib.rt: return shows(found_by(way, cat, tab, size, one, two, list, out));
+-- src/lib.rt: return shows(found_by(way, cat, tab, size, one, two, out));
 same-length : tie.Need-same-length
 same-length c = search needs
 
--- src/lib.rt: return shows(found_by(way, cat, tab, size, one, two, list, out));
+-- src/lib.rt: return shows(found_by(way, cat, tab, size, one, two, out));
 returns : tie.Need-returns
 returns c =
-    let ·args = c .before .before .before .before .before .before .before .before .before .before .before .before
-    .before .args in
+    let ·args = c .before .before .before .before .before .before .before .before .before .before .before .before .args
+    in
     shows-all _ _ _ _ _ (c .shows .ensures) (c .before .before .before .found-by .ensures .0)
     (c .before .before .before .found-by .ensures .1)
     (omega (
@@ -40,28 +40,27 @@ returns c =
           (·args .one .now ++ ·args .two .now),
     ))
 
--- src/lib.rt: let all = found_by(way, cat, tab, size, one, two, list, &mut out[..0]);
+-- src/lib.rt: let all = found_by(way, cat, tab, size, one, two, &mut out[..0]);
 slice-relend-prefix-found-by : tie.Need-slice-relend-prefix-found-by
 slice-relend-prefix-found-by c = search needs
 
--- src/lib.rt: let all = found_by(way, cat, tab, size, one, two, list, &mut out[..0]);
+-- src/lib.rt: let all = found_by(way, cat, tab, size, one, two, &mut out[..0]);
 slice-aggregate-found-by : tie.Need-slice-aggregate-found-by
 slice-aggregate-found-by c = search needs
 
--- src/lib.rt: let all = found_by(way, cat, tab, size, one, two, list, &mut out[..0]);
+-- src/lib.rt: let all = found_by(way, cat, tab, size, one, two, &mut out[..0]);
 found-by-requires-2 : tie.Need-found-by-requires-2
 found-by-requires-2 c κs = search needs
 
 -- src/lib.rt: if out.len() < 2 * all {
 mul-if2 : tie.Need-mul-if2
 mul-if2 c =
-    let ·args = c .before .before .before .before .before .before .before .before .before .before .before .before .args
-    in
+    let ·args = c .before .before .before .before .before .before .before .before .before .before .before .args in
     omega (
       arith,
       c .before .before .found-by2 .ensures .0,
-      c .before .before .before .before .before .before .before .before .before .before .before .before .pre .0 .first
-          .sound .sized .few,
+      c .before .before .before .before .before .before .before .before .before .before .before .pre .first .sound .sized
+          .few,
       picked-few (·args .cat .now) (·args .tab .now) (·args .one .now ++ ·args .two .now),
     )
 
@@ -77,15 +76,15 @@ same-length-2 c = search needs
 returns-2 : tie.Need-returns-2
 returns-2 c =
     let ·args = c .before .before .before .before .before .before .before .before .before .before .before .before
-    .before .before .args in let ·found-by2 = c .before .before .before .before .found-by2 in
+    .before .args in let ·found-by2 = c .before .before .before .before .found-by2 in
     counted-short _ (·args .out .now) _ (·found-by2 .ensures .1) _ (c .shows-nothing .ensures) _
     (·found-by2 .ensures .0) (c .before .if2 .taken)
 
--- src/lib.rt: shows(found_by(way, cat, tab, size, one, two, list, out))
+-- src/lib.rt: shows(found_by(way, cat, tab, size, one, two, out))
 found-by-requires-3 : tie.Need-found-by-requires-3
 found-by-requires-3 c κs = search needs
 
--- src/lib.rt: shows(found_by(way, cat, tab, size, one, two, list, out))
+-- src/lib.rt: shows(found_by(way, cat, tab, size, one, two, out))
 shows-requires-2 : tie.Need-shows-requires-2
 shows-requires-2 c κs = search needs
 
@@ -97,7 +96,7 @@ same-length-3 c = search needs
 returns-3 : tie.Need-returns-3
 returns-3 c =
     let ·args = c .before .before .before .before .before .before .before .before .before .before .before .before
-    .before .before .before .before .before .before .args in
+    .before .before .before .before .before .args in
     let ·found-by2 = c .before .before .before .before .before .before .before .before .found-by2 in
     let ·found-by3 = c .before .before .before .found-by3 in
     let ·if2 = c .before .before .before .before .before .if2 in

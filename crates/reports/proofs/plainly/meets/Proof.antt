@@ -9,19 +9,19 @@ code-at-requires c κs = search needs
 
 -- src/plainly.rt: return false;
 returns : tie.Need-returns
-returns c = let ·pre = c .before .before .before .before .before .before .before .pre in
+returns c = let ·pre = c .before .before .before .before .before .before .before .before .pre in
     let ·code-at = c .before .before .before .code-at in
-    meets-other (·pre .0) _ _ _ (·pre .1) (·code-at .ensures) (c .if1 .taken)
+    meets-other (·pre .0 .joined) _ _ _ (·pre .1) (·code-at .ensures) (c .if1 .taken)
 
--- src/plainly.rt: row_heeds(cat, tab, size, list, c)
+-- src/plainly.rt: row_heeds(cat, tab, size, one, two, c)
 row-heeds-requires : tie.Need-row-heeds-requires
 row-heeds-requires c κs = search needs
 
--- src/plainly.rt: fn meets(cat: &[u8], tab: &[u8], size: usize, list: &[u8], t: TypeCode, c: CellNumber) -> bool
+-- src/plainly.rt: fn meets(
 returns-2 : tie.Need-returns-2
-returns-2 c = let ·pre = c .before .before .before .before .before .before .before .before .pre in
+returns-2 c = let ·pre = c .before .before .before .before .before .before .before .before .before .pre in
     let ·code-at = c .before .before .before .before .code-at in
-    meets-row (·pre .0) _ _ _ (·pre .1) (·code-at .ensures) (c .before .if1 .left) _ (c .row-heeds .ensures)
+    meets-row (·pre .0 .joined) _ _ _ (·pre .1) (·code-at .ensures) (c .before .if1 .left) _ (c .row-heeds .ensures)
 
 pub meets-spec : {M : Type 1} → statement M
 meets-spec =
