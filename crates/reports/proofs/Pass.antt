@@ -11,7 +11,6 @@ use lib.ListN.{length}
 use borrow.Author.Tests.{eq-eqb, ne-eqb, not-true, not-false}
 use Rattle.terms.specs.declared.TypeCode.{TypeCode}
 use Rattle.terms.specs.declared.Argument.{Argument}
-use Rattle.terms.specs.Names.{code}
 use Rattle.forest.specs.Numbers.{isIn}
 use Rattle.rules.specs.Block.{Bytes, byte, every}
 use Rattle.rules.specs.Catalogue.{types, lineage, level}
