@@ -14,9 +14,7 @@ mod processor;
 mod sample;
 #[cfg(sqlite)]
 mod sqlite;
-mod stack;
 mod work;
-mod worst;
 
 use figures::Figures;
 use sample::Sample;
@@ -34,7 +32,7 @@ fn main() -> ExitCode {
         println!("{}", page::costs(&figures, size));
     }
     println!("{}", page::targets(&figures));
-    let depths = worst::depths();
+    let depths = stack::depths();
     println!("{}", page::depths(&depths));
     let Some(folder) = std::env::args().nth(1) else {
         return ExitCode::SUCCESS;

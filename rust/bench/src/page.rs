@@ -5,8 +5,9 @@ use crate::contenders::{ALL, BY_HAND, FLOOR, LMDB, MISSING, SQLITE, STORE};
 use crate::figures::Figures;
 use crate::processor;
 use crate::work::Operation;
-use crate::worst::{Depth, NAMES};
 use crate::SIZES;
+use stack::blocks::NAMES;
+use stack::Depth;
 
 const TEMPLATE: &str = include_str!("page.md");
 

@@ -1,19 +1,14 @@
-//! How deep the stack goes, measured on a painted stack of our own.
+//! A painted stack of our own: what work on it leaves unpainted tells how deep it went.
 
 use std::ffi::c_void;
 
-const SIZE: usize = 4 << 20;
+const SIZE: usize = 1 << 16;
 const ALIGNMENT: usize = 64;
 const PAINT: u8 = 0xA5;
 
-/// How many bytes of stack some work takes, or nothing on a processor that this is not written for.
-pub fn depth(work: &mut dyn FnMut()) -> Option<usize> {
-    let base = painted(&mut || ())?;
-    Some(painted(work)?.saturating_sub(base))
-}
-
-/// The depth with that of the way there.
-fn painted(mut work: &mut dyn FnMut()) -> Option<usize> {
+/// How many bytes of stack some work takes, the way to it included; or nothing on a processor that this is not written
+/// for.
+pub fn painted(mut work: &mut dyn FnMut()) -> Option<usize> {
     let mut stack = vec![PAINT; SIZE];
     // The stack begins at an address that both processors take, a few bytes below the end of the memory.
     let range = stack.as_mut_ptr_range();
@@ -71,7 +66,7 @@ unsafe fn switch(_top: *mut c_void, _work: *mut c_void) -> Option<()> {
 
 #[cfg(test)]
 mod tests {
-    use super::depth;
+    use super::painted;
     use std::hint::black_box;
 
     #[test]
@@ -79,8 +74,8 @@ mod tests {
         let mut work = || {
             black_box([0u8; 10_000]);
         };
-        if let Some(bytes) = depth(&mut work) {
-            assert!((10_000..12_000).contains(&bytes), "{bytes}");
+        if let (Some(bytes), Some(base)) = (painted(&mut work), painted(&mut || ())) {
+            assert!((10_000..12_000).contains(&(bytes - base)), "{bytes}");
         }
     }
 }
