@@ -4,4 +4,3 @@ pub mod Walk
 pub mod Above
 pub mod Sound
 pub mod Complete
-pub mod Short

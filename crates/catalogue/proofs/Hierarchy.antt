@@ -86,17 +86,3 @@ module _ (cat : Bytes) (g : goodCatalogue cat ≡ true) where
   pub none-later : (p v w : TypeCode) → p .0 < v .0 → v .0 ≤ w .0 → w .0 ≤ types cat → typeBeneath cat v p ≡ false → typeBeneath cat w p ≡ false
   unfolding typeBeneath lineage
   none-later p v w a l t e = none-after (par cat) (types cat) (good-lower cat g) in-last (p .0) (v .0) (w .0) a l t e
-
-  -- so no type that follows has the parent p
-  pub no-child-behind : (p v w : TypeCode) → 1 ≤ p .0 → p .0 < v .0 → v .0 ≤ w .0 → w .0 ≤ types cat → typeBeneath cat v p ≡ false → parentOf cat w ≡ p → ⊥
-  no-child-behind p v w o a l t e q =
-      clash (beneath-parent w (omega arith) t) (rw q (none-later p v w a l t e))
-
-  -- a reader of p's child types may stop at the first type whose parent comes before p
-  pub no-later-child : (p v w : ℕ) → p < v → par cat v < p → v ≤ w → w ≤ types cat → par cat w ≡ p → ⊥
-  unfolding typeBeneath lineage
-  no-later-child p v w a e l t q =
-      elim (is (isIn p (Types.lineage (par cat) (par cat v)))) [
-        | on h ↦ omega (arith, in-bounds (par cat) (types cat) (good-lower cat g) (par cat v) p (omega arith) h .1)
-        | off h ↦ no-child-behind (code p) (code v) (code w) (omega arith) a l t h (ap code q)
-      ]

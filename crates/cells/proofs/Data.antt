@@ -98,26 +98,3 @@ module _ {cat tab : Bytes} {size i : ℕ} (s : Sized cat tab size) (g : goodCata
 
   pub whole-long : {long : ℕ} → long ≡ lengthOf cat t → length (segment (listing cat tab) i .bytes) ≡ long
   whole-long q = ap length (sym (whole-part q)) ∙ data-long (whole-data q)
-
--- the keys of two cells of one type
-module _ {cat tab : Bytes} {size i j : ℕ} (s : Sized cat tab size) (a : Alike cat (listing cat tab) i j)
-    {t : TypeCode} (e : t ≡ segment (listing cat tab) i .code) {start long : ℕ} (p : start ≡ keyStart cat t) (q : long ≡ keyLength cat t) where
-  first-in : i < count tab
-  first-in = omega (arith, listing-length cat tab, a .first)
-
-  second-in : j < count tab
-  second-in = omega (arith, listing-length cat tab, a .second)
-
-  alike-known : isType cat t ≡ true
-  alike-known = rw e (a .known)
-
-  second-is : t ≡ segment (listing cat tab) j .code
-  second-is = e ∙ sym (a .same)
-
-  pub keys-data : InData cat tab size i start long × InData cat tab size j start long
-  keys-data = (key-data s (a .good) first-in e alike-known p q, key-data s (a .good) second-in second-is alike-known p q)
-
-  pub keys-order : {r : Order} {x y : Bytes} → r ≡ order x y → x ≡ part (segment (listing cat tab) i .bytes) (start - 1) long
-      → y ≡ part (segment (listing cat tab) j .bytes) (start - 1) long → r ≡ keyOrder cat (segment (listing cat tab) i) (segment (listing cat tab) j)
-  unfolding keyOrder valueOrder
-  keys-order u v w = u ∙ ap₂ order (v ∙ key-part s (a .good) first-in e alike-known p q) (w ∙ key-part s (a .good) second-in second-is alike-known p q)

@@ -38,14 +38,6 @@ nearest (i ∷ above) = At (cell i)
 unfoldable pub parentAt : Bytes → List Segment → ℕ → Found
 parentAt cat cs i = nearest (ancestors (levelAt cat cs) i)
 
--- cells i and j hold segments of one type of a good catalogue
-pub record Alike (cat : Bytes) (cs : List Segment) (i j : ℕ) : Type 0 where
-  pub good : goodCatalogue cat ≡ true
-  pub first : i < length cs
-  pub second : j < length cs
-  pub known : isType cat (segment cs i .code) ≡ true
-  pub same : segment cs j .code ≡ segment cs i .code
-
 -- `long` data bytes from byte `start` on, "counted from 1", lie within the data of cell i; without a key both are 0
 pub record InData (cat tab : Bytes) (size i start long : ℕ) : Type 0 where
   pub sized : Sized cat tab size
