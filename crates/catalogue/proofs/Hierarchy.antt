@@ -9,14 +9,13 @@ use lib.ListN.{length}
 use borrow.Author.Tests.{ne-eqb, eqb-true}
 use Rattle.terms.specs.declared.TypeCode.{TypeCode}
 use Rattle.terms.specs.Names.{code}
-use Rattle.forest.specs.Good.{on, off, is}
 use Rattle.forest.specs.Numbers.{isIn}
 use Rattle.forest.specs.Types as Types
 use Rattle.rules.specs.Block.{Bytes}
 use Rattle.rules.specs.Catalogue.{types, parentOf, lineage, level, typeBeneath, goodParent, goodCatalogue}
 use Rattle.rules.proofs.Catalogue.{par, good-parent, good-lower}
 pub use Rattle.rules.proofs.Entries.{type-range, range-type, header-facts, type-facts, field-facts, largest-most, cell-least, cell-most, cell-holds}
-use Rattle.catalogue.proofs.Chains.{clash, in-self, in-up, in-bounds, in-trans, none-after}
+use Rattle.catalogue.proofs.Chains.{in-self, in-up, in-bounds, in-trans, none-after}
 
 module _ (cat : Bytes) (g : goodCatalogue cat ≡ true) where
   -- parents come before their children; type 1 alone has none

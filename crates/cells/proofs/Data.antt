@@ -1,5 +1,5 @@
 -- What lies in a cell: its type, and its data, of which a key or a field is a part. Assumes nothing.
-use mathlib.Core.Path.{_≡_, refl, ap, ap₂, sym, _∙_}
+use mathlib.Core.Path.{_≡_, refl, ap, sym, _∙_}
 use mathlib.Core.Bool.{true}
 use mathlib.Core.List.{[], _∷_}
 use Prim.Native.Nat.{ℕ, zero, suc, _+_, _-_, _<_, _≤_}
@@ -7,15 +7,13 @@ use native.Mathlib.Omega.{arith}
 use lib.ListN.{length, take, drop, length-drop}
 use lib.Seq.{take-take, drop-drop, length-take-le}
 use Rattle.terms.specs.declared.TypeCode.{TypeCode}
-use Rattle.terms.specs.declared.Order.{Order}
 use Rattle.terms.specs.Names.{code}
 use Rattle.rules.specs.Block.{Bytes, byte, part}
 use Rattle.rules.specs.Catalogue.{lengthOf, keyStart, keyLength, isType, goodCatalogue}
-use Rattle.rules.specs.Cells.{segment, segmentOf, key, keyOrder}
-use Rattle.rules.specs.Order.{order, valueOrder}
+use Rattle.rules.specs.Cells.{segment, segmentOf, key}
 use Rattle.rules.specs.Table.{count, cellSize, typeAt, segmentAt, listing}
-use Rattle.rules.proofs.Cells.{listing-at, listing-length}
-use Rattle.cells.specs.Lent.{Sized, Alike, Inside, InData, startOf}
+use Rattle.rules.proofs.Cells.{listing-at}
+use Rattle.cells.specs.Lent.{Sized, Inside, InData, startOf}
 use Rattle.cells.proofs.Entries.{key-in, length-in}
 use Rattle.cells.proofs.Start.{start-is, start-in, inside-sized, inside-less}
 use Rattle.cells.proofs.Located.{type-of}

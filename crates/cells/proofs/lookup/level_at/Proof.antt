@@ -2,7 +2,6 @@ use Rattle.rules.specs.Catalogue.{level}
 use Rattle.cells.proofs.Ancestry.{sound-known}
 use mathlib.Core.Path.{ap, _∙_}
 use Rattle.rules.specs.Cells.{levelAt}
-use borrow.Author.Needs.{needs}
 use Rattle.cells.proofs.lookup.level_at.Statement.{statement}
 use Rattle.cells.proofs.lookup.level_at.Tie as tie
 

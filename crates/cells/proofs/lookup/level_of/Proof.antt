@@ -2,7 +2,6 @@ use mathlib.Core.Path.{ap, _∙_}
 use Rattle.rules.specs.Catalogue.{level}
 use Rattle.rules.specs.Cells.{levelAt}
 use Rattle.cells.proofs.Ancestry.{sound-known}
-use borrow.Author.Needs.{needs}
 use Rattle.cells.proofs.lookup.level_of.Statement.{statement}
 use Rattle.cells.proofs.lookup.level_of.Tie as tie
 

@@ -2,7 +2,6 @@ use Rattle.catalogue.proofs.Levels.{levels-none}
 use Rattle.catalogue.proofs.Hierarchy.{range-type}
 use mathlib.Core.Logic.{⊎-elim}
 use native.Mathlib.Omega.{arith}
-use borrow.Author.Needs.{needs}
 use mathlib.Core.Path.{_≡_, refl, _∙_}
 use Prim.Native.Nat.{_-_}
 use Rattle.rules.specs.Matching.{firstMatch}
