@@ -1,10 +1,10 @@
--- The pass of get-next alone over all cells: a segment agrees by itself, its level stands in the row of levels, and it matches where its level is the
--- last and its stretch goes there. Assumes nothing.
+-- The pass of get-next alone over all cells: a segment agrees by itself, and it matches where its level is the last and its stretch goes there.
+-- Assumes nothing.
 use mathlib.Core.Path.{_≡_, ap, sym, _∙_}
 use mathlib.Core.Bool.{Bool, true, false, _&&_, not}
 use mathlib.Core.List.{List}
 use mathlib.Core.Logic.{_⊎_, inl, inr}
-use Prim.Native.Nat.{ℕ, _<_, _≤_}
+use Prim.Native.Nat.{ℕ, _<_}
 use native.Mathlib.Omega.{arith}
 use lib.Dec.{eqb}
 use lib.ListN.{length}
@@ -12,16 +12,14 @@ use borrow.Author.Tests.{eq-eqb, ne-eqb, not-true, not-false}
 use Rattle.terms.specs.declared.TypeCode.{TypeCode}
 use Rattle.terms.specs.declared.Argument.{Argument}
 use Rattle.forest.specs.Numbers.{isIn}
-use Rattle.rules.specs.Block.{Bytes, byte, every}
-use Rattle.rules.specs.Catalogue.{types, lineage, level}
+use Rattle.rules.specs.Block.{Bytes, every}
+use Rattle.rules.specs.Catalogue.{lineage, level, isType}
 use Rattle.rules.specs.Cells.{Segment, segment, levelAt}
 use Rattle.rules.specs.Table.{count, listing}
 use Rattle.rules.specs.Arguments.{Level, listRead, lastArgument}
 use Rattle.rules.specs.Matching.{matches}
 use Rattle.rules.proofs.Cells.{listing-length}
-use Rattle.catalogue.specs.Levels.{Levels}
-use Rattle.catalogue.proofs.Hierarchy.{header-facts}
-use Rattle.cells.proofs.Ancestry.{own-type, sound-listing}
+use Rattle.cells.proofs.Ancestry.{sound-listing}
 use Rattle.arguments.proofs.Above.{type-first}
 use Rattle.arguments.proofs.Complete.{complete-length}
 use Rattle.arguments.proofs.Sound.{sound-down, last-asks}
@@ -52,39 +50,15 @@ module _ {cat tab list : Bytes} {size : ℕ} (g : Given cat tab list size) where
         let z : isIn (segment cs i .code .0) (lineage cat t) ≡ true = ap (λ (x : TypeCode). isIn (x .0) (lineage cat t)) (sym e) ∙ sym f ∙ not-false a n in
         rw z (h ∙ sym (given-heeds g (segment cs i)))
 
-  -- the level of a type, from the row of all of them
-  module _ (row : Bytes) (r : Levels cat row (types cat)) where
-    module _ (u : TypeCode) (k : u .0 ≤ types cat) (j : ℕ) (e : j ≡ u .0) where
-      known-in : j < 33
-      known-in = omega (arith, header-facts cat (g .sound .catalogue) .types-most)
-
-      known-level : byte row j ≡ level cat u
-      known-level = rw e (r .each (u .0) k)
-
-    module _ (t : TypeCode) (e : t ≡ lastArgument ar .code) (j : ℕ) (f : j ≡ t .0) where
-      pub last-in : j < 33
-      last-in = known-in t (given-good g t e .known) j f
-
-      pub last-level : byte row j ≡ level cat t
-      last-level = known-level t (given-good g t e .known) j f
-
-    module _ (i : ℕ) (h : i < count tab) (u : TypeCode) (e : u ≡ segment cs i .code) (j : ℕ) (f : j ≡ u .0) where
-      own-known : u .0 ≤ types cat
-      own-known = rw e (own-type cat cs (g .sound .catalogue) (sound-listing (g .sound)) i (omega (arith, listing-length cat tab)) .1)
-
-      pub cell-in : j < 33
-      cell-in = known-in u own-known j f
-
-      pub cell-level : byte row j ≡ levelAt cat cs i
-      unfolding levelAt
-      cell-level = known-level u own-known j f ∙ ap (level cat) e
-
   module _ (t : TypeCode) (e : t ≡ lastArgument ar .code) where
     abbrev ls : List Level
     ls = levels cat list t
 
+    pub last-known : isType cat t ≡ true
+    last-known = rw e (last-asks cat list (sound-list g) (g .some) .type)
+
     some-last : 0 < t .0
-    some-last = rw e (type-first cat (lastArgument ar .code) (last-asks cat list (sound-list g) (g .some) .type))
+    some-last = type-first cat t last-known
 
     matched : (i : ℕ) → i < count tab → matches cat cs ls i ≡ meets cat list cs ar i
     matched i h =

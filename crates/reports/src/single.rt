@@ -2,11 +2,12 @@
 use crate::plainly::heeds_both;
 use crate::shown::show_met;
 use arguments::lookup::last_of;
-use blocks::wide;
 use catalogue::lineage::is_above;
+use catalogue::lineage::level_by;
 use catalogue::lineage::levels;
 use cells::lookup::code_at;
 use cells::lookup::count;
+use cells::lookup::level_at;
 use terms::CellNumber;
 use terms::TypeCode;
 ghost use mathlib.Core.Path.{_≡_};
@@ -86,14 +87,14 @@ pub(crate) fn joined_sound(
     let t = last_of(cat, two).code;
     let mut row = [0u8; 33];
     levels(cat, &mut row);
-    let last = row[wide(t.0)];
+    let last = level_by(&row, cat, t);
     let n = count(tab);
     let mut long: u8 = 0;
     let mut hits = 0;
     let mut i = 0;
     while i < n {
         let c = CellNumber(i);
-        let l = row[wide(code_at(cat, tab, size, c).0)];
+        let l = level_at(&row, cat, tab, size, c);
         long = stretched_both(cat, tab, size, one, two, t, long, l, c);
         hits = show_met(l == last && long == last, c, hits, out);
         i += 1;

@@ -11,7 +11,7 @@ use Rattle.search.proofs.Branches.{carried-cell, before-next}
 use Rattle.reports.proofs.Given.{sound-list, given-good}
 use Rattle.reports.proofs.Both.{last-both}
 use Rattle.reports.proofs.Tested.{Passed, passed-none, passed-small, passed-next, passed-all}
-use Rattle.reports.proofs.Pass.{last-in, last-level, cell-in, cell-level, met-stretch}
+use Rattle.reports.proofs.Pass.{last-known, met-stretch}
 use Rattle.reports.proofs.single.joined_sound.Statement.{statement}
 use Rattle.reports.proofs.single.joined_sound.Tie as tie
 
@@ -32,17 +32,15 @@ levels-requires : tie.Need-levels-requires Inv-loop μ-loop
 levels-requires c κs = let ·pre = c .before .before .before .before .before .before .before .before .pre in
     (·pre .first .sound .catalogue, levels-none _)
 
--- src/single.rt: let last = row[wide(t.0)];
-wide-requires : tie.Need-wide-requires Inv-loop μ-loop
-wide-requires c κs = search needs
-
--- src/single.rt: let last = row[wide(t.0)];
-array-read-last : tie.Need-array-read-last Inv-loop μ-loop
-array-read-last c =
+-- src/single.rt: let last = level_by(&row, cat, t);
+level-by-requires : tie.Need-level-by-requires Inv-loop μ-loop
+level-by-requires c κs =
     let ·pre = c .before .before .before .before .before .before .before .before .before .before .pre in
-    let ·last-of = c .before .before .before .before .last-of in
-    last-in (·pre .joined) _ (c .before .levels .ensures) _ (last-both (·pre) _ (·last-of .ensures)) _
-    (c .wide .ensures .0)
+    let ·last-of = c .before .before .before .before .last-of in (
+      ·pre .first .sound .catalogue,
+      last-known (·pre .joined) _ (last-both (·pre) _ (·last-of .ensures)),
+      c .before .levels .ensures,
+    )
 
 -- src/single.rt: let n = count(tab);
 count-requires : tie.Need-count-requires Inv-loop μ-loop
@@ -51,55 +49,38 @@ count-requires c κs = search needs
 -- src/single.rt: while i < n {
 loop-holds : tie.Need-loop-holds Inv-loop μ-loop
 loop-holds c =
-    let ·pre = c .before .before .before .before .before .before .before .before .before .before .before .pre in
+    let ·pre = c .before .before .before .before .before .before .before .before .before .before .before .before .pre in
     (passed-none (·pre .joined) _, refl)
 
--- src/single.rt: let l = row[wide(code_at(cat, tab, size, c).0)];
-code-at-requires : tie.Need-code-at-requires Inv-loop μ-loop
-code-at-requires c κs =
+-- src/single.rt: let l = level_at(&row, cat, tab, size, c);
+level-at-requires : tie.Need-level-at-requires Inv-loop μ-loop
+level-at-requires c κs =
     let ·pre = c .before .before .before .before .before .before .before .before .before .before .before .before .before
-    .pre in let ·count = c .before .before .count in
-    (·pre .first .sound .sized, rw (·count .ensures .0) at (c .loop-test .taken))
-
--- src/single.rt: let l = row[wide(code_at(cat, tab, size, c).0)];
-wide-requires-2 : tie.Need-wide-requires-2 Inv-loop μ-loop
-wide-requires-2 c κs = search needs
-
--- src/single.rt: let l = row[wide(code_at(cat, tab, size, c).0)];
-array-read-l : tie.Need-array-read-l Inv-loop μ-loop
-array-read-l c =
-    let ·pre = c .before .before .before .before .before .before .before .before .before .before .before .before .before
-    .before .before .pre in let ·levels = c .before .before .before .before .before .before .levels in
-    let ·loop = c .before .before .before .loop in let ·count = c .before .before .before .before .count in
-    let ·loop-test = c .before .before .loop-test in
-    cell-in (·pre .joined) _ (·levels .ensures) (·loop .i) (rw (·count .ensures .0) at (·loop-test .taken)) _
-    (c .before .code-at .ensures) _ (c .wide2 .ensures .0)
+    .before .before .pre in let ·count = c .before .before .before .count in
+    let ·levels = c .before .before .before .before .before .before .levels in
+    (·pre .first .sound, (rw (·count .ensures .0) at (c .before .loop-test .taken)), ·levels .ensures)
 
 -- src/single.rt: long = stretched_both(cat, tab, size, one, two, t, long, l, c);
 stretched-both-requires : tie.Need-stretched-both-requires Inv-loop μ-loop
 stretched-both-requires c κs =
     let ·pre = c .before .before .before .before .before .before .before .before .before .before .before .before .before
-    .before .before .pre in
-    let ·last-of = c .before .before .before .before .before .before .before .before .before .last-of in
+    .before .before .before .pre in
+    let ·last-of = c .before .before .before .before .before .before .before .before .before .before .last-of in
     let ·count = c .before .before .before .before .count in let ·loop-test = c .before .before .loop-test in
-    let ·levels = c .before .before .before .before .before .before .levels in
     let ·loop = c .before .before .before .loop in (
       ·pre,
       last-both (·pre) _ (·last-of .ensures),
-      rw (·count .ensures .0) at (·loop-test .taken),
-      cell-level
-          (·pre .joined) _ (·levels .ensures) (·loop .i) (rw (·count .ensures .0) at (·loop-test .taken)) _
-          (c .before .code-at .ensures) _ (c .wide2 .ensures .0),
-      carried-cell
-          (given-good (·pre .joined) _ (last-both (·pre) _ (·last-of .ensures))) (·loop .i) (·loop .long)
-          (rw (·count .ensures .0) at (·loop-test .taken)) (·loop .inv .1),
+      (rw (·count .ensures .0) at (·loop-test .taken)),
+      c .level-at .ensures,
+      carried-cell (given-good (·pre .joined) _ (last-both (·pre) _ (·last-of .ensures))) (·loop .i)
+          (·loop .long) (rw (·count .ensures .0) at (·loop-test .taken)) (·loop .inv .1),
     )
 
 -- src/single.rt: hits = show_met(l == last && long == last, c, hits, out);
 show-met-requires : tie.Need-show-met-requires Inv-loop μ-loop
 show-met-requires c κs =
     let ·pre = c .before .before .before .before .before .before .before .before .before .before .before .before .before
-    .before .before .before .before .before .pre in
+    .before .before .before .before .before .before .pre in
     let ·loop = c .before .before .before .before .before .before .loop in
     let ·count = c .before .before .before .before .before .before .before .count in
     let ·loop-test = c .before .before .before .before .before .loop-test in
@@ -121,26 +102,21 @@ loop-less c = omega arith
 loop-again : tie.Need-loop-again Inv-loop μ-loop
 loop-again c =
     let ·pre = c .before .before .before .before .before .before .before .before .before .before .before .before .before
-    .before .before .before .before .before .before .before .before .pre in
+    .before .before .before .before .before .before .before .before .before .pre in
     let ·loop = c .before .before .before .before .before .before .before .before .before .loop in
     let ·last-of = c .before .before .before .before .before .before .before .before .before .before .before .before
-    .before .before .before .last-of in
+    .before .before .before .before .last-of in
     let ·count = c .before .before .before .before .before .before .before .before .before .before .count in
     let ·loop-test = c .before .before .before .before .before .before .before .before .loop-test in
-    let ·levels = c .before .before .before .before .before .before .before .before .before .before .before .before
-    .levels in let ·code-at = c .before .before .before .before .before .before .before .code-at in
-    let ·wide2 = c .before .before .before .before .before .before .wide2 in
+    let ·level-at = c .before .before .before .before .before .before .level-at in
     let ·stretched-both = c .before .before .before .before .before .stretched-both in
-    let ·wide = c .before .before .before .before .before .before .before .before .before .before .before .wide in
-    let ·if1 = c .before .before .before .before .if1 in let ·show-met = c .before .before .show-met in (
+    let ·level-by = c .before .before .before .before .before .before .before .before .before .before .before .level-by
+    in let ·if1 = c .before .before .before .before .if1 in let ·show-met = c .before .before .show-met in (
       passed-next (·pre .joined) (·loop .inv .0) _
           (met-stretch (·pre .joined) _ (last-both (·pre) _ (·last-of .ensures)) (·loop .i)
-          (rw (·count .ensures .0) at (·loop-test .taken)) _ _ _
-          (cell-level (·pre .joined) _ (·levels .ensures) (·loop .i) (rw (·count .ensures .0) at (·loop-test .taken)) _
-          (·code-at .ensures) _ (·wide2 .ensures .0)) (·stretched-both .ensures)
-          (last-level (·pre .joined) _ (·levels .ensures) _ (last-both (·pre) _ (·last-of .ensures)) _ (·wide .ensures .0)) _
-          (⊎-elim (λ w. inl (w .0 .taken, w .1)) (λ w. inr (w .0 .left, w .1)) (·if1 .came))) _ _ (·show-met .ensures .0)
-          (·show-met .ensures .1) (rw (·count .ensures .0) at (·loop-test .taken)),
+          (rw (·count .ensures .0) at (·loop-test .taken)) _ _ _ (·level-at .ensures) (·stretched-both .ensures)
+          (·level-by .ensures) _ (⊎-elim (λ w. inl (w .0 .taken, w .1)) (λ w. inr (w .0 .left, w .1)) (·if1 .came))) _ _
+          (·show-met .ensures .0) (·show-met .ensures .1) (rw (·count .ensures .0) at (·loop-test .taken)),
       before-next
           (given-good (·pre .joined) _ (last-both (·pre) _ (·last-of .ensures))) (·loop .i) _ (·stretched-both .ensures),
     )
@@ -152,7 +128,8 @@ same-length c = c .before .loop .inv .0 .room
 -- src/single.rt: pub(crate) fn joined_sound(
 returns : tie.Need-returns Inv-loop μ-loop
 returns c = passed-all (c .before .before .before .before .before .before .before .before .before .before .before
-    .before .before .pre .joined) (c .before .loop .inv .0) (omega (arith, c .before .before .count .ensures .0))
+    .before .before .before .pre .joined) (c .before .loop .inv .0)
+    (omega (arith, c .before .before .count .ensures .0))
 
 pub joined-sound-spec : {M : Type 1} → statement M
 joined-sound-spec =
@@ -162,13 +139,10 @@ joined-sound-spec =
     μ-loop
     last-of-requires
     levels-requires
-    wide-requires
-    array-read-last
+    level-by-requires
     count-requires
     loop-holds
-    code-at-requires
-    wide-requires-2
-    array-read-l
+    level-at-requires
     stretched-both-requires
     show-met-requires
     add-i
