@@ -136,10 +136,11 @@ pub fn lists(blocks: &Blocks) -> Vec<Vec<u8>> {
     lists
 }
 
-/// The root's type above and the lowest one's below; every whole path cut behind its first, its middle and its last but
-/// one argument; and two that are no list together.
+/// The root's type above and its first child's below, then the lowest one's; every whole path cut behind its first, its
+/// middle and its last but one argument; and two that are no list together.
 pub fn pairs(blocks: &Blocks) -> Vec<Pair> {
     let mut pairs = vec![
+        Pair::roots(),
         Pair {
             one: vec![blocks.lowest, 0],
             two: vec![1, 0],
