@@ -3,4 +3,13 @@ pub mod Rest
 pub mod Walk
 pub mod Above
 pub mod Sound
+pub mod Short
+pub mod Cut
+pub mod Every
+pub mod Placed
+pub mod Once
+pub mod Rows
+pub mod Sole
+pub mod Last
+pub mod Entries
 pub mod Complete

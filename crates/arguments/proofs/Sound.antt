@@ -20,9 +20,7 @@ use Rattle.forest.specs.Numbers.{isIn}
 use Rattle.rules.specs.Block.{Bytes, byte, every}
 use Rattle.rules.specs.Catalogue.{lineage, isType, goodCatalogue}
 use Rattle.rules.specs.Arguments.{ListRead, listRead, lastArgument}
-use Rattle.arguments.specs.declared.Wanted.{Wanted}
-use Rattle.arguments.specs.declared.Wanted.the-variants.{Implied, Named}
-use Rattle.arguments.specs.Sound.{SoundList, GoodTest, GoodQualification, rest, nextAt, wantedOf, Downward}
+use Rattle.arguments.specs.Sound.{Wanted, Implied, Named, SoundList, GoodTest, GoodQualification, rest, nextAt, wantedOf, Downward}
 use Rattle.arguments.proofs.Rest.{ended, rest-whole, rest-end, step, step-rest, step-fault}
 use Rattle.arguments.proofs.Walk.{wanted-here, wanted-next}
 use Rattle.arguments.proofs.Above.{type-last, next-type, next-beneath, above-own, above-beneath, above-above, beneath-below}

@@ -1,19 +1,20 @@
--- A sound list walked from the left: what is wanted of a type, and the last argument. Assumes nothing.
+-- A sound list walked from the left: the arguments that are left, and the last one. Assumes nothing.
 use mathlib.Core.Path.{_≡_, refl, ap, sym, _∙_}
+use mathlib.Core.Bool.{true}
 use mathlib.Core.List.{List, [], _∷_}
 use Prim.Native.Nat.{ℕ, _+_, _<_, _≤_}
 use lib.ListN.{length}
 use borrow.Author.Tests.{eq-eqb, ne-eqb}
 use Rattle.terms.specs.declared.TypeCode.{TypeCode}
 use Rattle.terms.specs.declared.Argument.{Argument}
-use Rattle.terms.specs.declared.Qualification.{Qualification}
 use Rattle.terms.specs.declared.Qualification.the-variants.{None}
 use Rattle.terms.specs.declared.Status.the-variants.{Blank}
 use Rattle.terms.specs.Names.{code}
 use Rattle.rules.specs.Block.{Bytes, byte}
+use Rattle.rules.specs.Catalogue.{isType}
 use Rattle.rules.specs.Arguments.{ListRead, listRead, lastArgument}
-use Rattle.arguments.specs.declared.Wanted.the-variants.{Implied, Named}
-use Rattle.arguments.specs.Sound.{SoundList, rest, qualificationAt, nextAt, untested, Room, wantedOf}
+use Rattle.arguments.specs.Sound.{Named, SoundList, rest, nextAt, untested, Room, wantedOf}
+use Rattle.arguments.proofs.Above.{next-type}
 use Rattle.arguments.proofs.Rest.{rest-whole, rest-end, step, step-rest, step-fault}
 
 pub wanted-here : (a : Argument) (ar : List Argument) (t : TypeCode) → a .code .0 ≡ t .0 → wantedOf (a ∷ ar) t ≡ Named (a .qualification)
@@ -24,44 +25,44 @@ pub wanted-next : (a : Argument) (ar : List Argument) (t : TypeCode) → (a .cod
 unfolding wantedOf
 wanted-next a ar t n = rw (wantedOf, ne-eqb (a .code .0) (t .0) n)
 
--- the walk has come to byte `at`, behind an argument of type `before`, and has not met t
-pub record Sought (cat list : Bytes) (t : TypeCode) (at : ℕ) : Type 0 where
+-- the walk has come to byte `at`, behind an argument of type `before`
+pub record Walked (cat list : Bytes) (at : ℕ) : Type 0 where
   pub before : TypeCode
   pub sound : rest cat list before at .fault ≡ Blank
-  pub same : wantedOf (rest cat list before at .arguments) t ≡ wantedOf (listRead cat list .arguments) t
 
-module _ (cat list : Bytes) (t : TypeCode) where
-  pub sought-start : SoundList cat list → Sought cat list t 0
-  sought-start s = record {
-    before = code 0;
-    sound = ap (λ (l : ListRead). l .fault) (rest-whole cat list) ∙ s .read;
-    same = ap (λ (l : ListRead). wantedOf (l .arguments) t) (rest-whole cat list);
-  }
+-- the arguments that it has before it
+abbrev pub left : {cat list : Bytes} {at : ℕ} → Walked cat list at → List Argument
+left {cat} {list} {at} w = rest cat list (w .before) at .arguments
+
+module _ (cat list : Bytes) where
+  pub walked-start : SoundList cat list → Walked cat list 0
+  walked-start s = record { before = code 0; sound = ap (λ (l : ListRead). l .fault) (rest-whole cat list) ∙ s .read }
+
+  pub left-start : (s : SoundList cat list) → left (walked-start s) ≡ listRead cat list .arguments
+  unfolding walked-start
+  left-start s = ap (λ (l : ListRead). l .arguments) (rest-whole cat list)
 
   module _ (at : ℕ) where
-    pub sought-end : length list ≤ at → Sought cat list t at → Implied ≡ wantedOf (listRead cat list .arguments) t
-    unfolding wantedOf
-    sought-end h w = sym (ap (λ (l : ListRead). wantedOf (l .arguments) t) (rest-end cat list (w .before) at h)) ∙ w .same
+    pub left-end : length list ≤ at → (w : Walked cat list at) → left w ≡ []
+    left-end h w = ap (λ (l : ListRead). l .arguments) (rest-end cat list (w .before) at h)
 
-    module _ (h : at < length list) (w : Sought cat list t at) where
-      taken : wantedOf (untested cat list at ∷ rest cat list (code (byte list at)) (nextAt cat list at) .arguments) t ≡ wantedOf (listRead cat list .arguments) t
-      taken = sym (ap (λ (l : ListRead). wantedOf (l .arguments) t) (step-rest cat list (w .before) at h (w .sound))) ∙ w .same
+    module _ (h : at < length list) (w : Walked cat list at) where
+      pub walked-room : Room list at
+      walked-room = step cat list (w .before) at h (w .sound) .room
 
-      pub sought-room : Room list at
-      sought-room = step cat list (w .before) at h (w .sound) .room
+      pub walked-onward : at + 2 ≤ nextAt cat list at
+      walked-onward = step cat list (w .before) at h (w .sound) .onward
 
-      pub sought-onward : at + 2 ≤ nextAt cat list at
-      sought-onward = step cat list (w .before) at h (w .sound) .onward
+      -- the type there is one of the catalogue's
+      pub walked-type : isType cat (code (byte list at)) ≡ true
+      walked-type = next-type cat list (w .before) (code (byte list at)) (step cat list (w .before) at h (w .sound) .type)
 
-      pub sought-here : {q : Qualification} → byte list at ≡ t .0 → q ≡ qualificationAt list at → Named q ≡ wantedOf (listRead cat list .arguments) t
-      sought-here e f = ap Named f ∙ sym (wanted-here (untested cat list at) (rest cat list (code (byte list at)) (nextAt cat list at) .arguments) t e) ∙ taken
+      pub walked-next : Walked cat list (nextAt cat list at)
+      walked-next = record { before = code (byte list at); sound = step-fault cat list (w .before) at h (w .sound) }
 
-      pub sought-next : {n : ℕ} → (byte list at ≡ t .0 → ⊥) → n ≡ nextAt cat list at → Sought cat list t n
-      sought-next d e = rw e (record {
-        before = code (byte list at);
-        sound = step-fault cat list (w .before) at h (w .sound);
-        same = sym (wanted-next (untested cat list at) (rest cat list (code (byte list at)) (nextAt cat list at) .arguments) t d) ∙ taken;
-      })
+      pub left-next : left w ≡ untested cat list at ∷ left walked-next
+      unfolding walked-next
+      left-next = ap (λ (l : ListRead). l .arguments) (step-rest cat list (w .before) at h (w .sound))
 
 -- the last of these arguments; a, where there is none
 abbrev pub lastOr : Argument → List Argument → Argument

@@ -1,1 +1,3 @@
 pub mod Sound
+pub mod Asked
+pub mod Alone

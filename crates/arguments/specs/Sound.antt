@@ -20,8 +20,6 @@ use Rattle.terms.specs.Names.{code, field, sameType}
 use Rattle.rules.specs.Block.{Bytes, byte}
 use Rattle.rules.specs.Catalogue.{fields, fieldType, fieldLength, goodCatalogue}
 use Rattle.rules.specs.Arguments.{ListRead, Asked, implied, operatorOf, goodNext, argumentsFrom, listRead, meant}
-use Rattle.arguments.specs.declared.Wanted.{Wanted}
-use Rattle.arguments.specs.declared.Wanted.the-variants.{Implied, Named}
 
 -- what a call has of its catalogue and its list once neither is refused
 pub record SoundList (cat list : Bytes) : Type 0 where
@@ -62,6 +60,11 @@ untested cat list at = record { code = code (byte list at); qualification = qual
 pub record Room (list : Bytes) (at : ℕ) : Type 0 where
   pub operator : at + 1 < length list
   pub number : (byte list (at + 1) ≡ 0 → ⊥) → at + 2 < length list
+
+-- what a list asks of a type: nothing, for it does not name it, or what it names it with
+pub data Wanted : Type 0 where
+  Implied : Wanted
+  Named : Qualification → Wanted
 
 -- the first argument for a type: what the list asks of it
 unfoldable pub wantedOf : List Argument → TypeCode → Wanted

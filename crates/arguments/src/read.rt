@@ -18,7 +18,7 @@ ghost use Rattle.rules.specs.Arguments.{operatorOf, goodNext, isFieldOf, argume
 ghost use Rattle.arguments.specs.Sound.{Room, untested, rest, statusOf};
 
 // "1 =, 2 ≠, 3 <, 4 ≤, 5 >, 6 ≥". A list with another has answered AJ before this is asked.
-fn operator_of(b: u8) -> Operator
+pub fn operator_of(b: u8) -> Operator
     ensures { λ r. ⌜ r ≡ operatorOf b ⌝ }
 {
     match b {

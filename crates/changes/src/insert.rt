@@ -71,7 +71,7 @@ fn found_parent(
     if t.0 == 1 {
         return Parented::Among(0, count(tab), false);
     }
-    let Found::At(p) = along(cat, tab, size, list, parent(cat, t), place) else {
+    let Found::At(p) = along(cat, tab, size, list, &list[..0], parent(cat, t), place) else {
         return Parented::Nowhere;
     };
     let end = run_end(cat, tab, size, p).0;

@@ -1,4 +1,4 @@
-// The nine calls: `call` takes anything, `call_sound` what a check has accepted and only calls have changed since, `called_get` and `called_change`
+// The nine calls: `call` takes anything, `call_sound` what a check has accepted and only calls have changed since, `called_get_sound` and `called_change_sound`
 // what no refusal stops. The gets stand apart from the changes, so that the frame of one is not held by the other.
 
 use blocks::wide;
@@ -27,13 +27,13 @@ fn get(
 {
     match form {
         1 => gets::get_unique(cat, tab, size, pos, list, area, hold),
-        2 => gets::get_next(cat, tab, size, pos, list, area, hold),
-        _ => gets::get_next_within(cat, tab, size, pos, list, area, hold),
+        2 => gets::get_next(cat, tab, size, pos, list, &list[..0], area, hold),
+        _ => gets::get_next_within(cat, tab, size, pos, list, &list[..0], area, hold),
     }
 }
 
 // The get of this number alone: its refusals have been looked at, by whomever and in whatever order, and none holds.
-pub fn called_get(
+pub fn called_get_sound(
     cat: &[u8],
     tab: &[u8],
     size: usize,
@@ -53,7 +53,7 @@ pub fn called_get(
 }
 
 // ISRT, REPL or DLET alone, as the gets above.
-pub fn called_change(
+pub fn called_change_sound(
     cat: &[u8],
     tab: &mut [u8],
     size: usize,
@@ -91,7 +91,7 @@ pub fn get_sound(
     if terms::statuses::number(s) != 0 {
         return answers::stopped(s, pos);
     }
-    called_get(cat, tab, size, pos, number, list, area)
+    called_get_sound(cat, tab, size, pos, number, list, area)
 }
 
 // The calls from 7 on: the changes, and what is refused above 9. The area is only read.
@@ -112,7 +112,7 @@ pub fn change_sound(
     if terms::statuses::number(refusal) != 0 {
         return answers::stopped(refusal, pos);
     }
-    called_change(cat, tab, size, pos, number, list, area)
+    called_change_sound(cat, tab, size, pos, number, list, area)
 }
 
 // The call of this number, on blocks and a position that are sound: nothing of them is tested again.

@@ -126,6 +126,13 @@ module _ {cat tab : Bytes} {size : ℕ} {pos : Position} {list : Bytes} (r : Rea
   miss-empty : length list ≡ 0 → GB ≡ missStatus ls
   miss-empty e = sym (ap missStatus (levels-none e))
 
+  -- an empty list has no levels
+  pub next-empty : (area : Bytes) (hold : Bool) → length list ≡ 0 → getNext cat cs pos area hold [] ≡ getNext cat cs pos area hold ls
+  next-empty area hold e = ap (getNext cat cs pos area hold) (sym (levels-none e))
+
+  pub within-empty : (area : Bytes) (hold : Bool) → length list ≡ 0 → getNextWithin cat cs pos area hold [] ≡ getNextWithin cat cs pos area hold ls
+  within-empty area hold e = ap (getNextWithin cat cs pos area hold) (sym (levels-none e))
+
   pub miss-named : (length list ≡ 0 → ⊥) → GE ≡ missStatus ls
   miss-named n = sym (miss-filled ls (levels-some n))
 
@@ -248,44 +255,56 @@ module _ {cat tab : Bytes} {size : ℕ} {pos : Position} {list : Bytes} (r : Rea
       within-missed p x n f = rw (x, ← n, first-is ∙ f)
 
 -- with an empty list the cell after the place is the match
-module _ {cat tab : Bytes} {size : ℕ} {pos : Position} {list : Bytes} (r : Ready cat tab size pos list) (area : Bytes) (hold : Bool) (none : length list ≡ 0) (i : ℕ) (at : i ≡ afterPlace (pos .place)) (n : ℕ) (to : n ≡ count tab) where
+module _ {cat tab : Bytes} {size : ℕ} {pos : Position} (r : Ready cat tab size pos []) (area : Bytes) (hold : Bool)
+    (i : ℕ) (at : i ≡ afterPlace (pos .place)) (n : ℕ) (to : n ≡ count tab) where
   abbrev lastCode : TypeCode
-  lastCode = lastArgument (listRead cat list .arguments) .code
+  lastCode = lastArgument (listRead cat [] .arguments) .code
 
   no-code : lastCode .0 ≡ 0
-  no-code = ap (λ (l : ListRead). lastArgument (l .arguments) .code .0) (list-empty cat list none)
+  no-code = ap (λ (l : ListRead). lastArgument (l .arguments) .code .0) (list-empty cat [] refl)
 
   to-end : n ≡ length (listing cat tab)
   to-end = to ∙ sym (listing-length cat tab)
 
-  pub cell-found : (s : Status) → i < n → s ≡ levelStatus cat (listing cat tab) (getLevels cat list (listRead cat list .arguments)) (pos .place) i
-      → gotAt cat (listing cat tab) s (Of (cell i)) hold i area ≡ getNext cat (listing cat tab) pos area hold (getLevels cat list (listRead cat list .arguments))
+  pub cell-found : (s : Status) → i < n → s ≡ levelStatus cat (listing cat tab) [] (pos .place) i
+      → gotAt cat (listing cat tab) s (Of (cell i)) hold i area ≡ getNext cat (listing cat tab) pos area hold []
   cell-found s l e =
-      next-found r area hold lastCode (At (cell i)) refl i at n (all-match (search-good r lastCode refl) i n no-code l) (cell i) s to-end refl e
+      next-found r area hold lastCode (At (cell i)) refl i at n (all-match (search-good r lastCode refl) i n no-code l) (cell i) s to-end refl
+      (e ∙ status-none r i refl) ∙ sym (next-empty r area hold refl)
 
-  pub cell-missed : n ≤ i → left (bare GB (afterMiss GB pos)) area ≡ getNext cat (listing cat tab) pos area hold (getLevels cat list (listRead cat list .arguments))
+  pub cell-missed : n ≤ i → left (bare GB (afterMiss GB pos)) area ≡ getNext cat (listing cat tab) pos area hold []
   cell-missed l =
-      next-missed r area hold lastCode Nothing refl i at n (first-none cat (listing cat tab) (complete cat list (listRead cat list .arguments) lastCode) i n l) GB to-end refl (miss-empty r none)
+      next-missed r area hold lastCode Nothing refl i at n
+      (first-none cat (listing cat tab) (complete cat [] (listRead cat [] .arguments) lastCode) i n l) GB to-end refl (miss-empty r refl)
+      ∙ sym (next-empty r area hold refl)
 
 pub cell-in-run : (cat tab : Bytes) (p i : ℕ) → p < count tab → ltb i (endAt cat (listing cat tab) p) ≡ true → i < count tab
 cell-in-run cat tab p i k e = omega (arith, ltb-true i (endAt cat (listing cat tab) p) e, end-within cat (listing cat tab) p (omega (arith, listing-length cat tab)), listing-length cat tab)
 
 -- GNP with an empty list: the cell after the place is the match, if it lies in the parentage's run
-module _ {cat tab : Bytes} {size : ℕ} {pos : Position} {list : Bytes} (r : Ready cat tab size pos list) (area : Bytes) (hold : Bool) (none : length list ≡ 0) (i : ℕ) (at : i ≡ afterPlace (pos .place)) (p : CellNumber) (x : pos .parentage ≡ Of p) (b : Bool) (w : b ≡ ltb i (endAt cat (listing cat tab) (p .0))) where
+module _ {cat tab : Bytes} {size : ℕ} {pos : Position} (r : Ready cat tab size pos []) (area : Bytes) (hold : Bool)
+    (i : ℕ) (at : i ≡ afterPlace (pos .place)) (p : CellNumber) (x : pos .parentage ≡ Of p) (b : Bool) (w : b ≡ ltb i (endAt cat (listing cat tab) (p .0))) where
   abbrev noType : TypeCode
-  noType = lastArgument (listRead cat list .arguments) .code
+  noType = lastArgument (listRead cat [] .arguments) .code
 
   no-type : noType .0 ≡ 0
-  no-type = ap (λ (l : ListRead). lastArgument (l .arguments) .code .0) (list-empty cat list none)
+  no-type = ap (λ (l : ListRead). lastArgument (l .arguments) .code .0) (list-empty cat [] refl)
 
-  pub cell-within : (s : Status) → b ≡ true → s ≡ levelStatus cat (listing cat tab) (getLevels cat list (listRead cat list .arguments)) (pos .place) i
-      → gotAt cat (listing cat tab) s (Of p) hold i area ≡ getNextWithin cat (listing cat tab) pos area hold (getLevels cat list (listRead cat list .arguments))
+  abbrev end : ℕ
+  end = endAt cat (listing cat tab) (p .0)
+
+  pub cell-within : (s : Status) → b ≡ true → s ≡ levelStatus cat (listing cat tab) [] (pos .place) i
+      → gotAt cat (listing cat tab) s (Of p) hold i area ≡ getNextWithin cat (listing cat tab) pos area hold []
   cell-within s l e =
-      within-found r area hold noType (At (cell i)) refl i at (endAt cat (listing cat tab) (p .0)) (all-match (search-good r noType refl) i (endAt cat (listing cat tab) (p .0)) no-type (ltb-true i (endAt cat (listing cat tab) (p .0)) (sym w ∙ l))) p (cell i) s x refl refl e
+      within-found r area hold noType (At (cell i)) refl i at end
+      (all-match (search-good r noType refl) i end no-type (ltb-true i end (sym w ∙ l))) p (cell i) s x refl refl
+      (e ∙ status-none r i refl) ∙ sym (within-empty r area hold refl)
 
-  pub cell-outside : b ≡ false → left (bare GE (afterMiss GE pos)) area ≡ getNextWithin cat (listing cat tab) pos area hold (getLevels cat list (listRead cat list .arguments))
+  pub cell-outside : b ≡ false → left (bare GE (afterMiss GE pos)) area ≡ getNextWithin cat (listing cat tab) pos area hold []
   cell-outside l =
-      within-missed r area hold noType Nothing refl i at (endAt cat (listing cat tab) (p .0)) (first-none cat (listing cat tab) (complete cat list (listRead cat list .arguments) noType) i (endAt cat (listing cat tab) (p .0)) (ltb-false i (endAt cat (listing cat tab) (p .0)) (sym w ∙ l))) p x refl refl
+      within-missed r area hold noType Nothing refl i at end
+      (first-none cat (listing cat tab) (complete cat [] (listRead cat [] .arguments) noType) i end (ltb-false i end (sym w ∙ l))) p x refl refl
+      ∙ sym (within-empty r area hold refl)
 
 pub absent-not : (pos : Position) → pos .parentage ≡ Absent → isAbsent (pos .parentage) ≡ false → ⊥
 absent-not pos e h = let z : true ≡ false = rw e at h in let y : _≡_ {A = ℕ} 1 0 = ap (λ (b : Bool). pick b 1 0) z in omega arith

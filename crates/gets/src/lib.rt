@@ -1,7 +1,9 @@
 // The gets: what is found, the status of it, and the position on it.
 use answers::missed;
 use answers::told;
+use arguments::lookup::are_empty;
 use arguments::lookup::last_of;
+use arguments::lookup::last_type;
 use blocks::moves::put;
 use blocks::wide;
 use catalogue::entries::data_length;
@@ -24,7 +26,7 @@ use terms::Position;
 use terms::Status;
 ghost use mathlib.Core.Path.{_≡_};
 ghost use mathlib.Core.Bool.{false};
-ghost use mathlib.Core.List.{[]};
+ghost use mathlib.Core.List.{[], _++_};
 ghost use Prim.Native.Nat.{suc, _<_, _≤_};
 ghost use lib.ListN.{length};
 ghost use Rattle.terms.specs.declared.Parentage.the-variants.{Of};
@@ -33,6 +35,7 @@ ghost use Rattle.rules.specs.Table.{count, listing};
 ghost use Rattle.rules.specs.Arguments.{listRead, getLevels};
 ghost use Rattle.rules.specs.Calls.{levelStatus, getUnique, getNext, getNextWithin};
 ghost use Rattle.cells.specs.Sound.{Sound};
+ghost use Rattle.arguments.specs.Asked.{Pair};
 ghost use Rattle.answers.specs.Ready.{Ready, gotAt, left};
 
 // "A get moves onto it and writes its L bytes to the front of the area".
@@ -120,7 +123,7 @@ pub fn get_unique(
 {
     let place = pos.place;
     let t = last_of(cat, list).code;
-    let Found::At(c) = along(cat, tab, size, list, t, place) else {
+    let Found::At(c) = along(cat, tab, size, list, &list[..0], t, place) else {
         return missed(Status::GE, pos);
     };
     got(
@@ -138,19 +141,17 @@ pub fn get_unique(
 
 // GN with an empty list, which matches every cell: there is nothing to search. GB: "GN or GHN, empty list, no cell left". It is the call that a
 // reading of the whole table makes.
-fn get_next_cell(
+pub fn get_next_cell(
     cat: &[u8],
     tab: &[u8],
     size: usize,
     pos: Position,
-    list: &[u8],
     area: &mut [u8],
     hold: bool,
 ) -> Answer
-    requires { ⌜ Ready (now cat) (now tab) size pos (now list) × (size ≤ suc (length (now area))) × (length (now list) ≡ 0) ⌝ }
+    requires { ⌜ Ready (now cat) (now tab) size pos [] × (size ≤ suc (length (now area))) ⌝ }
     ensures { λ r. ⌜ left r (now (area .exit))
-        ≡ getNext (now (cat .entry)) (listing (now (cat .entry)) (now (tab .entry))) pos (now (area .entry)) hold
-        (getLevels (now (cat .entry)) (now (list .entry)) (listRead (now (cat .entry)) (now (list .entry)) .arguments)) ⌝ }
+        ≡ getNext (now (cat .entry)) (listing (now (cat .entry)) (now (tab .entry))) pos (now (area .entry)) hold [] ⌝ }
 {
     let place = pos.place;
     let i = after_place(place);
@@ -168,22 +169,25 @@ pub fn get_next(
     tab: &[u8],
     size: usize,
     pos: Position,
-    list: &[u8],
+    one: &[u8],
+    two: &[u8],
     area: &mut [u8],
     hold: bool,
 ) -> Answer
-    requires { ⌜ Ready (now cat) (now tab) size pos (now list) × (size ≤ suc (length (now area))) ⌝ }
+    requires { ⌜ Ready (now cat) (now tab) size pos (now one ++ now two) × Pair (now cat) (now one) (now two)
+        × (size ≤ suc (length (now area))) ⌝ }
     ensures { λ r. ⌜ left r (now (area .exit))
         ≡ getNext (now (cat .entry)) (listing (now (cat .entry)) (now (tab .entry))) pos (now (area .entry)) hold
-        (getLevels (now (cat .entry)) (now (list .entry)) (listRead (now (cat .entry)) (now (list .entry)) .arguments)) ⌝ }
+        (getLevels (now (cat .entry)) (now (one .entry) ++ now (two .entry))
+        (listRead (now (cat .entry)) (now (one .entry) ++ now (two .entry)) .arguments)) ⌝ }
 {
-    if list.len() == 0 {
-        return get_next_cell(cat, tab, size, pos, list, area, hold);
+    if are_empty(one, two) {
+        return get_next_cell(cat, tab, size, pos, area, hold);
     }
     let place = pos.place;
-    let t = last_of(cat, list).code;
+    let t = last_type(cat, one, two);
     let from = after_place(place);
-    let Found::At(c) = first_match(cat, tab, size, list, t, from, count(tab)) else {
+    let Found::At(c) = first_match(cat, tab, size, one, two, t, from, count(tab)) else {
         return missed(Status::GE, pos);
     };
     let s = Status::Blank;
@@ -196,15 +200,13 @@ fn get_next_cell_within(
     tab: &[u8],
     size: usize,
     pos: Position,
-    list: &[u8],
     area: &mut [u8],
     hold: bool,
     p: CellNumber,
 ) -> Answer
-    requires { ⌜ Ready (now cat) (now tab) size pos (now list) × (size ≤ suc (length (now area))) × (length (now list) ≡ 0) × (pos .parentage ≡ Of p) ⌝ }
+    requires { ⌜ Ready (now cat) (now tab) size pos [] × (size ≤ suc (length (now area))) × (pos .parentage ≡ Of p) ⌝ }
     ensures { λ r. ⌜ left r (now (area .exit))
-        ≡ getNextWithin (now (cat .entry)) (listing (now (cat .entry)) (now (tab .entry))) pos (now (area .entry)) hold
-        (getLevels (now (cat .entry)) (now (list .entry)) (listRead (now (cat .entry)) (now (list .entry)) .arguments)) ⌝ }
+        ≡ getNextWithin (now (cat .entry)) (listing (now (cat .entry)) (now (tab .entry))) pos (now (area .entry)) hold [] ⌝ }
 {
     let place = pos.place;
     let i = after_place(place);
@@ -222,26 +224,29 @@ pub fn get_next_within(
     tab: &[u8],
     size: usize,
     pos: Position,
-    list: &[u8],
+    one: &[u8],
+    two: &[u8],
     area: &mut [u8],
     hold: bool,
 ) -> Answer
-    requires { ⌜ Ready (now cat) (now tab) size pos (now list) × (size ≤ suc (length (now area))) × (isAbsent (pos .parentage) ≡ false) ⌝ }
+    requires { ⌜ Ready (now cat) (now tab) size pos (now one ++ now two) × Pair (now cat) (now one) (now two)
+        × (size ≤ suc (length (now area))) × (isAbsent (pos .parentage) ≡ false) ⌝ }
     ensures { λ r. ⌜ left r (now (area .exit))
         ≡ getNextWithin (now (cat .entry)) (listing (now (cat .entry)) (now (tab .entry))) pos (now (area .entry)) hold
-        (getLevels (now (cat .entry)) (now (list .entry)) (listRead (now (cat .entry)) (now (list .entry)) .arguments)) ⌝ }
+        (getLevels (now (cat .entry)) (now (one .entry) ++ now (two .entry))
+        (listRead (now (cat .entry)) (now (one .entry) ++ now (two .entry)) .arguments)) ⌝ }
 {
     let place = pos.place;
     let parentage = pos.parentage;
     let Parentage::Of(p) = parentage else {
         return missed(Status::GP, pos);
     };
-    if list.len() == 0 {
-        return get_next_cell_within(cat, tab, size, pos, list, area, hold, p);
+    if are_empty(one, two) {
+        return get_next_cell_within(cat, tab, size, pos, area, hold, p);
     }
-    let t = last_of(cat, list).code;
+    let t = last_type(cat, one, two);
     let from = after_place(place);
-    let Found::At(c) = first_beneath(cat, tab, size, list, t, p, from) else {
+    let Found::At(c) = first_beneath(cat, tab, size, one, two, t, p, from) else {
         return missed(Status::GE, pos);
     };
     let s = Status::Blank;

@@ -75,7 +75,7 @@ pub fn next_line(cat: &[u8], tab: &[u8], pos: Position, out: &mut [u8]) -> Line
     ensures { λ r. ⌜ Listed (now (cat .entry)) (now (tab .entry)) pos (now (out .entry)) r (now (out .exit)) ⌝ }
 {
     let mut area = [0u8; 120];
-    let a = read_next(cat, tab, &cat[..0], pos, &mut area);
+    let a = read_next(cat, tab, &cat[..0], &cat[..0], pos, &mut area);
     let s = a.status;
     let after = a.position;
     if 10 <= number(s) {

@@ -1,10 +1,10 @@
 // The refusals that look only at what is lent, in the order of document 01.
+use arguments::lookup::is_qualified;
 use arguments::lookup::last_of;
 use arguments::read::fault;
 use cells::lookup::cell_size;
 use terms::Parentage;
 use terms::Position;
-use terms::Qualification;
 use terms::Status;
 ghost use mathlib.Core.Path.{_≡_};
 ghost use mathlib.Core.Bool.{true};
@@ -39,15 +39,6 @@ fn is_absent(p: Parentage) -> bool
     match p {
         Parentage::Absent => true,
         Parentage::Of(_) => false,
-    }
-}
-
-fn is_qualified(q: Qualification) -> bool
-    ensures { λ r. ⌜ r ≡ isQualified q ⌝ }
-{
-    match q {
-        Qualification::None => false,
-        Qualification::Test(_, _, _) => true,
     }
 }
 

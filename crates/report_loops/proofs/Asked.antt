@@ -6,26 +6,23 @@ use mathlib.Core.List.{List, [], _∷_, _++_, map}
 use Prim.Native.Nat.{ℕ, _+_, _-_, _<_, _≤_}
 use native.Mathlib.Omega.{arith}
 use lib.Dec.{eqb}
-use lib.ListN.{length, drop, length-drop}
-use lib.Seq.{take-append-le, drop-append-le, drop-append-add}
+use lib.ListN.{length}
 use borrow.Author.Tests.{ne-eqb, eqb-true}
 use Rattle.terms.specs.declared.TypeCode.{TypeCode}
-use Rattle.terms.specs.declared.Qualification.{Qualification}
-use Rattle.terms.specs.declared.Qualification.the-variants.{None, Test}
 use Rattle.terms.specs.declared.Argument.{Argument}
 use Rattle.terms.specs.Names.{code, sameType}
 use Rattle.forest.specs.Forest.{inside, outside, side}
 use Rattle.forest.specs.Good.{on, off, is, isNil, both-right}
 use Rattle.rules.specs.Block.{Bytes, every}
-use Rattle.rules.specs.Catalogue.{fieldLength, isType, typeBeneath, goodCatalogue}
+use Rattle.rules.specs.Catalogue.{isType, typeBeneath, goodCatalogue}
 use Rattle.rules.specs.Cells.{Segment}
 use Rattle.rules.specs.Arguments.{implied, goodNext, meant, askedOf, lastArgument}
 use Rattle.rules.specs.Matching.{satisfies}
 use Rattle.catalogue.proofs.Hierarchy.{beneath-trans}
-use Rattle.arguments.specs.Sound.{GoodQualification, Downward}
+use Rattle.arguments.specs.Sound.{Downward}
 use Rattle.arguments.proofs.Above.{type-first, type-last, next-type, next-beneath, beneath-below}
 use Rattle.report_loops.specs.Plain.{heeds}
-use Rattle.report_loops.proofs.Cut.{movedTest, moved, behind}
+use Rattle.arguments.proofs.Cut.{moved, behind, same-meant, moved-meant}
 
 abbrev pub All : {X : Type 0} → (X → Type 0) → List X → Type 0
 All P [] = Unit {0}
@@ -133,39 +130,27 @@ module _ (cat list : Bytes) (g : goodCatalogue cat ≡ true) (s : Segment) where
     | off e ↦ rw (asked-out cat list (s .code) a ar e, every-cons a ar, e) (asked-heeds (a .code) ar (d .2))
   ]
 
--- a value of the first part, and one of the second, in the whole list
-module _ (cat one two : Bytes) where
-  same-meant : (t : TypeCode) (q : Qualification) → GoodQualification cat one t q → meant cat (one ++ two) q ≡ meant cat one q
-  same-meant t None h = refl
-  same-meant t (Test o f v) h =
-      let w : ℕ = fieldLength cat f in
-      let l : v + w ≤ length one = h .within in
-      rw (drop-append-le v one two (omega arith), take-append-le w (drop v one) two (rw length-drop (omega arith)))
+-- what the arguments of the first part ask in the whole list, and those of the second
+module _ (cat one two : Bytes) (t : TypeCode) where
+  asked-first : (before : TypeCode) (l m : List Argument) → Downward cat one before l → Missing t m → askedOf cat (one ++ two) (l ++ m) t ≡ askedOf cat one l t
+  unfolding askedOf
+  asked-first before [] m d n = asked-none cat (one ++ two) t m n
+  asked-first before (a ∷ l) m d n = elim (is (sameType (a .code) t)) [
+    | on e ↦ asked-in cat (one ++ two) t a (l ++ m) e ∙ same-meant cat one two (a .code) (a .qualification) (d .1) ∙ sym (asked-in cat one t a l e)
+    | off e ↦ asked-out cat (one ++ two) t a (l ++ m) e ∙ asked-first (a .code) l m (d .2) n ∙ sym (asked-out cat one t a l e)
+  ]
 
-  moved-meant : (q : Qualification) → meant cat (one ++ two) (movedTest (length one) q) ≡ meant cat two q
-  moved-meant None = refl
-  moved-meant (Test o f v) = rw (drop-append-add one two v)
+  asked-moved : (m : List Argument) → askedOf cat (one ++ two) (map (moved (length one)) m) t ≡ askedOf cat two m t
+  unfolding askedOf
+  asked-moved [] = refl
+  asked-moved (b ∷ m) = elim (is (sameType (b .code) t)) [
+    | on e ↦ asked-in cat (one ++ two) t (moved (length one) b) (map (moved (length one)) m) e ∙ moved-meant cat one two (b .qualification) ∙ sym (asked-in cat two t b m e)
+    | off e ↦ asked-out cat (one ++ two) t (moved (length one) b) (map (moved (length one)) m) e ∙ asked-moved m ∙ sym (asked-out cat two t b m e)
+  ]
 
-  module _ (t : TypeCode) where
-    asked-first : (before : TypeCode) (l m : List Argument) → Downward cat one before l → Missing t m → askedOf cat (one ++ two) (l ++ m) t ≡ askedOf cat one l t
-    unfolding askedOf
-    asked-first before [] m d n = asked-none cat (one ++ two) t m n
-    asked-first before (a ∷ l) m d n = elim (is (sameType (a .code) t)) [
-      | on e ↦ asked-in cat (one ++ two) t a (l ++ m) e ∙ same-meant (a .code) (a .qualification) (d .1) ∙ sym (asked-in cat one t a l e)
-      | off e ↦ asked-out cat (one ++ two) t a (l ++ m) e ∙ asked-first (a .code) l m (d .2) n ∙ sym (asked-out cat one t a l e)
-    ]
-
-    asked-moved : (m : List Argument) → askedOf cat (one ++ two) (map (moved (length one)) m) t ≡ askedOf cat two m t
-    unfolding askedOf
-    asked-moved [] = refl
-    asked-moved (b ∷ m) = elim (is (sameType (b .code) t)) [
-      | on e ↦ asked-in cat (one ++ two) t (moved (length one) b) (map (moved (length one)) m) e ∙ moved-meant (b .qualification) ∙ sym (asked-in cat two t b m e)
-      | off e ↦ asked-out cat (one ++ two) t (moved (length one) b) (map (moved (length one)) m) e ∙ asked-moved m ∙ sym (asked-out cat two t b m e)
-    ]
-
-    asked-second : (l m : List Argument) → Missing t l → askedOf cat (one ++ two) (l ++ map (moved (length one)) m) t ≡ askedOf cat two m t
-    asked-second [] m n = asked-moved m
-    asked-second (a ∷ l) m n = asked-out cat (one ++ two) t a (l ++ map (moved (length one)) m) (ne-eqb (a .code .0) (t .0) (n .0)) ∙ asked-second l m (n .1)
+  asked-second : (l m : List Argument) → Missing t l → askedOf cat (one ++ two) (l ++ map (moved (length one)) m) t ≡ askedOf cat two m t
+  asked-second [] m n = asked-moved m
+  asked-second (a ∷ l) m n = asked-out cat (one ++ two) t a (l ++ map (moved (length one)) m) (ne-eqb (a .code .0) (t .0) (n .0)) ∙ asked-second l m (n .1)
 
 -- LAW: what the whole list asks of a segment is what both parts ask; l and m are the arguments of the two
 pub record Asks (cat one two : Bytes) (l m : List Argument) : Type 0 where

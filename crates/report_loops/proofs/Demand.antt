@@ -30,7 +30,7 @@ use Rattle.report_loops.specs.Demand3.{single, nested, seenAt, Ascending
 use Rattle.report_loops.proofs.Hits.{hits, hits-same, ascending-range}
 use Rattle.report_loops.proofs.Scan.{after, Done, loop-seeks}
 use Rattle.report_loops.proofs.Nest.{Nests, nested-seeks}
-use Rattle.report_loops.proofs.Cut.{parts}
+use Rattle.arguments.proofs.Cut.{parts}
 use Rattle.report_loops.proofs.Asked.{last-type, asks}
 use Rattle.report_loops.proofs.Matches.{levels-some, matches-meets, get-levels, tests-nest}
 use Rattle.report_loops.proofs.Gets.{Fit, Under, start-fit, good-within, good-listing, gn-seeks, gnp-seeks}

@@ -1,7 +1,6 @@
 pub mod Hits
 pub mod Scan
 pub mod Nest
-pub mod Cut
 pub mod Asked
 pub mod Rows
 pub mod Matches

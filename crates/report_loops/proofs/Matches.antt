@@ -24,7 +24,7 @@ use Rattle.arguments.specs.Sound.{Downward}
 use Rattle.arguments.proofs.Complete.{complete-length}
 use Rattle.cells.proofs.Located.{end-after, end-within}
 use Rattle.report_loops.specs.Plain.{heeds, meets}
-use Rattle.report_loops.proofs.Cut.{moved}
+use Rattle.arguments.proofs.Cut.{moved}
 use Rattle.report_loops.proofs.Asked.{All, last-type, asked-heeds, Asks}
 use Rattle.report_loops.proofs.Rows.{typ, row-types, row-above, row-through}
 use Rattle.report_loops.proofs.Nest.{Nests}

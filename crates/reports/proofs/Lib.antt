@@ -2,7 +2,6 @@ pub mod Given
 pub mod Steps
 pub mod Written
 pub mod OneList
-pub mod Both
 pub mod Tested
 pub mod Pass
 pub mod Outer

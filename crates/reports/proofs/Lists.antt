@@ -22,7 +22,7 @@ use Rattle.rules.specs.Outcome.{checkTable}
 use Rattle.arguments.specs.Sound.{SoundList, rest}
 use Rattle.arguments.proofs.Sound.{list-filled}
 use Rattle.answers.proofs.Statuses.{blank-is}
-use Rattle.report_loops.proofs.Cut.{behind, joined-fault}
+use Rattle.arguments.proofs.Cut.{behind, joined-fault}
 use Rattle.report_loops.proofs.Asked.{last-code}
 use Rattle.reports.specs.Report.{listsFault, reportRefusal}
 

@@ -12,8 +12,10 @@ use Rattle.rules.specs.Table.{listing}
 use Rattle.rules.specs.Position.{goodPosition}
 use Rattle.rules.specs.Calls.{parentEnd}
 use Rattle.catalogue.proofs.Hierarchy.{cell-most}
+use Rattle.report_loops.specs.Plain.{picked}
 use Rattle.report_loops.specs.Demand3.{Accepted}
 use Rattle.report_loops.proofs.Hits.{Without, hits-none, hits-first}
+use Rattle.report_loops.proofs.Demand.{hits-picked}
 use Rattle.reports.specs.Given.{Given}
 use Rattle.reports.specs.Shown.{putHit, shownFrom}
 use Rattle.reports.specs.Onward.{test, between, Went}
@@ -32,6 +34,10 @@ module _ {cat tab list : Bytes} {size : ℕ} (g : Given cat tab list size) where
     read = g .read;
     long = omega (arith, cell-most cat (g .sound .catalogue), length-replicate {A = ℕ} 120 0);
   }
+
+  -- what get-next alone shows is what is picked
+  picked-between : between cat tab list 0 (length (listing cat tab)) ≡ picked cat tab list
+  picked-between = hits-picked cat tab room list accepted
 
 -- under way from cell `from` to cell `to`, with k hits before it: now at a cell, with so many hits
 pub record Way (cat tab list : Bytes) (from to k : ℕ) (before : Bytes) (hits at : ℕ) (out : Bytes) : Type 0 where
@@ -68,6 +74,15 @@ module _ {cat tab list : Bytes} {from to k : ℕ} {before : Bytes} where
           shown = rw p (show-next hits c (between cat tab list next to) out) ∙ ap (λ (xs : List ℕ). shownFrom hits xs out) (sym z) ∙ w .shown;
           room = rw p (put-length hits c out) ∙ w .room;
         }
+
+-- LAW: from the first cell to the last, what is shown is what is picked
+pub way-picked : {cat tab list : Bytes} {size : ℕ} (g : Given cat tab list size) {before : Bytes} {hits at : ℕ} {out : Bytes}
+    → Way cat tab list 0 (length (listing cat tab)) 0 before hits at out → Without (test cat tab list) at (length (listing cat tab))
+    → (hits ≡ length (picked cat tab list)) × (out ≡ shownFrom 0 (picked cat tab list) before)
+way-picked {cat} {tab} {list} g {before} w h =
+    let z = way-none w h in
+    let y = ap length (picked-between g) in
+    (omega (arith, z .0), z .1 ∙ ap (λ (xs : List ℕ). shownFrom 0 xs before) (picked-between g))
 
 -- LAW: beneath the parentage, as far as it goes
 pub way-went : {cat tab list : Bytes} {pos next : Position} {k : ℕ} {before : Bytes} {hits at : ℕ} {out : Bytes}

@@ -1,20 +1,18 @@
--- The pass of get-next alone over all cells: a segment agrees by itself, and it matches where its level is the last and its stretch goes there.
--- Assumes nothing.
+-- The plain reading's pass over all cells: one meets the lists where its level is the last type's and its path agrees down to it. Assumes nothing.
 use mathlib.Core.Path.{_≡_, ap, sym, _∙_}
-use mathlib.Core.Bool.{Bool, true, false, _&&_, not}
+use mathlib.Core.Bool.{Bool, true, _&&_}
 use mathlib.Core.List.{List}
 use mathlib.Core.Logic.{_⊎_, inl, inr}
 use Prim.Native.Nat.{ℕ, _<_}
 use native.Mathlib.Omega.{arith}
 use lib.Dec.{eqb}
 use lib.ListN.{length}
-use borrow.Author.Tests.{eq-eqb, ne-eqb, not-true, not-false}
+use borrow.Author.Tests.{eq-eqb, ne-eqb}
 use Rattle.terms.specs.declared.TypeCode.{TypeCode}
 use Rattle.terms.specs.declared.Argument.{Argument}
-use Rattle.forest.specs.Numbers.{isIn}
-use Rattle.rules.specs.Block.{Bytes, every}
-use Rattle.rules.specs.Catalogue.{lineage, level, isType}
-use Rattle.rules.specs.Cells.{Segment, segment, levelAt}
+use Rattle.rules.specs.Block.{Bytes}
+use Rattle.rules.specs.Catalogue.{level, isType}
+use Rattle.rules.specs.Cells.{Segment, levelAt}
 use Rattle.rules.specs.Table.{count, listing}
 use Rattle.rules.specs.Arguments.{Level, listRead, lastArgument}
 use Rattle.rules.specs.Matching.{matches}
@@ -23,13 +21,13 @@ use Rattle.cells.proofs.Ancestry.{sound-listing}
 use Rattle.arguments.proofs.Above.{type-first}
 use Rattle.arguments.proofs.Complete.{complete-length}
 use Rattle.arguments.proofs.Sound.{sound-down, last-asks}
-use Rattle.search.specs.Stretch.{levels, agreesAlone, stretch}
+use Rattle.search.specs.Stretch.{levels, stretch}
 use Rattle.search.proofs.Levels.{get-levels}
 use Rattle.search.proofs.Branches.{match-stretch}
-use Rattle.report_loops.specs.Plain.{heeds, meets}
+use Rattle.report_loops.specs.Plain.{meets}
 use Rattle.report_loops.proofs.Matches.{matches-meets}
 use Rattle.reports.specs.Given.{Given}
-use Rattle.reports.proofs.Given.{sound-list, given-good, given-heeds}
+use Rattle.reports.proofs.Given.{sound-list, given-good}
 
 module _ {cat tab list : Bytes} {size : ℕ} (g : Given cat tab list size) where
   abbrev cs : List Segment
@@ -37,18 +35,6 @@ module _ {cat tab list : Bytes} {size : ℕ} (g : Given cat tab list size) where
 
   abbrev ar : List Argument
   ar = listRead cat list .arguments
-
-  -- one segment: u is its type, and a says whether that is t or above it
-  module _ (t : TypeCode) (i : ℕ) (u : TypeCode) (e : u ≡ segment cs i .code) (a : Bool) (f : a ≡ isIn (u .0) (lineage cat t)) where
-    pub agrees-other : not a ≡ true → false ≡ agreesAlone cat list t (segment cs i)
-    unfolding agreesAlone
-    agrees-other n = rw (← e, ← f, not-true a n)
-
-    pub agrees-heeded : not a ≡ false → (b : Bool) → b ≡ every (heeds cat list (segment cs i)) ar → b ≡ agreesAlone cat list t (segment cs i)
-    unfolding agreesAlone
-    agrees-heeded n b h =
-        let z : isIn (segment cs i .code .0) (lineage cat t) ≡ true = ap (λ (x : TypeCode). isIn (x .0) (lineage cat t)) (sym e) ∙ sym f ∙ not-false a n in
-        rw z (h ∙ sym (given-heeds g (segment cs i)))
 
   module _ (t : TypeCode) (e : t ≡ lastArgument ar .code) where
     abbrev ls : List Level

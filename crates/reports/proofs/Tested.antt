@@ -1,56 +1,21 @@
--- The plain reading, cell by cell: a segment against the arguments for its type, then its ancestors, then the next cell. Assumes nothing.
+-- The plain reading, cell by cell: those before a cell are read, and those of them that meet the lists are shown. Assumes nothing.
 use mathlib.Core.Path.{_≡_, refl, ap, sym, _∙_}
-use mathlib.Core.Bool.{Bool, true, false, _&&_, not}
+use mathlib.Core.Bool.{Bool, true, false}
 use mathlib.Core.List.{List, [], _∷_}
 use Prim.Native.Nat.{ℕ, suc, _+_, _-_, _<_, _≤_}
 use native.Mathlib.Omega.{arith}
-use lib.Dec.{eqb}
 use lib.ListN.{length}
-use borrow.Author.Tests.{eq-eqb, ne-eqb, not-true, not-false}
-use Rattle.terms.specs.declared.TypeCode.{TypeCode}
-use Rattle.terms.specs.declared.CellNumber.{CellNumber}
-use Rattle.terms.specs.declared.Qualification.{Qualification}
 use Rattle.terms.specs.declared.Argument.{Argument}
-use Rattle.terms.specs.declared.Found.the-variants.{At, Nothing}
 use Rattle.terms.specs.Choice.{pick}
-use Rattle.terms.specs.Names.{sameType}
-use Rattle.forest.specs.Good.{isNil}
-use Rattle.forest.specs.Numbers.{ancestors}
-use Rattle.rules.specs.Block.{Bytes, every}
-use Rattle.rules.specs.Cells.{Segment, segment, levelAt, rowAt}
+use Rattle.rules.specs.Block.{Bytes}
+use Rattle.rules.specs.Cells.{Segment}
 use Rattle.rules.specs.Table.{count, listing}
-use Rattle.rules.specs.Arguments.{listRead, lastArgument, askedOf, meant}
-use Rattle.rules.specs.Matching.{satisfies}
-use Rattle.cells.specs.Lent.{parentAt}
-use Rattle.arguments.specs.declared.Wanted.{Wanted}
-use Rattle.arguments.specs.declared.Wanted.the-variants.{Implied, Named}
-use Rattle.arguments.specs.Sound.{wantedOf, meaning}
-use Rattle.arguments.proofs.Sound.{list-filled}
-use Rattle.arguments.proofs.Complete.{asked-wanted}
-use Rattle.search.specs.Good.{Testable}
-use Rattle.search.proofs.Branches.{named-testable, parent-none, parent-some}
-use Rattle.report_loops.specs.Plain.{heeds, meets, picked}
+use Rattle.rules.specs.Arguments.{listRead}
+use Rattle.report_loops.specs.Plain.{meets, picked}
 use Rattle.report_loops.proofs.Hits.{hits, hits-none, hits-first, hits-from}
 use Rattle.reports.specs.Shown.{putHit, shownFrom}
 use Rattle.reports.specs.Given.{Given}
-use Rattle.reports.proofs.Given.{sound-list, given-good, given-heeds}
 use Rattle.reports.proofs.Written.{put-length, show-none, show-next}
-
-every-here : (p : ℕ → Bool) (x : ℕ) (xs : List ℕ) → p x ≡ false → every p (x ∷ xs) ≡ false
-unfolding every
-every-here p x xs e = rw (every, e)
-
-every-on : (p : ℕ → Bool) (x : ℕ) (xs : List ℕ) → p x ≡ true → every p (x ∷ xs) ≡ every p xs
-unfolding every
-every-on p x xs e = rw (every, e)
-
-every-none : (p : ℕ → Bool) → every p [] ≡ true
-unfolding every
-every-none p = refl
-
--- a segment satisfies every argument for its type
-abbrev pub heededBy : Bytes → Bytes → Bytes → ℕ → Bool
-heededBy cat tab list j = every (heeds cat list (segment (listing cat tab) j)) (listRead cat list .arguments)
 
 -- the cells before i are read, and those of them that meet the list are shown
 pub record Passed (cat tab list : Bytes) (before : Bytes) (k i : ℕ) (out : Bytes) : Type 0 where
@@ -66,60 +31,6 @@ module _ {cat tab list : Bytes} {size : ℕ} (g : Given cat tab list size) where
 
   abbrev ar : List Argument
   ar = listRead cat list .arguments
-
-  abbrev heeded : ℕ → Bool
-  heeded = heededBy cat tab list
-
-  module _ (i : ℕ) (u : TypeCode) (e : u ≡ segment cs i .code) (w : Wanted) (f : w ≡ wantedOf ar u) where
-    own-heeds : satisfies cat (segment cs i) (meaning cat list w) ≡ heeded i
-    own-heeds =
-        ap (λ (v : Wanted). satisfies cat (segment cs i) (meaning cat list v)) f
-        ∙ sym (ap (satisfies cat (segment cs i)) (asked-wanted cat list ar u))
-        ∙ ap (λ (t : TypeCode). satisfies cat (segment cs i) (askedOf cat list ar t)) e
-        ∙ given-heeds g (segment cs i)
-
-    pub heeds-implied : w ≡ Implied → true ≡ heeded i
-    heeds-implied x = rw x at own-heeds
-
-    pub heeds-named : (q : Qualification) (b : Bool) → w ≡ Named q → b ≡ satisfies cat (segment cs i) (meant cat list q) → b ≡ heeded i
-    heeds-named q b x y = y ∙ (rw x at own-heeds)
-
-    pub heeds-testable : (q : Qualification) → i < count tab → w ≡ Named q → Testable cat tab list size i q
-    heeds-testable q h x = named-testable (given-good g (lastArgument ar .code) refl) i u e w q h f x
-
-  -- the row of cell i: itself, then that of its parent
-  module _ (i : ℕ) where
-    pub row-not : (b : Bool) → b ≡ heeded i → not b ≡ true → false ≡ every heeded (rowAt cat cs i)
-    unfolding rowAt
-    row-not b e n = sym (every-here heeded i (ancestors (levelAt cat cs) i) (sym e ∙ not-true b n))
-
-    here-yes : (b : Bool) → b ≡ heeded i → not b ≡ false → heeded i ≡ true
-    here-yes b e n = sym e ∙ not-false b n
-
-    pub row-top : (b : Bool) → b ≡ heeded i → not b ≡ false → Nothing ≡ parentAt cat cs i → true ≡ every heeded (rowAt cat cs i)
-    unfolding rowAt
-    row-top b e n p = sym (every-on heeded i (ancestors (levelAt cat cs) i) (here-yes b e n) ∙ ap (every heeded) (parent-none cat cs i p) ∙ every-none heeded)
-
-    pub row-up : (b : Bool) → b ≡ heeded i → not b ≡ false → (c : CellNumber) → At c ≡ parentAt cat cs i
-        → every heeded (rowAt cat cs (c .0)) ≡ every heeded (rowAt cat cs i)
-    unfolding rowAt
-    row-up b e n c p = sym (every-on heeded i (ancestors (levelAt cat cs) i) (here-yes b e n) ∙ ap (every heeded) (parent-some cat cs i c p .1))
-
-    meets-is : (l : List Argument) → isNil l ≡ false
-        → meets cat list cs l i
-        ≡ (sameType (segment cs i .code) (lastArgument l .code) && every (λ j. every (heeds cat list (segment cs j)) l) (rowAt cat cs i))
-    meets-is [] e = absurd (let z : _≡_ {A = ℕ} 0 1 = cc in omega arith)
-    meets-is (a ∷ l) e = refl
-
-    module _ (t u : TypeCode) (e : t ≡ lastArgument ar .code) (f : u ≡ segment cs i .code) where
-      whole : meets cat list cs ar i ≡ (eqb (u .0) (t .0) && every heeded (rowAt cat cs i))
-      whole = meets-is ar (list-filled cat list (sound-list g) (g .some)) ∙ rw (← e, ← f)
-
-      pub meets-other : (u .0 ≡ t .0 → ⊥) → false ≡ meets cat list cs ar i
-      meets-other n = sym (whole ∙ rw (ne-eqb (u .0) (t .0) n))
-
-      pub meets-row : u .0 ≡ t .0 → (r : Bool) → r ≡ every heeded (rowAt cat cs i) → r ≡ meets cat list cs ar i
-      meets-row n r q = q ∙ sym (whole ∙ rw (eq-eqb (u .0) (t .0) n))
 
   -- every cell that is read meets the list or not
   abbrev pub met : ℕ → Bool

@@ -21,7 +21,7 @@ use Rattle.cells.specs.Sound.{Sound}
 use Rattle.cells.proofs.Located.{good-sized, good-housed}
 use Rattle.answers.proofs.Statuses.{blank-is}
 use Rattle.report_loops.specs.Plain.{filter, meets, picked}
-use Rattle.report_loops.proofs.Cut.{parts}
+use Rattle.arguments.proofs.Cut.{parts}
 use Rattle.reports.specs.declared.Report.{Report}
 use Rattle.reports.specs.Shown.{shownFrom}
 use Rattle.reports.specs.Report.{reported, listsFault, reportRefusal, showing, report}

@@ -66,7 +66,7 @@ fn found_by(
 {
     match way {
         Way::Nested => nested_sound(cat, tab, one, two, out),
-        Way::Joined => joined_sound(cat, tab, size, one, two, out),
+        Way::Joined => joined_sound(cat, tab, one, two, out),
         Way::Plain => plain_sound(cat, tab, size, one, two, out),
     }
 }
@@ -114,7 +114,7 @@ pub fn nested(cat: &[u8], tab: &[u8], one: &[u8], two: &[u8], out: &mut [u8]) ->
     report_by(Way::Nested, cat, tab, one, two, out)
 }
 
-// GN alone, on the two lists joined, until GE. No joined list is made: each cell is tested with the one and then with the other.
+// GN alone, on the two lists joined, until GE: one reader asks with both.
 pub fn joined(cat: &[u8], tab: &[u8], one: &[u8], two: &[u8], out: &mut [u8]) -> Report
     ensures { λ r. ⌜ reported r (now (out .exit)) ≡ report (now (cat .entry)) (now (tab .entry)) (now (one .entry)) (now (two .entry)) (now (out .entry)) ⌝ }
 {

@@ -24,24 +24,24 @@ pub struct Onward {
     pub position: Position,
 }
 
-// GNP on the list from this position on until a status ends it; k cells are shown before it.
+// GNP on the list from this position on until a status ends it; k cells are shown before it. The area is lent, and what a get leaves in it is not read.
 fn read_under(
     cat: &[u8],
     tab: &[u8],
     list: &[u8],
     pos: Position,
     k: usize,
+    area: &mut [u8],
     out: &mut [u8],
 ) -> Onward
     requires { ⌜ Given (now cat) (now tab) (now list) (byte (now tab) 5) × (goodPosition (now cat) (listing (now cat) (now tab)) pos ≡ true)
-        × (isAbsent (pos .parentage) ≡ false) × (k ≤ afterPlace (pos .place)) ⌝ }
+        × (isAbsent (pos .parentage) ≡ false) × (k ≤ afterPlace (pos .place)) × (length (now area) ≡ 120) ⌝ }
     ensures { λ r. ⌜ Went (now (cat .entry)) (now (tab .entry)) (now (list .entry)) pos k (now (out .entry)) r (now (out .exit)) ⌝ }
 {
-    let mut area = [0u8; 120];
     let mut hits = k;
     let mut at = pos;
     loop {
-        let a = read_within(cat, tab, list, at, &mut area);
+        let a = read_within(cat, tab, list, &list[..0], at, area);
         let s = a.status;
         at = a.position;
         if 10 <= number(s) {
@@ -66,12 +66,12 @@ pub(crate) fn nested_sound(cat: &[u8], tab: &[u8], one: &[u8], two: &[u8], out: 
     let mut hits = 0;
     let mut at = Position::fresh();
     loop {
-        let a = read_next(cat, tab, one, at, &mut area);
+        let a = read_next(cat, tab, one, &one[..0], at, &mut area);
         let s = a.status;
         if 10 <= number(s) {
             return hits;
         }
-        let under = read_under(cat, tab, two, a.position, hits, out);
+        let under = read_under(cat, tab, two, a.position, hits, &mut area, out);
         hits = under.hits;
         at = under.position;
     }

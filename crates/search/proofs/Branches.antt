@@ -1,5 +1,5 @@
 -- The laws of a search, in the shape of the code's branches: over good blocks, with what the code has read. Assumes nothing.
-use mathlib.Core.Path.{_≡_, refl, ap, sym, _∙_, subst}
+use mathlib.Core.Path.{_≡_, refl, ap, sym, _∙_}
 use mathlib.Core.Bool.{Bool, true, false, _&&_}
 use mathlib.Core.List.{List, [], _∷_}
 use mathlib.Core.Logic.{inl, inr}
@@ -11,9 +11,6 @@ use lib.ListN.{length, drop}
 use borrow.Author.Tests.{eq-eqb, ne-eqb, ltb-true, eqb-true, eqb-false}
 use Rattle.terms.specs.declared.TypeCode.{TypeCode}
 use Rattle.terms.specs.declared.CellNumber.{CellNumber}
-use Rattle.terms.specs.declared.Qualification.{Qualification}
-use Rattle.terms.specs.declared.Qualification.the-variants.{None, Test}
-use Rattle.terms.specs.declared.Argument.{Argument}
 use Rattle.terms.specs.declared.Place.{Place}
 use Rattle.terms.specs.declared.Place.the-variants.{On, Before}
 use Rattle.terms.specs.declared.Found.the-variants.{At, Nothing}
@@ -27,50 +24,28 @@ use Rattle.rules.specs.Block.{Bytes}
 use Rattle.rules.specs.Catalogue.{types, parentOf, isType, lineage, level}
 use Rattle.rules.specs.Cells.{Segment, segment, levelAt, endAt, goodListing}
 use Rattle.rules.specs.Table.{count, listing}
-use Rattle.rules.specs.Arguments.{Level, ListRead, listRead, lastArgument, askedOf, meant}
-use Rattle.rules.specs.Matching.{satisfies, isImplied, pathTo, matches, seek, firstMatch, keptOn, kept, soughtBeneath, along}
+use Rattle.rules.specs.Arguments.{Level, ListRead, listRead, lastArgument}
+use Rattle.rules.specs.Matching.{pathTo, matches, seek, firstMatch, keptOn, kept, soughtBeneath, along}
 use Rattle.rules.specs.Position.{goodPlace}
 use Rattle.rules.proofs.Catalogue.{par, good-lower}
 use Rattle.rules.proofs.Cells.{listing-length}
 use Rattle.rules.proofs.Search.{seek-none, seek-here, seek-next}
-use Rattle.catalogue.proofs.Hierarchy.{parent-least, parent-before, level-child, level-least}
+use Rattle.catalogue.proofs.Hierarchy.{parent-least, parent-before, level-child, level-least, lineage-up}
 use Rattle.cells.specs.Lent.{nearest, parentAt}
-use Rattle.cells.proofs.Located.{end-within}
+use Rattle.cells.proofs.Located.{end-after, end-within}
 use Rattle.cells.proofs.Ancestry.{own-type, sound-listing}
 use Rattle.search.specs.declared.Reached.{Reached}
-use Rattle.search.specs.Stretch.{levels, isLeftOut, agreesAlone, stretch, stretchBefore, Carried}
-use Rattle.search.specs.Good.{Good, Testable, NextRoot, Upcoming, reached}
+use Rattle.search.specs.Stretch.{levels, agreesAlone, stretch, stretchBefore, Carried}
+use Rattle.search.specs.Good.{Good, NextRoot, Beneath, Upcoming, reached}
 use Rattle.search.proofs.Rows.{Regular, back-parts}
 use Rattle.search.proofs.Carry.{headAgrees, headImplied, stretch-within, stretch-le, carried-before, next-short, next-on, next-off, match-yes, match-not}
 use Rattle.search.proofs.Carry.{kept-none, keptTried, kept-row, kept-short, kept-full}
 use Rattle.search.proofs.Levels.{regular, agrees-own}
-use Rattle.arguments.specs.declared.Wanted.{Wanted}
-use Rattle.arguments.specs.declared.Wanted.the-variants.{Implied, Named}
 use Rattle.cells.specs.Sound.{Sound}
-use Rattle.arguments.specs.Sound.{SoundList, GoodQualification, wantedOf, meaning}
-use Rattle.arguments.proofs.Complete.{asked-wanted, complete-length}
+use Rattle.arguments.specs.Sound.{SoundList}
+use Rattle.arguments.proofs.Complete.{complete-length}
 use Rattle.arguments.proofs.Above.{type-first, type-last}
-use Rattle.arguments.proofs.Sound.{wanted-asks, last-asks, list-empty}
-
-not-implied : (cat list : Bytes) (q : Qualification) → isImplied (meant cat list q) ≡ false
-not-implied cat list None = refl
-not-implied cat list (Test o f v) = refl
-
--- whether the type of cell i is left out: u is that type and w what the list wants of it, as the code has read them
-module _ (cat tab list : Bytes) (i : ℕ) (u : TypeCode) (e : u ≡ segment (listing cat tab) i .code) (w : Wanted) (f : w ≡ wantedOf (listRead cat list .arguments) u) where
-  abbrev leftOut : Bool
-  leftOut = isLeftOut cat list (segment (listing cat tab) i .code)
-
-  asked-own : leftOut ≡ isImplied (meaning cat list w)
-  asked-own =
-      ap isImplied
-      (ap (askedOf cat list (listRead cat list .arguments)) (sym e) ∙ asked-wanted cat list (listRead cat list .arguments) u ∙ ap (meaning cat list) (sym f))
-
-  pub implied-left : w ≡ Implied → true ≡ leftOut
-  implied-left x = sym (asked-own ∙ ap (λ (v : Wanted). isImplied (meaning cat list v)) x)
-
-  pub implied-named : (q : Qualification) → w ≡ Named q → false ≡ leftOut
-  implied-named q x = sym (asked-own ∙ ap (λ (v : Wanted). isImplied (meaning cat list v)) x ∙ not-implied cat list q)
+use Rattle.arguments.proofs.Sound.{last-asks, list-empty}
 
 -- the first match before e, cell by cell
 module _ (cat : Bytes) (cs : List Segment) (ls : List Level) (i e : ℕ) where
@@ -144,39 +119,9 @@ module _ {cat tab list : Bytes} {size : ℕ} {t : TypeCode} (g : Good cat tab li
   unfolding level lineage Types.lineage Types.lineageFrom
   no-level e = last-level ∙ ap (λ (n : ℕ). length (Types.lineage (par cat) n)) e
 
-  pub sound-list : SoundList cat list
-  sound-list = record { catalogue = g .catalogue; read = g .sound }
-
-  -- one segment against the list: u is its type and w what the list wants of that, as the code has read them
-  module _ (i : ℕ) (u : TypeCode) (e : u ≡ segment cs i .code) where
-    abbrev own : Segment
-    own = segment cs i
-
-    abbrev given : List Argument
-    given = listRead cat list .arguments
-
-    own-test : isIn (u .0) (lineage cat t) ≡ true → agreesAlone cat list t (segment cs i) ≡ satisfies cat own (askedOf cat list given u)
-    unfolding agreesAlone
-    own-test a = rw (sym e, a)
-
-    pub agrees-not : isIn (u .0) (lineage cat t) ≡ false → false ≡ agreesAlone cat list t (segment cs i)
-    unfolding agreesAlone
-    agrees-not a = rw (sym e, a)
-
-    pub agrees-implied : (w : Wanted) → isIn (u .0) (lineage cat t) ≡ true → w ≡ wantedOf given u → w ≡ Implied → true ≡ agreesAlone cat list t (segment cs i)
-    agrees-implied w a f x = sym (own-test a ∙ ap (satisfies cat own) (asked-wanted cat list given u ∙ ap (meaning cat list) (sym f ∙ x)))
-
-    pub agrees-named : (w : Wanted) (q : Qualification) (b : Bool) → isIn (u .0) (lineage cat t) ≡ true → w ≡ wantedOf given u → w ≡ Named q
-        → b ≡ satisfies cat own (meant cat list q) → b ≡ agreesAlone cat list t (segment cs i)
-    agrees-named w q b a f x y = y ∙ sym (own-test a ∙ ap (satisfies cat own) (asked-wanted cat list given u ∙ ap (meaning cat list) (sym f ∙ x)))
-
-    pub named-testable : (w : Wanted) (q : Qualification) → i < count tab → w ≡ wantedOf given u → w ≡ Named q → Testable cat tab list size i q
-    named-testable w q h f x = record {
-      catalogue = g .catalogue;
-      sized = g .sized;
-      cell = h;
-      tests = subst (λ (v : TypeCode). GoodQualification cat list v q) e (wanted-asks cat list sound-list u q (sym f ∙ x) .test);
-    }
+  -- the last type is a level
+  pub own-in : (u : TypeCode) → 0 < t .0 → u .0 ≡ t .0 → isIn (u .0) (lineage cat t) ≡ true
+  own-in u s e = ap (isIn (u .0)) (lineage-up cat (g .catalogue) t s (g .known)) ∙ rw (eq-eqb (u .0) (t .0) e)
 
   -- one cell: l is its level, as the code has read it
   module _ (i k l : ℕ) (h : i < count tab) (e : l ≡ lev i) where
@@ -304,6 +249,9 @@ module _ {cat tab list : Bytes} {size : ℕ} {t : TypeCode} (g : Good cat tab li
   unfolding reached
   kept-path q c r f e = ap (λ (x : Reached). x .kept) e ∙ sym (ap (kept cat cs ls) f)
 
+  pub kept-gap : (q : Place) (c : CellNumber) → q ≡ Before c → Nothing ≡ kept cat cs ls q
+  kept-gap q c f = sym (ap (kept cat cs ls) f)
+
   pub kept-place : (q : Place) (c : CellNumber) → goodPlace cat cs q ≡ true → At c ≡ kept cat cs ls q → Whole c
   kept-place (On d) c e f = kept-whole (suc (d .0)) (d .0) c (omega arith) (omega (arith, ltb-true (d .0) (length cs) e, listing-length cat tab)) f
   kept-place (Before d) c e f = absurd (let z : _≡_ {A = ℕ} 0 1 = cc in omega arith)
@@ -318,24 +266,28 @@ module _ {cat tab list : Bytes} {size : ℕ} {t : TypeCode} (g : Good cat tab li
   pub kept-before : (c : CellNumber) (l : ℕ) → Whole c → l ≡ lev (c .0) → l ≡ stretchBefore cat cs ls (c .0 + 1)
   kept-before c l w e = before-next (c .0) l (e ∙ sym (w .1))
 
+  -- the rest of it is sought from the next cell on
+  pub kept-beneath : (c : CellNumber) → Whole c → Beneath cat tab t (c .0) (c .0 + 1)
+  kept-beneath c w = record { some = kept-list c w; cell = w .0; later = omega arith; most = omega (arith, end-after cat cs (c .0)) }
+
   pub end-in : (i : ℕ) → i < count tab → endAt cat cs i ≤ count tab
   end-in i h = omega (arith, end-within cat cs i (omega (arith, listing-length cat tab)), listing-length cat tab)
 
   -- along the position, by what was kept
   module _ (q : Place) where
-    pub along-none : (n : ℕ) → n ≡ count tab → Nothing ≡ kept cat cs ls q → firstMatch cat cs ls 0 n ≡ along cat cs ls q
+    pub along-none : Nothing ≡ kept cat cs ls q → firstMatch cat cs ls 0 (count tab) ≡ along cat cs ls q
     unfolding along
-    along-none n z e = ap (firstMatch cat cs ls 0) (z ∙ sym (listing-length cat tab)) ∙ ap (soughtBeneath cat cs ls) e
+    along-none e = ap (firstMatch cat cs ls 0) (sym (listing-length cat tab)) ∙ ap (soughtBeneath cat cs ls) e
 
     module _ (c : CellNumber) (l : ℕ) (e : At c ≡ kept cat cs ls q) (f : l ≡ lev (c .0)) where
       pub along-here : l ≡ level cat t → At c ≡ along cat cs ls q
       unfolding along
       along-here z = sym (ap (λ (b : Bool). pick b (At c) (firstMatch cat cs ls (suc (c .0)) (endAt cat cs (c .0)))) (eq-eqb (lev (c .0)) (length ls) (omega (arith, last-level)))) ∙ ap (soughtBeneath cat cs ls) e
 
-      pub along-beneath : (end : ℕ) → (l ≡ level cat t → ⊥) → end ≡ endAt cat cs (c .0) → firstMatch cat cs ls (c .0 + 1) end ≡ along cat cs ls q
+      pub along-beneath : (l ≡ level cat t → ⊥) → firstMatch cat cs ls (c .0 + 1) (endAt cat cs (c .0)) ≡ along cat cs ls q
       unfolding along
-      along-beneath end n z =
-          rw (add-one, z) (sym (ap (λ (b : Bool). pick b (At c) (firstMatch cat cs ls (suc (c .0)) (endAt cat cs (c .0)))) (ne-eqb (lev (c .0)) (length ls) (λ y. n (omega (arith, last-level)))))) ∙ ap (soughtBeneath cat cs ls) e
+      along-beneath n =
+          rw add-one (sym (ap (λ (b : Bool). pick b (At c) (firstMatch cat cs ls (suc (c .0)) (endAt cat cs (c .0)))) (ne-eqb (lev (c .0)) (length ls) (λ y. n (omega (arith, last-level)))))) ∙ ap (soughtBeneath cat cs ls) e
 
 -- no cell from `from` on and before i is a root, one cell after the other
 abbrev pub NoRoot : List Segment → ℕ → ℕ → Type 0

@@ -3,6 +3,8 @@ pub mod Carry
 pub mod Levels
 pub mod Fields
 pub mod Branches
+pub mod Heeded
 pub mod Climb
 pub mod Within
 pub mod Plain
+pub mod OneList

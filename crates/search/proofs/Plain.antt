@@ -10,18 +10,14 @@ use lib.Dec.{eqb}
 use lib.ListN.{length, drop}
 use borrow.Author.Tests.{eq-eqb, ne-eqb, eqb-true, eqb-false}
 use Rattle.terms.specs.declared.TypeCode.{TypeCode}
-use Rattle.terms.specs.declared.Operator.{Operator}
-use Rattle.terms.specs.declared.FieldNumber.{FieldNumber}
-use Rattle.terms.specs.declared.Qualification.{Qualification}
-use Rattle.terms.specs.declared.Qualification.the-variants.{None, Test}
+use Rattle.terms.specs.declared.Qualification.the-variants.{None}
 use Rattle.terms.specs.declared.Found.the-variants.{At}
 use Rattle.terms.specs.Choice.{pick}
 use Rattle.terms.specs.Names.{code, cell}
 use Rattle.forest.specs.Good.{on, off, is, both-left, both-right}
 use Rattle.forest.specs.Numbers.{ancestors, isIn, ancestor-run}
-use Rattle.forest.specs.Types as Types
 use Rattle.rules.specs.Block.{Bytes, every}
-use Rattle.rules.specs.Catalogue.{types, parentOf, lineage, level, typeBeneath, goodCatalogue}
+use Rattle.rules.specs.Catalogue.{types, parentOf, lineage, level, typeBeneath}
 use Rattle.rules.specs.Cells.{Segment, segment, levelAt, runAt, endAt}
 use Rattle.rules.specs.Table.{count, listing}
 use Rattle.rules.specs.Arguments.{Asked, implied, unqualified, qualified, Level, listRead, askedOf}
@@ -30,15 +26,17 @@ use Rattle.rules.proofs.Cells.{listing-length}
 use Rattle.rules.proofs.Every.{every-in, every-out}
 use Rattle.catalogue.proofs.Hierarchy.{lineage-up, beneath-later, beneath-trans}
 use Rattle.cells.proofs.Ancestry.{sound-listing, run-beneath}
-use Rattle.arguments.specs.declared.Wanted.{Wanted}
-use Rattle.arguments.specs.declared.Wanted.the-variants.{Implied, Named}
-use Rattle.arguments.specs.Sound.{wantedOf, meaning}
+use Rattle.arguments.specs.Sound.{Wanted, Implied, Named, wantedOf, meaning}
+use Rattle.arguments.specs.Alone.{aloneOf}
+use Rattle.arguments.specs.declared.alone.Tests.{Tests}
+use Rattle.arguments.specs.declared.alone.Tests.the-variants.{Own}
 use Rattle.arguments.proofs.Complete.{asked-wanted}
-use Rattle.search.specs.Good.{Good}
+use Rattle.arguments.proofs.Entries.{alone-entry, alone-others}
+use Rattle.search.specs.Good.{Good, Lone}
 use Rattle.search.specs.Stretch.{levels, isPlain, plainAbove, agreesAlone, matchesAlone, stretch, stretchAbove, stretchBefore, Carried}
 use Rattle.search.proofs.Rows.{back-parts}
 use Rattle.search.proofs.Carry.{tried, tried-le, length-row, stretch-row, full-agrees, headAgrees}
-use Rattle.search.proofs.Branches.{steps, level-some, agrees-cell, stretch-on, stretch-off, carried-cell, turn-found, turn-next}
+use Rattle.search.proofs.Branches.{steps, level-some, own-in, agrees-cell, stretch-on, stretch-off, carried-cell, turn-found, turn-next}
 use Rattle.search.proofs.Within.{sound-good}
 
 differ : true ≡ false → ⊥
@@ -55,63 +53,44 @@ every-one p (y ∷ xs) x e h = elim (is (p y)) [
   | off a ↦ absurd (differ (sym e ∙ every-out p y xs a))
 ]
 
+-- what holds of each one in it holds of each
+every-each : (p : ℕ → Bool) (xs : List ℕ) → ((x : ℕ) → isIn x xs ≡ true → p x ≡ true) → every p xs ≡ true
+unfolding every
+every-each p [] f = refl
+every-each p (y ∷ xs) f = every-in p y xs (f y (rw (eq-eqb y y refl))) ∙ every-each p xs (λ x h. f x (elim (is (eqb x y)) [
+  | on a ↦ rw a
+  | off a ↦ rw a h
+]))
+
 pub plain-satisfies : (cat : Bytes) (s : Segment) (a : Asked) → isPlain a ≡ true → satisfies cat s a ≡ true
 plain-satisfies cat s implied h = refl
 plain-satisfies cat s unqualified h = refl
 plain-satisfies cat s (qualified o f v) h = absurd (differ (sym h))
 
--- what the list wants of type u, as the code has read it
-module _ (cat list : Bytes) (u : TypeCode) (w : Wanted) (f : w ≡ wantedOf (listRead cat list .arguments) u) where
-  abbrev plain : Bool
-  plain = isPlain (askedOf cat list (listRead cat list .arguments) u)
+-- nothing is tested of a type that the list leaves out or names only
+plain-wanted : (cat list : Bytes) (u : TypeCode) → (wantedOf (listRead cat list .arguments) u ≡ Implied) ⊎ (wantedOf (listRead cat list .arguments) u ≡ Named None)
+    → isPlain (askedOf cat list (listRead cat list .arguments) u) ≡ true
+plain-wanted cat list u w = ap isPlain (asked-wanted cat list (listRead cat list .arguments) u) ∙ (elim w [
+  | inl x ↦ ap (λ (v : Wanted). isPlain (meaning cat list v)) x
+  | inr x ↦ ap (λ (v : Wanted). isPlain (meaning cat list v)) x
+])
 
-  asks : plain ≡ isPlain (meaning cat list w)
-  asks = ap isPlain (asked-wanted cat list (listRead cat list .arguments) u ∙ ap (meaning cat list) (sym f))
-
-  pub plain-implied : w ≡ Implied → true ≡ plain
-  plain-implied x = sym (asks ∙ ap (λ (v : Wanted). isPlain (meaning cat list v)) x)
-
-  pub plain-named : {q : Qualification} → w ≡ Named q → q ≡ None → true ≡ plain
-  plain-named x y = sym (asks ∙ ap (λ (v : Wanted). isPlain (meaning cat list v)) (x ∙ ap Named y))
-
-  pub plain-tested : {q : Qualification} {o : Operator} {d : FieldNumber} {v : ℕ} → w ≡ Named q → q ≡ Test o d v → false ≡ plain
-  plain-tested x y = sym (asks ∙ ap (λ (v : Wanted). isPlain (meaning cat list v)) (x ∙ ap Named y))
-
--- type u and those above it, one at a time
-module _ (cat list : Bytes) where
-  abbrev pub plainUp : ℕ → Bool
-  plainUp u = every (λ v. isPlain (askedOf cat list (listRead cat list .arguments) (code v))) (lineage cat (code u))
-
-  pub plain-above : (t p : TypeCode) → p ≡ parentOf cat t → plainUp (p .0) ≡ plainAbove cat list t
-  unfolding plainAbove
-  plain-above t p e = ap (λ (x : TypeCode). plainUp (x .0)) e
-
-  pub plain-top : (u : ℕ) → u ≤ 0 → true ≡ plainUp u
-  unfolding lineage Types.lineage Types.lineageFrom every
-  plain-top zero l = refl
-  plain-top (suc u) l = absurd (omega arith)
-
-  module _ (g : goodCatalogue cat ≡ true) (u : ℕ) (a : 0 < u) (k : u ≤ types cat) (b : Bool) (f : b ≡ isPlain (askedOf cat list (listRead cat list .arguments) (code u))) where
-    up : plainUp u ≡ every (λ v. isPlain (askedOf cat list (listRead cat list .arguments) (code v))) (u ∷ lineage cat (parentOf cat (code u)))
-    up = ap (every (λ v. isPlain (askedOf cat list (listRead cat list .arguments) (code v)))) (lineage-up cat g (code u) a k)
-
-    pub plain-no : b ≡ false → false ≡ plainUp u
-    plain-no y = sym (up ∙ every-out (λ v. isPlain (askedOf cat list (listRead cat list .arguments) (code v))) u (lineage cat (parentOf cat (code u))) (sym f ∙ y))
-
-    pub plain-next : b ≡ true → (p : TypeCode) → p ≡ parentOf cat (code u) → plainUp (p .0) ≡ plainUp u
-    plain-next y p e =
-        ap (λ (x : TypeCode). plainUp (x .0)) e
-        ∙ sym (up ∙ every-in (λ v. isPlain (askedOf cat list (listRead cat list .arguments) (code v))) u (lineage cat (parentOf cat (code u))) (sym f ∙ y))
+-- LAW: where the list tests nothing but type t it tests nothing above it, since each type above t has a smaller code
+pub lone-own : {cat tab list : Bytes} {size : ℕ} {t : TypeCode} → Good cat tab list size t → 0 < t .0 → (a : Tests) (e : ℕ)
+    → a ≡ aloneOf t (listRead cat list .arguments) → a ≡ Own e → Lone cat list t e
+unfolding plainAbove typeBeneath
+lone-own {cat} {tab} {list} {size} {t} g s a e f x = record {
+  plain = every-each (λ u. isPlain (askedOf cat list (listRead cat list .arguments) (code u))) (lineage cat (parentOf cat t)) (λ u h.
+      plain-wanted cat list (code u)
+      (alone-others t (listRead cat list .arguments) e (sym f ∙ x) (code u) (λ z. omega (arith, beneath-later cat (g .catalogue) t (code u) s (g .known) h .1))));
+  entry = alone-entry t (listRead cat list .arguments) e (sym f ∙ x);
+}
 
 -- whether a cell matches by itself: u is its type, as the code has read it
 module _ (cat list : Bytes) (t : TypeCode) (s : Segment) (u : TypeCode) (e : u ≡ s .code) where
   pub alone-type : (u .0 ≡ t .0 → ⊥) → false ≡ matchesAlone cat list t s
   unfolding matchesAlone
   alone-type n = rw (← e, ne-eqb (u .0) (t .0) n)
-
-  pub alone-agrees : (b : Bool) → u .0 ≡ t .0 → b ≡ agreesAlone cat list t s → b ≡ matchesAlone cat list t s
-  unfolding matchesAlone
-  alone-agrees b z f = f ∙ rw (← e, eq-eqb (u .0) (t .0) z)
 
 module _ {cat tab list : Bytes} {size : ℕ} {t : TypeCode} (g : Good cat tab list size t) (s : 0 < t .0) (q : plainAbove cat list t ≡ true) where
   abbrev cs : List Segment
@@ -135,9 +114,6 @@ module _ {cat tab list : Bytes} {size : ℕ} {t : TypeCode} (g : Good cat tab li
         | on a ↦ inl (eqb-true (u .0) (t .0) a)
         | off a ↦ inr (rw a at z)
       ]
-
-  own-in : (u : TypeCode) → u .0 ≡ t .0 → isIn (u .0) (lineage cat t) ≡ true
-  own-in u e = ap (isIn (u .0)) (lineage-up cat (g .catalogue) t s (g .known)) ∙ rw (eq-eqb (u .0) (t .0) e)
 
   above-in : (u : TypeCode) → typeBeneath cat t u ≡ true → isIn (u .0) (lineage cat t) ≡ true
   unfolding typeBeneath
@@ -212,7 +188,7 @@ module _ {cat tab list : Bytes} {size : ℕ} {t : TypeCode} (g : Good cat tab li
       own-level = ap (λ (x : ℕ). level cat (code x)) z
 
       own-full : suc (stretchAbove cat cs ls i) ≡ lev i
-      own-full = above-full (suc i) i (omega arith) small (own-in (typeOf i) z)
+      own-full = above-full (suc i) i (omega arith) small (own-in g (typeOf i) s z)
 
       own-carried : Carried cat cs ls i (stretchAbove cat cs ls i)
       own-carried = record { short = λ x. refl; full = λ x. own-full }

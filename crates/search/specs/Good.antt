@@ -1,12 +1,11 @@
 -- What a search asks of the lent blocks, and what a path gives it. Assumes nothing: these are definitions.
 use mathlib.Core.Path.{_≡_}
 use mathlib.Core.Bool.{true}
-use mathlib.Core.List.{List, _∷_, reverse}
+use mathlib.Core.List.{List, _∷_, _++_, reverse}
 use Prim.Native.Nat.{ℕ, _≤_, _<_}
 use lib.Dec.{ltb}
 use lib.ListN.{length}
 use Rattle.terms.specs.declared.TypeCode.{TypeCode}
-use Rattle.terms.specs.declared.Qualification.{Qualification}
 use Rattle.terms.specs.declared.Status.the-variants.{Blank}
 use Rattle.terms.specs.declared.Found.{Found}
 use Rattle.terms.specs.declared.Found.the-variants.{At, Nothing}
@@ -20,9 +19,10 @@ use Rattle.rules.specs.Arguments.{Level, listRead}
 use Rattle.rules.specs.Matching.{pathTo, firstMatch, keptOn}
 use Rattle.rules.specs.Tree.{tryPath}
 use Rattle.cells.specs.Lent.{Sized}
-use Rattle.arguments.specs.Sound.{GoodQualification}
+use Rattle.arguments.specs.Sound.{GoodQualification, wantedOf}
+use Rattle.arguments.specs.Asked.{Pair, Row, entryFor, entryOf, testAt}
 use Rattle.search.specs.declared.Reached.{Reached}
-use Rattle.search.specs.Stretch.{levels, stretch, stretchBefore}
+use Rattle.search.specs.Stretch.{levels, plainAbove, stretch, stretchBefore}
 
 -- a good table on a good catalogue, a sound list, and a type of that catalogue or 0
 pub record Good (cat tab list : Bytes) (size : ℕ) (t : TypeCode) : Type 0 where
@@ -32,12 +32,36 @@ pub record Good (cat tab list : Bytes) (size : ℕ) (t : TypeCode) : Type 0 wher
   pub sound : listRead cat list .fault ≡ Blank
   pub known : t .0 ≤ types cat
 
--- what a test of cell i asks: the qualification is one of the type that the cell has
-pub record Testable (cat tab list : Bytes) (size i : ℕ) (q : Qualification) : Type 0 where
+-- the same of two lists as one
+pub record Asking (cat tab one two : Bytes) (size : ℕ) (t : TypeCode) : Type 0 where
+  pub good : Good cat tab (one ++ two) size t
+  pub pair : Pair cat one two
+
+-- and with the row of what they ask
+pub record Told (cat tab one two row : Bytes) (size : ℕ) (t : TypeCode) : Type 0 where
+  pub good : Good cat tab (one ++ two) size t
+  pub pair : Pair cat one two
+  pub entries : Row row (entryOf cat (one ++ two) t)
+
+-- what a test of cell i asks: v is where the value of a test begins, of a field of the type that the cell has
+pub record Testable (cat tab list : Bytes) (size i v : ℕ) : Type 0 where
   pub catalogue : goodCatalogue cat ≡ true
   pub sized : Sized cat tab size
   pub cell : i < count tab
-  pub tests : GoodQualification cat list (segment (listing cat tab) i .code) q
+  pub behind : 3 ≤ v
+  pub tests : GoodQualification cat list (segment (listing cat tab) i .code) (testAt list v)
+
+-- e is the entry of two lists as one for the type that cell i has
+pub record Heeding (cat tab one two : Bytes) (size i e : ℕ) : Type 0 where
+  pub pair : Pair cat one two
+  pub sized : Sized cat tab size
+  pub cell : i < count tab
+  pub entry : e ≡ entryFor 0 (wantedOf (listRead cat (one ++ two) .arguments) (segment (listing cat tab) i .code))
+
+-- the list tests nothing but type t, and e is its entry for that
+pub record Lone (cat list : Bytes) (t : TypeCode) (e : ℕ) : Type 0 where
+  pub plain : plainAbove cat list t ≡ true
+  pub entry : e ≡ entryFor 0 (wantedOf (listRead cat list .arguments) t)
 
 -- none of the cells from `from` on and before r is a root
 pub record NextRoot (cs : List Segment) (from to r : ℕ) : Type 0 where

@@ -1,48 +1,117 @@
 // "Along the position" (document 000, formulas 36 to 38).
-use crate::forward::first_match;
+use crate::alone::forward_alone;
+use crate::beneath::forward_beneath;
 use crate::forward::forward;
 use crate::stretch::path_to;
+use arguments::alone::Tests;
+use arguments::alone::alone;
+use arguments::asked::ask;
 use catalogue::lineage::level;
 use cells::lookup::count;
 use cells::lookup::level_of;
-use cells::runs::run_end;
+use terms::CellNumber;
 use terms::Found;
 use terms::Place;
 use terms::TypeCode;
 ghost use mathlib.Core.Path.{_≡_};
 ghost use mathlib.Core.Bool.{true};
-ghost use Rattle.rules.specs.Matching.{kept, along};
+ghost use mathlib.Core.List.{_++_};
+ghost use Rattle.rules.specs.Matching.{firstMatch, kept, along};
 ghost use Rattle.rules.specs.Position.{goodPlace};
-ghost use Rattle.rules.specs.Table.{listing};
-ghost use Rattle.search.specs.Good.{Good};
+ghost use Rattle.rules.specs.Table.{count, listing};
+ghost use Rattle.search.specs.Good.{Asking, Told};
 ghost use Rattle.search.specs.Stretch.{levels};
 
 // "If the place is on a cell, take the longest stretch .. Keep the part of it down to and including its last implied level (nothing, if none)."
 // "In a gap nothing is kept."
-fn kept(cat: &[u8], tab: &[u8], size: usize, list: &[u8], t: TypeCode, place: Place) -> Found
-    requires { ⌜ Good (now cat) (now tab) (now list) size t × (goodPlace (now cat) (listing (now cat) (now tab)) place ≡ true) ⌝ }
-    ensures { λ r. ⌜ r ≡ kept (now (cat .entry)) (listing (now (cat .entry)) (now (tab .entry))) (levels (now (cat .entry)) (now (list .entry)) t) place ⌝ }
+fn kept(
+    cat: &[u8],
+    tab: &[u8],
+    size: usize,
+    one: &[u8],
+    two: &[u8],
+    asked: &[u16; 33],
+    t: TypeCode,
+    place: Place,
+) -> Found
+    requires { ⌜ Told (now cat) (now tab) (now one) (now two) (now asked) size t × (goodPlace (now cat) (listing (now cat) (now tab)) place ≡ true) ⌝ }
+    ensures { λ r. ⌜ r ≡ kept (now (cat .entry)) (listing (now (cat .entry)) (now (tab .entry)))
+        (levels (now (cat .entry)) (now (one .entry) ++ now (two .entry)) t) place ⌝ }
 {
     let Place::On(c) = place else {
         return Found::Nothing;
     };
-    let reached = path_to(cat, tab, size, list, t, c);
+    let reached = path_to(cat, tab, size, one, two, asked, t, c);
     reached.kept
 }
 
-// "The rest of the list is sought only beneath what was kept; if no list is left, the kept segment is the answer."
-pub fn along(cat: &[u8], tab: &[u8], size: usize, list: &[u8], t: TypeCode, place: Place) -> Found
-    requires { ⌜ Good (now cat) (now tab) (now list) size t × (goodPlace (now cat) (listing (now cat) (now tab)) place ≡ true) ⌝ }
-    ensures { λ r. ⌜ r ≡ along (now (cat .entry)) (listing (now (cat .entry)) (now (tab .entry))) (levels (now (cat .entry)) (now (list .entry)) t) place ⌝ }
+// The first match in cell order.
+fn first_of_all(
+    cat: &[u8],
+    tab: &[u8],
+    size: usize,
+    one: &[u8],
+    two: &[u8],
+    asked: &[u16; 33],
+    t: TypeCode,
+) -> Found
+    requires { ⌜ Told (now cat) (now tab) (now one) (now two) (now asked) size t ⌝ }
+    ensures { λ r. ⌜ r ≡ firstMatch (now (cat .entry)) (listing (now (cat .entry)) (now (tab .entry)))
+        (levels (now (cat .entry)) (now (one .entry) ++ now (two .entry)) t) 0 (count (now (tab .entry))) ⌝ }
 {
-    let Found::At(c) = kept(cat, tab, size, list, t, place) else {
-        return first_match(cat, tab, size, list, t, 0, count(tab));
+    let n = count(tab);
+    if n == 0 {
+        return Found::Nothing;
+    }
+    if t.0 == 0 {
+        return Found::At(CellNumber(0));
+    }
+    if let Tests::Own(e) = alone(cat, one, two, t) {
+        return forward_alone(cat, tab, size, one, two, t, e, 0, n);
+    }
+    forward(cat, tab, size, one, two, asked, t, 0, 0, n)
+}
+
+// "The rest of the list is sought only beneath what was kept; if no list is left, the kept segment is the answer."
+fn along_by(
+    cat: &[u8],
+    tab: &[u8],
+    size: usize,
+    one: &[u8],
+    two: &[u8],
+    asked: &[u16; 33],
+    t: TypeCode,
+    place: Place,
+) -> Found
+    requires { ⌜ Told (now cat) (now tab) (now one) (now two) (now asked) size t × (goodPlace (now cat) (listing (now cat) (now tab)) place ≡ true) ⌝ }
+    ensures { λ r. ⌜ r ≡ along (now (cat .entry)) (listing (now (cat .entry)) (now (tab .entry)))
+        (levels (now (cat .entry)) (now (one .entry) ++ now (two .entry)) t) place ⌝ }
+{
+    let Found::At(c) = kept(cat, tab, size, one, two, asked, t, place) else {
+        return first_of_all(cat, tab, size, one, two, asked, t);
     };
     let l = level_of(cat, tab, size, c);
     if l == level(cat, t) {
         return Found::At(c);
     }
-    let i = c.0;
-    let end = run_end(cat, tab, size, c);
-    forward(cat, tab, size, list, t, l, i + 1, end.0)
+    forward_beneath(cat, tab, size, one, two, asked, t, c, l, c.0 + 1)
+}
+
+// The same, with a row for the lists.
+pub fn along(
+    cat: &[u8],
+    tab: &[u8],
+    size: usize,
+    one: &[u8],
+    two: &[u8],
+    t: TypeCode,
+    place: Place,
+) -> Found
+    requires { ⌜ Asking (now cat) (now tab) (now one) (now two) size t × (goodPlace (now cat) (listing (now cat) (now tab)) place ≡ true) ⌝ }
+    ensures { λ r. ⌜ r ≡ along (now (cat .entry)) (listing (now (cat .entry)) (now (tab .entry)))
+        (levels (now (cat .entry)) (now (one .entry) ++ now (two .entry)) t) place ⌝ }
+{
+    let mut asked = [0u16; 33];
+    ask(cat, one, two, t, &mut asked);
+    along_by(cat, tab, size, one, two, &asked, t, place)
 }

@@ -1,8 +1,10 @@
 // "Beneath p": in a good table a cell's type tells whether p's run has come to its end, so that the end is not sought.
 use crate::alone::beneath_alone;
-use crate::alone::is_plain_above;
 use crate::stretch::path_to;
 use crate::stretch::stretched;
+use arguments::alone::Tests;
+use arguments::alone::alone;
+use arguments::asked::ask;
 use catalogue::lineage::is_beneath;
 use catalogue::lineage::level_by;
 use catalogue::lineage::levels;
@@ -13,13 +15,14 @@ use terms::CellNumber;
 use terms::Found;
 use terms::TypeCode;
 ghost use mathlib.Core.Path.{_≡_};
+ghost use mathlib.Core.List.{_++_};
 ghost use Prim.Native.Nat.{_≤_, _<_};
 ghost use lib.Dec.{ltb};
 ghost use Rattle.rules.specs.Cells.{endAt};
 ghost use Rattle.rules.specs.Matching.{firstMatch};
 ghost use Rattle.rules.specs.Table.{count, listing};
 ghost use Rattle.cells.specs.Sound.{Sound};
-ghost use Rattle.search.specs.Good.{Good, Beneath};
+ghost use Rattle.search.specs.Good.{Asking, Told, Beneath};
 ghost use Rattle.search.specs.Stretch.{levels, stretchBefore};
 
 // Whether cell i lies in p's run, which comes up to it at least.
@@ -36,20 +39,23 @@ pub fn is_within(cat: &[u8], tab: &[u8], size: usize, p: CellNumber, i: usize) -
 }
 
 // The first match from cell `from` on that lies beneath p; k is the stretch of the cell before.
-fn forward_beneath(
+pub(crate) fn forward_beneath(
     cat: &[u8],
     tab: &[u8],
     size: usize,
-    list: &[u8],
+    one: &[u8],
+    two: &[u8],
+    asked: &[u16; 33],
     t: TypeCode,
     p: CellNumber,
     k: u8,
     from: usize,
 ) -> Found
-    requires { ⌜ Good (now cat) (now tab) (now list) size t × Beneath (now cat) (now tab) t (p .0) from
-        × (k ≡ stretchBefore (now cat) (listing (now cat) (now tab)) (levels (now cat) (now list) t) from) ⌝ }
+    requires { ⌜ Told (now cat) (now tab) (now one) (now two) (now asked) size t × Beneath (now cat) (now tab) t (p .0) from
+        × (k ≡ stretchBefore (now cat) (listing (now cat) (now tab)) (levels (now cat) (now one ++ now two) t) from) ⌝ }
     ensures { λ r. ⌜ r ≡ firstMatch (now (cat .entry)) (listing (now (cat .entry)) (now (tab .entry)))
-        (levels (now (cat .entry)) (now (list .entry)) t) from (endAt (now (cat .entry)) (listing (now (cat .entry)) (now (tab .entry))) (p .0)) ⌝ }
+        (levels (now (cat .entry)) (now (one .entry) ++ now (two .entry)) t) from
+        (endAt (now (cat .entry)) (listing (now (cat .entry)) (now (tab .entry))) (p .0)) ⌝ }
 {
     let mut row = [0u8; 33];
     levels(cat, &mut row);
@@ -63,7 +69,7 @@ fn forward_beneath(
         }
         let c = CellNumber(i);
         let l = level_at(&row, cat, tab, size, c);
-        long = stretched(cat, tab, size, list, t, long, l, c);
+        long = stretched(cat, tab, size, one, two, asked, t, long, l, c);
         if l == last {
             if long == last {
                 return Found::At(c);
@@ -79,18 +85,22 @@ pub fn first_beneath(
     cat: &[u8],
     tab: &[u8],
     size: usize,
-    list: &[u8],
+    one: &[u8],
+    two: &[u8],
     t: TypeCode,
     p: CellNumber,
     from: usize,
 ) -> Found
-    requires { ⌜ Good (now cat) (now tab) (now list) size t × Beneath (now cat) (now tab) t (p .0) from ⌝ }
+    requires { ⌜ Asking (now cat) (now tab) (now one) (now two) size t × Beneath (now cat) (now tab) t (p .0) from ⌝ }
     ensures { λ r. ⌜ r ≡ firstMatch (now (cat .entry)) (listing (now (cat .entry)) (now (tab .entry)))
-        (levels (now (cat .entry)) (now (list .entry)) t) from (endAt (now (cat .entry)) (listing (now (cat .entry)) (now (tab .entry))) (p .0)) ⌝ }
+        (levels (now (cat .entry)) (now (one .entry) ++ now (two .entry)) t) from
+        (endAt (now (cat .entry)) (listing (now (cat .entry)) (now (tab .entry))) (p .0)) ⌝ }
 {
-    if is_plain_above(cat, list, t) {
-        return beneath_alone(cat, tab, size, list, t, p, from);
+    if let Tests::Own(e) = alone(cat, one, two, t) {
+        return beneath_alone(cat, tab, size, one, two, t, e, p, from);
     }
-    let before = path_to(cat, tab, size, list, t, CellNumber(from - 1));
-    forward_beneath(cat, tab, size, list, t, p, before.long, from)
+    let mut asked = [0u16; 33];
+    ask(cat, one, two, t, &mut asked);
+    let before = path_to(cat, tab, size, one, two, &asked, t, CellNumber(from - 1));
+    forward_beneath(cat, tab, size, one, two, &asked, t, p, before.long, from)
 }

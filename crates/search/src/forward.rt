@@ -1,8 +1,10 @@
 // The pass forward: "first match after the place", "beneath p".
 use crate::alone::forward_alone;
-use crate::alone::is_plain_above;
 use crate::stretch::path_to;
 use crate::stretch::stretched;
+use arguments::alone::Tests;
+use arguments::alone::alone;
+use arguments::asked::ask;
 use catalogue::lineage::level_by;
 use catalogue::lineage::levels;
 use cells::lookup::code_at;
@@ -11,11 +13,12 @@ use terms::CellNumber;
 use terms::Found;
 use terms::TypeCode;
 ghost use mathlib.Core.Path.{_≡_};
+ghost use mathlib.Core.List.{_++_};
 ghost use Prim.Native.Nat.{_≤_, _<_};
 ghost use Rattle.rules.specs.Matching.{firstMatch};
 ghost use Rattle.rules.specs.Table.{count, listing};
 ghost use Rattle.cells.specs.Lent.{Sized};
-ghost use Rattle.search.specs.Good.{Good, NextRoot, Upcoming};
+ghost use Rattle.search.specs.Good.{Good, Asking, Told, NextRoot, Upcoming};
 ghost use Rattle.search.specs.Stretch.{levels, stretchBefore};
 
 // The first cell of the root's type from `from` on and before `to`; or `to`.
@@ -38,15 +41,16 @@ fn upcoming(
     cat: &[u8],
     tab: &[u8],
     size: usize,
-    list: &[u8],
+    one: &[u8],
+    two: &[u8],
     t: TypeCode,
     k: u8,
     from: usize,
     to: usize,
 ) -> usize
-    requires { ⌜ Good (now cat) (now tab) (now list) size t × (0 < t .0) × (to ≤ count (now tab))
-        × (k ≡ stretchBefore (now cat) (listing (now cat) (now tab)) (levels (now cat) (now list) t) from) × (from ≤ to) ⌝ }
-    ensures { λ r. ⌜ Upcoming (now (cat .entry)) (now (tab .entry)) (now (list .entry)) t k from to r ⌝ }
+    requires { ⌜ Good (now cat) (now tab) (now one ++ now two) size t × (0 < t .0) × (to ≤ count (now tab))
+        × (k ≡ stretchBefore (now cat) (listing (now cat) (now tab)) (levels (now cat) (now one ++ now two) t) from) × (from ≤ to) ⌝ }
+    ensures { λ r. ⌜ Upcoming (now (cat .entry)) (now (tab .entry)) (now (one .entry) ++ now (two .entry)) t k from to r ⌝ }
 {
     if k != 0 {
         return from;
@@ -55,20 +59,22 @@ fn upcoming(
 }
 
 // The first match from cell `from` on and before cell `to`; k is the stretch of the cell before.
-pub fn forward(
+pub(crate) fn forward(
     cat: &[u8],
     tab: &[u8],
     size: usize,
-    list: &[u8],
+    one: &[u8],
+    two: &[u8],
+    asked: &[u16; 33],
     t: TypeCode,
     k: u8,
     from: usize,
     to: usize,
 ) -> Found
-    requires { ⌜ Good (now cat) (now tab) (now list) size t × (0 < t .0) × (to ≤ count (now tab))
-        × (k ≡ stretchBefore (now cat) (listing (now cat) (now tab)) (levels (now cat) (now list) t) from) ⌝ }
+    requires { ⌜ Told (now cat) (now tab) (now one) (now two) (now asked) size t × (0 < t .0) × (to ≤ count (now tab))
+        × (k ≡ stretchBefore (now cat) (listing (now cat) (now tab)) (levels (now cat) (now one ++ now two) t) from) ⌝ }
     ensures { λ r. ⌜ r ≡ firstMatch (now (cat .entry)) (listing (now (cat .entry)) (now (tab .entry)))
-        (levels (now (cat .entry)) (now (list .entry)) t) from to ⌝ }
+        (levels (now (cat .entry)) (now (one .entry) ++ now (two .entry)) t) from to ⌝ }
 {
     let mut row = [0u8; 33];
     levels(cat, &mut row);
@@ -76,13 +82,13 @@ pub fn forward(
     let mut long = k;
     let mut i = from;
     while i < to {
-        i = upcoming(cat, tab, size, list, t, long, i, to);
+        i = upcoming(cat, tab, size, one, two, t, long, i, to);
         if to <= i {
             return Found::Nothing;
         }
         let c = CellNumber(i);
         let l = level_at(&row, cat, tab, size, c);
-        long = stretched(cat, tab, size, list, t, long, l, c);
+        long = stretched(cat, tab, size, one, two, asked, t, long, l, c);
         if l == last {
             if long == last {
                 return Found::At(c);
@@ -93,19 +99,20 @@ pub fn forward(
     Found::Nothing
 }
 
-// The same from any cell. Where the list tests a type above its last it climbs once, for the cell before. "The empty list matches every segment."
+// The same from any cell. Where the lists test a type above their last it climbs once, for the cell before. "The empty list matches every segment."
 pub fn first_match(
     cat: &[u8],
     tab: &[u8],
     size: usize,
-    list: &[u8],
+    one: &[u8],
+    two: &[u8],
     t: TypeCode,
     from: usize,
     to: usize,
 ) -> Found
-    requires { ⌜ Good (now cat) (now tab) (now list) size t × (to ≤ count (now tab)) ⌝ }
+    requires { ⌜ Asking (now cat) (now tab) (now one) (now two) size t × (to ≤ count (now tab)) ⌝ }
     ensures { λ r. ⌜ r ≡ firstMatch (now (cat .entry)) (listing (now (cat .entry)) (now (tab .entry)))
-        (levels (now (cat .entry)) (now (list .entry)) t) from to ⌝ }
+        (levels (now (cat .entry)) (now (one .entry) ++ now (two .entry)) t) from to ⌝ }
 {
     if to <= from {
         return Found::Nothing;
@@ -113,12 +120,14 @@ pub fn first_match(
     if t.0 == 0 {
         return Found::At(CellNumber(from));
     }
-    if is_plain_above(cat, list, t) {
-        return forward_alone(cat, tab, size, list, t, from, to);
+    if let Tests::Own(e) = alone(cat, one, two, t) {
+        return forward_alone(cat, tab, size, one, two, t, e, from, to);
     }
+    let mut asked = [0u16; 33];
+    ask(cat, one, two, t, &mut asked);
     if from == 0 {
-        return forward(cat, tab, size, list, t, 0, from, to);
+        return forward(cat, tab, size, one, two, &asked, t, 0, from, to);
     }
-    let before = path_to(cat, tab, size, list, t, CellNumber(from - 1));
-    forward(cat, tab, size, list, t, before.long, from, to)
+    let before = path_to(cat, tab, size, one, two, &asked, t, CellNumber(from - 1));
+    forward(cat, tab, size, one, two, &asked, t, before.long, from, to)
 }

@@ -1,6 +1,7 @@
-// Which segments match a list: the first one after a place and before an end, and the first one along the position.
-// A search is one pass forward that carries one number, how far down its path the last cell agreed with the list; it climbs once, at its start.
-// Where the list tests nothing above its last type it carries nothing: each cell tells by itself (`alone`).
+// Which segments match two lists as one: the first one after a place and before an end, and the first one along the position.
+// A search is one pass forward that carries one number, how far down its path the last cell agreed with the lists; it climbs once, at its start. What is
+// asked of each type stands in a row that the search fills once.
+// Where nothing is tested above the last type it carries nothing and needs no row: each cell tells by itself (`alone`).
 use terms::Found;
 
 pub mod agree;

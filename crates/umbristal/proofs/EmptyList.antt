@@ -1,6 +1,7 @@
 -- GN with an empty list on sound blocks: nothing refuses it, and what it leaves is what the calls promise. Assumes nothing.
 use mathlib.Core.Path.{_≡_, refl, ap, sym, _∙_, subst}
 use mathlib.Core.Bool.{true, false, _&&_}
+use mathlib.Core.List.{[]}
 use Prim.Native.Nat.{ℕ, suc, _-_, _<_, _≤_}
 use native.Mathlib.Omega.{arith}
 use lib.Dec.{leb, eqb}
@@ -12,7 +13,7 @@ use Rattle.terms.specs.declared.Answer.{Answer}
 use Rattle.forest.specs.Good.{both-left, both-right}
 use Rattle.rules.specs.Block.{Bytes, byte}
 use Rattle.rules.specs.Table.{cellSize, listing}
-use Rattle.rules.specs.Arguments.{ListRead, listRead, getLevels}
+use Rattle.rules.specs.Arguments.{ListRead}
 use Rattle.rules.specs.Calls.{getNext}
 use Rattle.rules.specs.Outcome.{misused, soundOutcome, landed}
 use Rattle.cells.proofs.Located.{good-housed}
@@ -22,6 +23,7 @@ use Rattle.arguments.proofs.Sound.{list-empty}
 use Rattle.refusals.specs.Refusals.{tooShort, misusedGet}
 use Rattle.refusals.proofs.Order.{get-misused}
 use Rattle.answers.specs.Ready.{SoundFor, Ready, made, left as leftBy}
+use Rattle.gets.proofs.Gotten.{ready-none, next-empty}
 use Rattle.dli.proofs.Calls.{five-in, callable, ready, did-next}
 use Rattle.umbristal.specs.Face.{soundFace, isStep}
 
@@ -66,14 +68,16 @@ module _ (cat tab : Bytes) (pos : Position) (list area : Bytes) (f : SoundFor ca
         let l : cellSize cat - 1 ≤ length area = omega (arith, step-long tab 2 list area e, good-housed cat tab (f .table) .told) in
         sym (sym (get-misused cat pos 2 list area (cellSize cat) refl list-sound (λ z. omega arith) (omega arith)) ∙ rw (le-ltb (length area) (cellSize cat - 1) l))
 
-    pub step-ready : (size : ℕ) → size ≡ byte tab 5 → Ready cat tab size pos list × (size ≤ suc (length area))
-    step-ready size w = (
-      ready cat tab pos 2 list area (callable cat tab pos 2 list area f Blank 0 none-misused refl refl size w),
-      omega (arith, step-long tab 2 list area e),
-    )
+    asked : (size : ℕ) → size ≡ byte tab 5 → Ready cat tab size pos list
+    asked size w = ready cat tab pos 2 list area (callable cat tab pos 2 list area f Blank 0 none-misused refl refl size w)
 
-    pub step-made : (a : Answer) (r : Bytes) → leftBy a r ≡ getNext cat (listing cat tab) pos area false (getLevels cat list (listRead cat list .arguments)) → made a tab r ≡ soundOutcome cat tab pos 2 list area
-    step-made a r h = ap (landed cat tab) h ∙ did-next cat tab pos 2 list area f Blank 0 none-misused refl refl refl
+    pub step-ready : (size : ℕ) → size ≡ byte tab 5 → Ready cat tab size pos [] × (size ≤ suc (length area))
+    step-ready size w = (ready-none (asked size w), omega (arith, step-long tab 2 list area e))
+
+    pub step-made : (a : Answer) (r : Bytes) → leftBy a r ≡ getNext cat (listing cat tab) pos area false [] → made a tab r ≡ soundOutcome cat tab pos 2 list area
+    step-made a r h =
+        ap (landed cat tab) (h ∙ next-empty (asked (byte tab 5) refl) area false (step-empty tab 2 list area e))
+        ∙ did-next cat tab pos 2 list area f Blank 0 none-misused refl refl refl
 
 -- the promise for the number that the test accepted
 pub step-left : (cat tab block : Bytes) (c : ℕ) (list area : Bytes) → isStep tab c list area ≡ true → soundFace cat tab block 2 list area ≡ soundFace cat tab block c list area

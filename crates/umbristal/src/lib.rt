@@ -115,7 +115,7 @@ fn step(cat: &[u8], tab: &[u8], pos: &mut [u8], list: &[u8], area: &mut [u8]) ->
 {
     let size = wide(tab[5]);
     let p = position_of(pos);
-    let a = gets::get_next(cat, tab, size, p, list, area, false);
+    let a = gets::get_next_cell(cat, tab, size, p, area, false);
     lent::leave(pos, a)
 }
 

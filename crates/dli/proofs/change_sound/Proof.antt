@@ -42,9 +42,9 @@ returns c = let ·args = c .before .before .before .before .before .before .befo
     (·args .cat .now) (·args .tab .now) (·args .pos) (·args .number) (·args .list .now) (·args .area .now)
     (·misused-sound .result) (·number .result) (·misused-sound .ensures) (·number .ensures) (c .before .if1 .taken)
 
--- src/lib.rt: called_change(cat, tab, size, pos, number, list, area)
-called-change-requires : tie.Need-called-change-requires
-called-change-requires c κs =
+-- src/lib.rt: called_change_sound(cat, tab, size, pos, number, list, area)
+called-change-sound-requires : tie.Need-called-change-sound-requires
+called-change-sound-requires c κs =
     let ·args = c .before .before .before .before .before .before .before .before .before .before .args in
     let ·pre = c .before .before .before .before .before .before .before .before .before .before .pre in
     let ·misused-sound = c .before .before .before .misused-sound in let ·number = c .before .before .number in
@@ -61,14 +61,14 @@ same-length c = search needs
 
 -- src/lib.rt: pub fn change_sound(
 returns-2 : tie.Need-returns-2
-returns-2 c = let ·called-change = c .before .before .called-change in
+returns-2 c = let ·called-change-sound = c .before .before .called-change-sound in
     let ·args = c .before .before .before .before .before .before .before .before .before .before .before .before
     .before .args in
     let ·pre = c .before .before .before .before .before .before .before .before .before .before .before .before .before
     .pre in let ·misused-sound = c .before .before .before .before .before .before .misused-sound in
     let ·number = c .before .before .before .before .before .number in
     let ·if1 = c .before .before .before .before .if1 in
-    ·called-change .ensures ∙ did-call (·args .cat .now) (·args .tab .now) (·args .pos) (·args .number)
+    ·called-change-sound .ensures ∙ did-call (·args .cat .now) (·args .tab .now) (·args .pos) (·args .number)
     (·args .list .now) (·args .area .now) (·pre .0) (·misused-sound .result) (·number .result) (·misused-sound .ensures)
     (·number .ensures) (·if1 .left)
 
@@ -82,6 +82,6 @@ change-sound-spec =
     number-requires
     stopped-requires
     returns
-    called-change-requires
+    called-change-sound-requires
     same-length
     returns-2)

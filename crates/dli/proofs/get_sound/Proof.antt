@@ -47,9 +47,9 @@ returns c =
     (·args .cat .now) (·args .tab .now) (·args .pos) (·args .number) (·args .list .now) (·args .area .now)
     (·misused-sound .result) (·number .result) (·misused-sound .ensures) (·number .ensures) (c .before .if1 .taken)
 
--- src/lib.rt: called_get(cat, tab, size, pos, number, list, area)
-called-get-requires : tie.Need-called-get-requires
-called-get-requires c κs =
+-- src/lib.rt: called_get_sound(cat, tab, size, pos, number, list, area)
+called-get-sound-requires : tie.Need-called-get-sound-requires
+called-get-sound-requires c κs =
     let ·args = c .before .before .before .before .before .before .before .before .before .before .before .args in
     let ·pre = c .before .before .before .before .before .before .before .before .before .before .before .pre in
     let ·misused-sound = c .before .before .before .misused-sound in let ·number = c .before .before .number in
@@ -66,16 +66,16 @@ same-length-2 c = search needs
 
 -- src/lib.rt: pub fn get_sound(
 returns-2 : tie.Need-returns-2
-returns-2 c = let ·called-get = c .before .before .called-get in
+returns-2 c = let ·called-get-sound = c .before .before .called-get-sound in
     let ·args = c .before .before .before .before .before .before .before .before .before .before .before .before
     .before .before .args in
     let ·pre = c .before .before .before .before .before .before .before .before .before .before .before .before .before
     .before .pre in let ·misused-sound = c .before .before .before .before .before .before .misused-sound in
     let ·number = c .before .before .before .before .before .number in
     let ·if1 = c .before .before .before .before .if1 in
-    ·called-get .ensures ∙ did-call (·args .cat .now) (·args .tab .now) (·args .pos) (·args .number) (·args .list .now)
-    (·args .area .now) (·pre .0) (·misused-sound .result) (·number .result) (·misused-sound .ensures) (·number .ensures)
-    (·if1 .left)
+    ·called-get-sound .ensures ∙ did-call (·args .cat .now) (·args .tab .now) (·args .pos) (·args .number)
+    (·args .list .now) (·args .area .now) (·pre .0) (·misused-sound .result) (·number .result) (·misused-sound .ensures)
+    (·number .ensures) (·if1 .left)
 
 pub get-sound-spec : {M : Type 1} → statement M
 get-sound-spec =
@@ -88,6 +88,6 @@ get-sound-spec =
     stopped-requires
     same-length
     returns
-    called-get-requires
+    called-get-sound-requires
     same-length-2
     returns-2)

@@ -3,19 +3,19 @@ use native.Mathlib.Omega.{arith}
 use Rattle.answers.specs.Ready.{left}
 use Rattle.terms.specs.declared.Answer.{Answer}
 use Rattle.gets.proofs.Found.{after-in}
-use Rattle.gets.proofs.Gotten.{ready-none, status-none, cell-found, cell-missed}
+use Rattle.gets.proofs.Gotten.{cell-found, cell-missed}
 use borrow.Author.Needs.{needs}
 use Rattle.gets.proofs.get_next_cell.Statement.{statement}
 use Rattle.gets.proofs.get_next_cell.Tie as tie
 
 -- src/lib.rt: let i = after_place(place);
 after-place-requires : tie.Need-after-place-requires
-after-place-requires c κs = let ·args = c .before .before .before .before .args in
+after-place-requires c κs = let ·args = c .before .before .before .args in
     omega (
       arith,
       after-in (·args .cat .now) (·args .tab .now) (·args .pos)
-          (c .before .before .before .before .pre .0 .position),
-      c .before .before .before .before .pre .0 .sound .sized .few,
+          (c .before .before .before .pre .0 .position),
+      c .before .before .before .pre .0 .sound .sized .few,
     )
 
 -- src/lib.rt: if count(tab) <= i {
@@ -28,40 +28,36 @@ missed-requires c κs = search needs
 
 -- src/lib.rt: return missed(Status::GB, pos);
 returns : tie.Need-returns
-returns c = let ·args = c .before .before .before .before .before .before .before .before .args in
-    let ·pre = c .before .before .before .before .before .before .before .before .pre in
+returns c = let ·args = c .before .before .before .before .before .before .before .args in
+    let ·pre = c .before .before .before .before .before .before .before .pre in
     let ·after-place = c .before .before .before .after-place in let ·count = c .before .before .count in
     ap (λ (r : Answer). left r (·args .area .now)) (c .missed .ensures) ∙ cell-missed (·pre .0) (·args .area .now)
-    (·args .hold) (·pre .2) (·after-place .result) (·after-place .ensures) (·count .result) (·count .ensures .0)
+    (·args .hold) (·after-place .result) (·after-place .ensures) (·count .result) (·count .ensures .0)
     (c .before .if1 .taken)
 
 -- src/lib.rt: let s = level_status(cat, tab, size, pos, c);
 level-status-requires : tie.Need-level-status-requires
-level-status-requires c κs = (
-  ready-none (c .before .before .before .before .before .before .before .pre .0),
-  search needs,
-)
+level-status-requires c κs = search needs
 
 -- src/lib.rt: got(cat, tab, size, c, s, Parentage::Of(c), hold, pos, area)
 got-requires : tie.Need-got-requires
 got-requires c κs = search needs
 
--- src/lib.rt: fn get_next_cell(
+-- src/lib.rt: pub fn get_next_cell(
 same-length : tie.Need-same-length
 same-length c = search needs
 
--- src/lib.rt: fn get_next_cell(
+-- src/lib.rt: pub fn get_next_cell(
 returns-2 : tie.Need-returns-2
 returns-2 c = let ·got = c .before .before .got in
-    let ·pre = c .before .before .before .before .before .before .before .before .before .before .before .before .pre in
-    let ·args = c .before .before .before .before .before .before .before .before .before .before .before .before .args
-    in let ·after-place = c .before .before .before .before .before .before .before .after-place in
+    let ·pre = c .before .before .before .before .before .before .before .before .before .before .before .pre in
+    let ·args = c .before .before .before .before .before .before .before .before .before .before .before .args in
+    let ·after-place = c .before .before .before .before .before .before .before .after-place in
     let ·count = c .before .before .before .before .before .before .count in
     let ·level-status = c .before .before .before .before .level-status in
     let ·if1 = c .before .before .before .before .before .if1 in
-    ·got .ensures ∙ cell-found (·pre .0) (·args .area .now) (·args .hold) (·pre .2) (·after-place .result)
-    (·after-place .ensures) (·count .result) (·count .ensures .0) (·level-status .result) (·if1 .left)
-    (·level-status .ensures ∙ status-none (·pre .0) (·after-place .result) (·pre .2))
+    ·got .ensures ∙ cell-found (·pre .0) (·args .area .now) (·args .hold) (·after-place .result) (·after-place .ensures)
+    (·count .result) (·count .ensures .0) (·level-status .result) (·if1 .left) (·level-status .ensures)
 
 pub get-next-cell-spec : {M : Type 1} → statement M
 get-next-cell-spec =

@@ -7,34 +7,32 @@ use Rattle.rules.specs.Table.{listing}
 use Rattle.rules.proofs.Cells.{listing-length}
 use Rattle.cells.proofs.Located.{end-within}
 use Rattle.gets.proofs.Found.{after-in, parent-in, around}
-use Rattle.gets.proofs.Gotten.{ready-none, status-none, cell-in-run, cell-within, cell-outside}
+use Rattle.gets.proofs.Gotten.{cell-in-run, cell-within, cell-outside}
 use borrow.Author.Needs.{needs}
 use Rattle.gets.proofs.get_next_cell_within.Statement.{statement}
 use Rattle.gets.proofs.get_next_cell_within.Tie as tie
 
 -- src/lib.rt: let i = after_place(place);
 after-place-requires : tie.Need-after-place-requires
-after-place-requires c κs = let ·args = c .before .before .before .before .args in
+after-place-requires c κs = let ·args = c .before .before .before .args in
     omega (
       arith,
       after-in (·args .cat .now) (·args .tab .now) (·args .pos)
-          (c .before .before .before .before .pre .0 .position),
-      c .before .before .before .before .pre .0 .sound .sized .few,
+          (c .before .before .before .pre .0 .position),
+      c .before .before .before .pre .0 .sound .sized .few,
     )
 
 -- src/lib.rt: if !is_within(cat, tab, size, p, i) {
 is-within-requires : tie.Need-is-within-requires
-is-within-requires c κs = let ·args = c .before .before .before .before .before .args in
+is-within-requires c κs = let ·args = c .before .before .before .before .args in
     let a = around (·args .cat .now) (·args .tab .now) (·args .pos)
-    (c .before .before .before .before .before .pre .0 .position) (·args .p)
-    (c .before .before .before .before .before .pre .3) in (
-      c .before .before .before .before .before .pre .0 .sound,
+    (c .before .before .before .before .pre .0 .position) (·args .p) (c .before .before .before .before .pre .2) in (
+      c .before .before .before .before .pre .0 .sound,
       omega (arith, a .0, c .after-place .ensures),
       omega
           (arith, a .1, c .after-place .ensures),
       parent-in (·args .cat .now) (·args .tab .now) (·args .pos)
-          (c .before .before .before .before .before .pre .0 .position) (·args .p)
-          (c .before .before .before .before .before .pre .3),
+          (c .before .before .before .before .pre .0 .position) (·args .p) (c .before .before .before .before .pre .2),
     )
 
 -- src/lib.rt: return missed(Status::GE, pos);
@@ -43,31 +41,30 @@ missed-requires c κs = search needs
 
 -- src/lib.rt: return missed(Status::GE, pos);
 returns : tie.Need-returns
-returns c = let ·args = c .before .before .before .before .before .before .before .before .args in
-    let ·pre = c .before .before .before .before .before .before .before .before .pre in
+returns c = let ·args = c .before .before .before .before .before .before .before .args in
+    let ·pre = c .before .before .before .before .before .before .before .pre in
     let ·after-place = c .before .before .before .after-place in let ·is-within = c .before .before .is-within in
     ap (λ (r : Answer). left r (·args .area .now)) (c .missed .ensures) ∙ cell-outside (·pre .0) (·args .area .now)
-    (·args .hold) (·pre .2) (·after-place .result) (·after-place .ensures) (·args .p) (·pre .3) (·is-within .result)
+    (·args .hold) (·after-place .result) (·after-place .ensures) (·args .p) (·pre .2) (·is-within .result)
     (·is-within .ensures) (not-true _ (c .before .if1 .taken))
 
 -- src/lib.rt: let s = level_status(cat, tab, size, pos, c);
 level-status-requires : tie.Need-level-status-requires
-level-status-requires c κs = let ·pre = c .before .before .before .before .before .before .before .pre in
-    let ·args = c .before .before .before .before .before .before .before .args in (
-      ready-none (·pre .0),
-      cell-in-run _ _ _ _
-          (parent-in (·args .cat .now) (·args .tab .now) (·args .pos) (·pre .0 .position) (·args .p) (·pre .3))
-          (sym (c .before .is-within .ensures) ∙ not-false _ (c .if1 .left)),
+level-status-requires c κs = let ·pre = c .before .before .before .before .before .before .pre in
+    let ·args = c .before .before .before .before .before .before .args in (
+      ·pre .0,
+      cell-in-run _ _ _ _ (parent-in (·args .cat .now) (·args .tab .now) (·args .pos) (·pre .0 .position)
+          (·args .p) (·pre .2)) (sym (c .before .is-within .ensures) ∙ not-false _ (c .if1 .left)),
     )
 
 -- src/lib.rt: got(cat, tab, size, c, s, Parentage::Of(p), hold, pos, area)
 got-requires : tie.Need-got-requires
-got-requires c κs = let ·pre = c .before .before .before .before .before .before .before .before .before .pre in
-    let ·args = c .before .before .before .before .before .before .before .before .before .args in
+got-requires c κs = let ·pre = c .before .before .before .before .before .before .before .before .pre in
+    let ·args = c .before .before .before .before .before .before .before .before .args in
     let ·is-within = c .before .before .before .is-within in let ·if1 = c .before .before .if1 in (
       ·pre .0 .sound,
       cell-in-run _ _ _ _ (parent-in (·args .cat .now) (·args .tab .now) (·args .pos) (·pre .0 .position)
-          (·args .p) (·pre .3)) (sym (·is-within .ensures) ∙ not-false _ (·if1 .left)),
+          (·args .p) (·pre .2)) (sym (·is-within .ensures) ∙ not-false _ (·if1 .left)),
       ·pre .1,
     )
 
@@ -78,15 +75,15 @@ same-length c = search needs
 -- src/lib.rt: fn get_next_cell_within(
 returns-2 : tie.Need-returns-2
 returns-2 c = let ·got = c .before .before .got in
-    let ·pre = c .before .before .before .before .before .before .before .before .before .before .before .before .pre in
-    let ·args = c .before .before .before .before .before .before .before .before .before .before .before .before .args
-    in let ·after-place = c .before .before .before .before .before .before .before .after-place in
+    let ·pre = c .before .before .before .before .before .before .before .before .before .before .before .pre in
+    let ·args = c .before .before .before .before .before .before .before .before .before .before .before .args in
+    let ·after-place = c .before .before .before .before .before .before .before .after-place in
     let ·is-within = c .before .before .before .before .before .before .is-within in
     let ·level-status = c .before .before .before .before .level-status in
     let ·if1 = c .before .before .before .before .before .if1 in
-    ·got .ensures ∙ cell-within (·pre .0) (·args .area .now) (·args .hold) (·pre .2) (·after-place .result)
-    (·after-place .ensures) (·args .p) (·pre .3) (·is-within .result) (·is-within .ensures) (·level-status .result)
-    (not-false _ (·if1 .left)) (·level-status .ensures ∙ status-none (·pre .0) (·after-place .result) (·pre .2))
+    ·got .ensures ∙ cell-within (·pre .0) (·args .area .now) (·args .hold) (·after-place .result)
+    (·after-place .ensures) (·args .p) (·pre .2) (·is-within .result) (·is-within .ensures) (·level-status .result)
+    (not-false _ (·if1 .left)) (·level-status .ensures)
 
 pub get-next-cell-within-spec : {M : Type 1} → statement M
 get-next-cell-within-spec =

@@ -10,16 +10,16 @@ shared-slice-read-wide c = search needs
 wide-requires : tie.Need-wide-requires
 wide-requires c κs = search needs
 
--- src/lib.rt: gets::get_next_within(cat, tab, size, pos, list, area, false)
+-- src/lib.rt: gets::get_next_within(cat, tab, size, pos, one, two, area, false)
 get-next-within-requires : tie.Need-get-next-within-requires
-get-next-within-requires c κs = let ·pre = c .before .before .before .before .before .before .before .pre in
+get-next-within-requires c κs = let ·pre = c .before .before .before .before .before .before .before .before .pre in
     rw (c .before .wide .ensures .0) (·pre)
 
--- src/lib.rt: fn call_within(cat: &[u8], tab: &[u8], list: &[u8], pos: Position, area: &mut [u8]) -> Answer
+-- src/lib.rt: fn call_within(
 same-length : tie.Need-same-length
 same-length c = search needs
 
--- src/lib.rt: fn call_within(cat: &[u8], tab: &[u8], list: &[u8], pos: Position, area: &mut [u8]) -> Answer
+-- src/lib.rt: fn call_within(
 returns : tie.Need-returns
 returns c = search needs
 

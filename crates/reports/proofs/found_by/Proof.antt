@@ -12,13 +12,14 @@ nested-sound-requires : tie.Need-nested-sound-requires
 nested-sound-requires c κs = let ·pre = c .before .before .before .before .before .before .before .before .pre in
     rw (told-size (·pre .first)) at (·pre)
 
--- src/lib.rt: Way::Joined => joined_sound(cat, tab, size, one, two, out),
+-- src/lib.rt: Way::Joined => joined_sound(cat, tab, one, two, out),
 enum-told-2 : tie.Need-enum-told-2
 enum-told-2 c = search needs
 
--- src/lib.rt: Way::Joined => joined_sound(cat, tab, size, one, two, out),
+-- src/lib.rt: Way::Joined => joined_sound(cat, tab, one, two, out),
 joined-sound-requires : tie.Need-joined-sound-requires
-joined-sound-requires c κs = search needs
+joined-sound-requires c κs = let ·pre = c .before .before .before .before .before .before .before .before .pre in
+    rw (told-size (·pre .first)) at (·pre)
 
 -- src/lib.rt: Way::Plain => plain_sound(cat, tab, size, one, two, out),
 enum-told-3 : tie.Need-enum-told-3

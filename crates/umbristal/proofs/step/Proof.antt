@@ -21,9 +21,8 @@ wide-requires c κs = search needs
 position-of-requires : tie.Need-position-of-requires
 position-of-requires c κs = search needs
 
--- src/lib.rt: let a = gets::get_next(cat, tab, size, p, list, area, false);
-get-next-requires : tie.Need-get-next-requires
-get-next-requires c κs =
+get-next-cell-requires : tie.Need-get-next-cell-requires
+get-next-cell-requires c κs =
     let ·args = c .before .before .before .before .before .before .before .before .before .before .args in
     let ·pre = c .before .before .before .before .before .before .before .before .before .before .pre in
     let ·wide = c .before .before .before .wide in
@@ -39,8 +38,8 @@ leave-requires c κs =
     .before .before .args in
     sound-fits (·args .cat .now) (·args .tab .now) (·args .pos .now) 2 (·args .list .now) (·args .area .now)
     (c .before .before .before .before .before .position-of .result)
-    (c .before .before .before .before .before .position-of .ensures) (c .before .before .before .get-next .result)
-    (·args .tab .now) (c .before .before .before .get-next .last .1 .1 .1 .1 .1 .0)
+    (c .before .before .before .before .before .position-of .ensures) (c .before .before .before .get-next-cell .result)
+    (·args .tab .now) (c .before .before .before .get-next-cell .last .1 .1 .1 .1 .0)
     (λ i. omega (
       arith,
       c .before .before .before .before .before .before .before .before .before .before .before
@@ -55,9 +54,8 @@ leave-requires c κs =
     (c .before .before .before .before .before .position-of .ensures)
     (c .before .before .before .before .before .before .before .before .before .before .before .before .before .before
     .pre .0)) (c .before .before .before .before .before .before .before .before .before .before .before .before .before
-    .before .pre .1) (c .before .before .before .get-next .result)
-    (c .before .before .before .get-next .last .1 .1 .1 .1 .1 .0)
-    (c .before .before .before .get-next .ensures))
+    .before .pre .1) (c .before .before .before .get-next-cell .result)
+    (c .before .before .before .get-next-cell .last .1 .1 .1 .1 .0) (c .before .before .before .get-next-cell .ensures))
 
 -- src/lib.rt: fn step(cat: &[u8], tab: &[u8], pos: &mut [u8], list: &[u8], area: &mut [u8]) -> u64
 same-length : tie.Need-same-length
@@ -73,17 +71,17 @@ returns c =
     let ·args = c .before .before .before .before .before .before .before .before .before .before .before .before
     .before .before .before .before .before .args in
     let ·position-of = c .before .before .before .before .before .before .before .before .position-of in
-    let ·get-next = c .before .before .before .before .before .before .get-next in
+    let ·get-next-cell = c .before .before .before .before .before .before .get-next-cell in
     let ·leave = c .before .before .leave in
     let ·pre = c .before .before .before .before .before .before .before .before .before .before .before .before .before
     .before .before .before .before .pre in
     sound-left (·args .cat .now) (·args .tab .now) (·args .pos .now) 2 (·args .list .now) (·args .area .now)
-    (·position-of .result) (·position-of .ensures) (·get-next .result) (·args .tab .now)
-    (·get-next .last .1 .1 .1 .1 .1 .0) (·leave .result) (·leave .last .0) (·leave .ensures .0)
-    (·leave .ensures .1) (step-made (·args .cat .now) (·args .tab .now) (·position-of .result) (·args .list .now)
-    (·args .area .now) (sound-read (·args .cat .now) (·args .tab .now) (·args .pos .now) 2 (·args .list .now)
-    (·args .area .now) (·position-of .result) (·position-of .ensures) (·pre .0)) (·pre .1) (·get-next .result)
-    (·get-next .last .1 .1 .1 .1 .1 .0) (·get-next .ensures))
+    (·position-of .result) (·position-of .ensures) (·get-next-cell .result) (·args .tab .now)
+    (·get-next-cell .last .1 .1 .1 .1 .0) (·leave .result) (·leave .last .0) (·leave .ensures .0) (·leave .ensures .1)
+    (step-made (·args .cat .now) (·args .tab .now) (·position-of .result) (·args .list .now) (·args .area .now)
+    (sound-read (·args .cat .now) (·args .tab .now) (·args .pos .now) 2 (·args .list .now) (·args .area .now)
+    (·position-of .result) (·position-of .ensures) (·pre .0)) (·pre .1) (·get-next-cell .result)
+    (·get-next-cell .last .1 .1 .1 .1 .0) (·get-next-cell .ensures))
 
 pub step-spec : {M : Type 1} → statement M
 step-spec =
@@ -92,7 +90,7 @@ step-spec =
     shared-slice-read-wide
     wide-requires
     position-of-requires
-    get-next-requires
+    get-next-cell-requires
     leave-requires
     same-length
     same-length-2

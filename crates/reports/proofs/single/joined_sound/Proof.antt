@@ -1,135 +1,136 @@
-use native.Mathlib.Omega.{arith}
-use borrow.Author.Needs.{needs}
-use mathlib.Core.Path.{_≡_, refl}
-use mathlib.Core.List.{_++_}
-use mathlib.Core.Logic.{inl, inr, ⊎-elim}
+use mathlib.Core.Path.{_≡_, refl, ap}
 use Prim.Native.Nat.{_-_}
+use native.Mathlib.Omega.{arith}
+use lib.ListN.{length}
+use Rattle.terms.specs.declared.CellNumber.{CellNumber}
+use Rattle.terms.specs.Moves.{afterPlace}
 use Rattle.rules.specs.Table.{listing}
-use Rattle.catalogue.proofs.Levels.{levels-none}
-use Rattle.search.specs.Stretch.{levels, stretchBefore}
-use Rattle.search.proofs.Branches.{carried-cell, before-next}
-use Rattle.reports.proofs.Given.{sound-list, given-good}
-use Rattle.reports.proofs.Both.{last-both}
-use Rattle.reports.proofs.Tested.{Passed, passed-none, passed-small, passed-next, passed-all}
-use Rattle.reports.proofs.Pass.{last-known, met-stretch}
+use Rattle.reports.proofs.Steps.{Stands, stands-fresh, get-ready, next-none, next-one}
+use Rattle.reports.proofs.OneList.{Way, way-start, way-picked, way-next}
+use mathlib.Core.List.{_++_}
+use Rattle.reports.proofs.Given.{both-pair}
+use borrow.Author.Needs.{needs}
 use Rattle.reports.proofs.single.joined_sound.Statement.{statement}
 use Rattle.reports.proofs.single.joined_sound.Tie as tie
 
 abbrev Inv-loop : tie.InvT-loop
-Inv-loop cat tab size one two out₀ t row last n long₀ hits₀ i₀ out long hits i = Passed cat tab (one ++ two) out₀
-    hits i out × (long ≡ stretchBefore cat (listing cat tab) (levels cat (one ++ two) t) i)
+Inv-loop cat tab one two out₀ area₀ hits₀ at₀ out area hits at = Way cat tab (one ++ two) 0
+    (length (listing cat tab)) 0 out₀ hits (afterPlace (at .place)) out × Stands cat tab at area × (length area ≡ 120)
 
 abbrev μ-loop : tie.MeasureT-loop
-μ-loop cat tab size one two out₀ t row last n long₀ hits₀ i₀ out long hits i = n - i
+μ-loop cat tab one two out₀ area₀ hits₀ at₀ out area hits at = length (listing cat tab) - afterPlace (at .place)
 
--- src/single.rt: let t = last_of(cat, two).code;
-last-of-requires : tie.Need-last-of-requires Inv-loop μ-loop
-last-of-requires c κs = let ·pre = c .before .before .before .before .before .pre in
-    sound-list (·pre .second)
+-- src/single.rt: let mut at = Position::fresh();
+fresh-requires : tie.Need-fresh-requires Inv-loop μ-loop
+fresh-requires c κs = search needs
 
--- src/single.rt: levels(cat, &mut row);
-levels-requires : tie.Need-levels-requires Inv-loop μ-loop
-levels-requires c κs = let ·pre = c .before .before .before .before .before .before .before .before .pre in
-    (·pre .first .sound .catalogue, levels-none _)
-
--- src/single.rt: let last = level_by(&row, cat, t);
-level-by-requires : tie.Need-level-by-requires Inv-loop μ-loop
-level-by-requires c κs =
-    let ·pre = c .before .before .before .before .before .before .before .before .before .before .pre in
-    let ·last-of = c .before .before .before .before .last-of in (
-      ·pre .first .sound .catalogue,
-      last-known (·pre .joined) _ (last-both (·pre) _ (·last-of .ensures)),
-      c .before .levels .ensures,
-    )
-
--- src/single.rt: let n = count(tab);
-count-requires : tie.Need-count-requires Inv-loop μ-loop
-count-requires c κs = search needs
-
--- src/single.rt: while i < n {
+-- src/single.rt: loop {
 loop-holds : tie.Need-loop-holds Inv-loop μ-loop
-loop-holds c =
-    let ·pre = c .before .before .before .before .before .before .before .before .before .before .before .before .pre in
-    (passed-none (·pre .joined) _, refl)
-
--- src/single.rt: let l = level_at(&row, cat, tab, size, c);
-level-at-requires : tie.Need-level-at-requires Inv-loop μ-loop
-level-at-requires c κs =
-    let ·pre = c .before .before .before .before .before .before .before .before .before .before .before .before .before
-    .before .before .pre in let ·count = c .before .before .before .count in
-    let ·levels = c .before .before .before .before .before .before .levels in
-    (·pre .first .sound, (rw (·count .ensures .0) at (c .before .loop-test .taken)), ·levels .ensures)
-
--- src/single.rt: long = stretched_both(cat, tab, size, one, two, t, long, l, c);
-stretched-both-requires : tie.Need-stretched-both-requires Inv-loop μ-loop
-stretched-both-requires c κs =
-    let ·pre = c .before .before .before .before .before .before .before .before .before .before .before .before .before
-    .before .before .before .pre in
-    let ·last-of = c .before .before .before .before .before .before .before .before .before .before .last-of in
-    let ·count = c .before .before .before .before .count in let ·loop-test = c .before .before .loop-test in
-    let ·loop = c .before .before .before .loop in (
-      ·pre,
-      last-both (·pre) _ (·last-of .ensures),
-      (rw (·count .ensures .0) at (·loop-test .taken)),
-      c .level-at .ensures,
-      carried-cell (given-good (·pre .joined) _ (last-both (·pre) _ (·last-of .ensures))) (·loop .i)
-          (·loop .long) (rw (·count .ensures .0) at (·loop-test .taken)) (·loop .inv .1),
-    )
-
--- src/single.rt: hits = show_met(l == last && long == last, c, hits, out);
-show-met-requires : tie.Need-show-met-requires Inv-loop μ-loop
-show-met-requires c κs =
-    let ·pre = c .before .before .before .before .before .before .before .before .before .before .before .before .before
-    .before .before .before .before .before .before .pre in
-    let ·loop = c .before .before .before .before .before .before .loop in
-    let ·count = c .before .before .before .before .before .before .before .count in
-    let ·loop-test = c .before .before .before .before .before .loop-test in
-    passed-small (·pre .joined) (·loop .inv .0) (rw (·count .ensures .0) at (·loop-test .taken))
-
--- src/single.rt: i += 1;
-add-i : tie.Need-add-i Inv-loop μ-loop
-add-i c = omega (
-  arith,
-  c .before .before .before .before .before .before .before .before .before .before .count
-      .ensures .1,
+loop-holds c = rw (c .fresh .ensures) (
+  way-start (omega arith) (omega arith),
+  stands-fresh
+      (c .before .before .before .before .before .before .pre .joined) _ refl,
+  refl,
 )
 
--- src/single.rt: while i < n {
-loop-less : tie.Need-loop-less Inv-loop μ-loop
-loop-less c = omega arith
+-- src/single.rt: let a = read_next(cat, tab, one, two, at, &mut area);
+slice-aggregate-read-next : tie.Need-slice-aggregate-read-next Inv-loop μ-loop
+slice-aggregate-read-next c = search needs
 
--- src/single.rt: while i < n {
+-- src/single.rt: let a = read_next(cat, tab, one, two, at, &mut area);
+read-next-requires : tie.Need-read-next-requires Inv-loop μ-loop
+read-next-requires c κs = let ·pre = c .before .before .before .before .before .before .before .before .pre in
+    let r = get-ready (·pre .joined) (c .before .loop .inv .1) in (r .0, both-pair (·pre), r .1)
+
+-- src/single.rt: if 10 <= number(s) {
+number-requires : tie.Need-number-requires Inv-loop μ-loop
+number-requires c κs = search needs
+
+-- src/single.rt: return hits;
+same-length : tie.Need-same-length Inv-loop μ-loop
+same-length c = let ·loop = c .before .before .before .before .before .before .loop in
+    ·loop .inv .0 .room
+
+-- src/single.rt: return hits;
+returns : tie.Need-returns Inv-loop μ-loop
+returns c =
+    let ·pre = c .before .before .before .before .before .before .before .before .before .before .before .before .before
+    .pre in let ·loop = c .before .before .before .before .before .before .loop in
+    let ·read-next = c .before .before .before .before .read-next in
+    way-picked (·pre .joined) (·loop .inv .0)
+    (next-none (·pre .joined) (·loop .inv .1) (·read-next .result) _ (c .before .number .result)
+    (c .before .number .ensures) (·read-next .ensures) (c .if1 .taken))
+
+-- src/single.rt: put_hit(out, hits, at.cell());
+cell-requires : tie.Need-cell-requires Inv-loop μ-loop
+cell-requires c κs = search needs
+
+-- src/single.rt: put_hit(out, hits, at.cell());
+put-hit-requires : tie.Need-put-hit-requires Inv-loop μ-loop
+put-hit-requires c κs = let m = next-one (c .before .before .before .before .before .before .before .before .before
+    .before .before .before .before .before .before .pre .joined)
+    (c .before .before .before .before .before .before .before .before .loop .inv .1)
+    (c .before .before .before .before .before .before .read-next .result) _ (c .before .before .before .number .result)
+    (c .before .before .before .number .ensures) (c .before .before .before .before .before .before .read-next .ensures)
+    (c .before .before .if1 .left) in (
+      omega (
+        arith,
+        m .small,
+        m .turn .later,
+        m .turn .moves,
+        c .before .before .before .before .before .before .before .before .loop .inv .0 .fewer,
+      ),
+      omega
+          (arith, m .small, m .turn .moves, ap (λ (x : CellNumber). x .0) (c .cell .ensures)),
+    )
+
+-- src/single.rt: hits += 1;
+add-hits : tie.Need-add-hits Inv-loop μ-loop
+add-hits c = let m = next-one (c .before .before .before .before .before .before .before .before .before .before
+    .before .before .before .before .before .before .before .before .pre .joined)
+    (c .before .before .before .before .before .before .before .before .before .before .before .loop .inv .1)
+    (c .before .before .before .before .before .before .before .before .before .read-next .result) _
+    (c .before .before .before .before .before .before .number .result)
+    (c .before .before .before .before .before .before .number .ensures)
+    (c .before .before .before .before .before .before .before .before .before .read-next .ensures)
+    (c .before .before .before .before .before .if1 .left) in omega (
+      arith,
+      m .small,
+      m .turn .later,
+      m .turn .moves,
+      c .before .before .before .before .before .before .before .before .before .before .before .loop .inv .0 .fewer,
+    )
+
+-- src/single.rt: loop {
+loop-less : tie.Need-loop-less Inv-loop μ-loop
+loop-less c = let m = next-one (c .before .before .before .before .before .before .before .before .before .before
+    .before .before .before .before .before .before .before .before .pre .joined)
+    (c .before .before .before .before .before .before .before .before .before .before .before .loop .inv .1)
+    (c .before .before .before .before .before .before .before .before .before .read-next .result) _
+    (c .before .before .before .before .before .before .number .result)
+    (c .before .before .before .before .before .before .number .ensures)
+    (c .before .before .before .before .before .before .before .before .before .read-next .ensures)
+    (c .before .before .before .before .before .if1 .left) in omega
+    (arith, m .turn .later, m .turn .inside, m .turn .moves)
+
+-- src/single.rt: loop {
 loop-again : tie.Need-loop-again Inv-loop μ-loop
 loop-again c =
     let ·pre = c .before .before .before .before .before .before .before .before .before .before .before .before .before
-    .before .before .before .before .before .before .before .before .before .pre in
-    let ·loop = c .before .before .before .before .before .before .before .before .before .loop in
-    let ·last-of = c .before .before .before .before .before .before .before .before .before .before .before .before
-    .before .before .before .before .last-of in
-    let ·count = c .before .before .before .before .before .before .before .before .before .before .count in
-    let ·loop-test = c .before .before .before .before .before .before .before .before .loop-test in
-    let ·level-at = c .before .before .before .before .before .before .level-at in
-    let ·stretched-both = c .before .before .before .before .before .stretched-both in
-    let ·level-by = c .before .before .before .before .before .before .before .before .before .before .before .level-by
-    in let ·if1 = c .before .before .before .before .if1 in let ·show-met = c .before .before .show-met in (
-      passed-next (·pre .joined) (·loop .inv .0) _
-          (met-stretch (·pre .joined) _ (last-both (·pre) _ (·last-of .ensures)) (·loop .i)
-          (rw (·count .ensures .0) at (·loop-test .taken)) _ _ _ (·level-at .ensures) (·stretched-both .ensures)
-          (·level-by .ensures) _ (⊎-elim (λ w. inl (w .0 .taken, w .1)) (λ w. inr (w .0 .left, w .1)) (·if1 .came))) _ _
-          (·show-met .ensures .0) (·show-met .ensures .1) (rw (·count .ensures .0) at (·loop-test .taken)),
-      before-next
-          (given-good (·pre .joined) _ (last-both (·pre) _ (·last-of .ensures))) (·loop .i) _ (·stretched-both .ensures),
+    .before .before .before .before .before .pre in
+    let ·loop = c .before .before .before .before .before .before .before .before .before .before .before .loop in
+    let ·read-next = c .before .before .before .before .before .before .before .before .before .read-next in
+    let ·number = c .before .before .before .before .before .before .number in
+    let ·if1 = c .before .before .before .before .before .if1 in let ·cell = c .before .before .before .cell in
+    let ·put-hit = c .before .before .put-hit in
+    let ·area2 = c .before .before .before .before .before .before .before .before .area2 in
+    let m = next-one (·pre .joined) (·loop .inv .1) (·read-next .result) _ (·number .result) (·number .ensures)
+    (·read-next .ensures) (·if1 .left) in (
+      way-next (·loop .inv .0) (m .turn) _
+          (rw (·cell .ensures) at (·put-hit .ensures)),
+      m .stands,
+      ·area2 .given,
     )
-
--- src/single.rt: pub(crate) fn joined_sound(
-same-length : tie.Need-same-length Inv-loop μ-loop
-same-length c = c .before .loop .inv .0 .room
-
--- src/single.rt: pub(crate) fn joined_sound(
-returns : tie.Need-returns Inv-loop μ-loop
-returns c = passed-all (c .before .before .before .before .before .before .before .before .before .before .before
-    .before .before .before .pre .joined) (c .before .loop .inv .0)
-    (omega (arith, c .before .before .count .ensures .0))
 
 pub joined-sound-spec : {M : Type 1} → statement M
 joined-sound-spec =
@@ -137,16 +138,15 @@ joined-sound-spec =
     (tie.spec
     Inv-loop
     μ-loop
-    last-of-requires
-    levels-requires
-    level-by-requires
-    count-requires
+    fresh-requires
     loop-holds
-    level-at-requires
-    stretched-both-requires
-    show-met-requires
-    add-i
-    loop-less
-    loop-again
+    slice-aggregate-read-next
+    read-next-requires
+    number-requires
     same-length
-    returns)
+    returns
+    cell-requires
+    put-hit-requires
+    add-hits
+    loop-less
+    loop-again)

@@ -1,4 +1,4 @@
-use Rattle.search.proofs.Branches.{on-cell, kept-path}
+use Rattle.search.proofs.Branches.{on-cell, kept-gap, kept-path}
 use borrow.Author.Needs.{needs}
 use Rattle.search.proofs.along.kept.Statement.{statement}
 use Rattle.search.proofs.along.kept.Tie as tie
@@ -13,20 +13,22 @@ enum-told c = search needs
 
 -- src/along.rt: return Found::Nothing;
 returns : tie.Need-returns
-returns c = search needs
-
--- src/along.rt: let reached = path_to(cat, tab, size, list, t, c);
-path-to-requires : tie.Need-path-to-requires
-path-to-requires c κs = let ·pre = c .before .before .before .before .before .before .pre in
+returns c = let ·pre = c .before .before .before .before .before .before .pre in
     let ·args = c .before .before .before .before .before .before .args in
-    (·pre .0, on-cell (·pre .0) (·args .place) _ (·pre .1) (c .before .place .given .1))
+    kept-gap (·pre .0 .good) (·args .place) _ (c .enum-told .given .1)
 
--- src/along.rt: fn kept(cat: &[u8], tab: &[u8], size: usize, list: &[u8], t: TypeCode, place: Place) -> Found
-returns-2 : tie.Need-returns-2
-returns-2 c = let ·pre = c .before .before .before .before .before .before .before .pre in
+-- src/along.rt: let reached = path_to(cat, tab, size, one, two, asked, t, c);
+path-to-requires : tie.Need-path-to-requires
+path-to-requires c κs = let ·pre = c .before .before .before .before .before .before .before .pre in
     let ·args = c .before .before .before .before .before .before .before .args in
+    (·pre .0, on-cell (·pre .0 .good) (·args .place) _ (·pre .1) (c .before .place .given .1))
+
+-- src/along.rt: fn kept(
+returns-2 : tie.Need-returns-2
+returns-2 c = let ·pre = c .before .before .before .before .before .before .before .before .pre in
+    let ·args = c .before .before .before .before .before .before .before .before .args in
     let ·place = c .before .before .place in
-    kept-path (·pre .0) (·args .place) _ (c .path-to .result) (·place .given .1) (c .path-to .ensures)
+    kept-path (·pre .0 .good) (·args .place) _ (c .path-to .result) (·place .given .1) (c .path-to .ensures)
 
 pub kept-spec : {M : Type 1} → statement M
 kept-spec =

@@ -1,6 +1,8 @@
-use mathlib.Core.Path.{sym, _∙_}
+use mathlib.Core.Path.{refl}
 use native.Mathlib.Omega.{arith}
-use Rattle.search.proofs.Branches.{first-none, all-match, before-cell, sound-list}
+use Rattle.search.proofs.Branches.{first-none, all-match, before-cell}
+use Rattle.search.proofs.Plain.{lone-own}
+use Rattle.search.proofs.Heeded.{filled-told}
 use borrow.Author.Needs.{needs}
 use Rattle.search.proofs.forward.first_match.Statement.{statement}
 use Rattle.search.proofs.forward.first_match.Tie as tie
@@ -11,59 +13,89 @@ returns c = first-none _ _ _ _ _ (c .if1 .taken)
 
 -- src/forward.rt: return Found::At(CellNumber(from));
 returns-2 : tie.Need-returns-2
-returns-2 c = let ·pre = c .before .before .before .before .before .before .pre in
-    let ·args = c .before .before .before .before .before .before .args in let ·if1 = c .before .before .if1 in
-    all-match (·pre .0) (·args .from) (·args .to) (c .if2 .taken) (·if1 .left)
+returns-2 c = let ·pre = c .before .before .before .before .before .before .before .pre in
+    let ·args = c .before .before .before .before .before .before .before .args in let ·if1 = c .before .before .if1 in
+    all-match (·pre .0 .good) (·args .from) (·args .to) (c .if2 .taken) (·if1 .left)
 
--- src/forward.rt: if is_plain_above(cat, list, t) {
-is-plain-above-requires : tie.Need-is-plain-above-requires
-is-plain-above-requires c κs = (
-  sound-list (c .before .before .before .before .before .before .pre .0),
-  omega arith,
-  c .before .before .before .before .before .before .pre .0 .known,
-)
+-- src/forward.rt: if let Tests::Own(e) = alone(cat, one, two, t) {
+alone-requires : tie.Need-alone-requires
+alone-requires c κs = let ·pre = c .before .before .before .before .before .before .before .pre in
+    ·pre .0 .pair
 
--- src/forward.rt: return forward_alone(cat, tab, size, list, t, from, to);
+-- src/forward.rt: if let Tests::Own(e) = alone(cat, one, two, t) {
+enum-known-e : tie.Need-enum-known-e
+enum-known-e c = search needs
+
+-- src/forward.rt: return forward_alone(cat, tab, size, one, two, t, e, from, to);
 forward-alone-requires : tie.Need-forward-alone-requires
 forward-alone-requires c κs = (
-  c .before .before .before .before .before .before .before .before .pre .0,
-  omega
-      arith,
-  c .before .before .before .before .before .before .before .before .pre .1,
-  sym
-      (c .before .is-plain-above .ensures) ∙ c .if3 .taken,
+  c .before .before .before .before .before .before .before .before .before .before
+      .before .pre .0,
+  lone-own (c .before .before .before .before .before .before .before .before .before .before .before
+      .pre .0 .good) (omega arith) _ _ (c .before .before .before .alone .ensures) (c .before .e .given .1),
+  omega arith,
+  c .before .before .before .before .before .before .before .before .before .before .before .pre .1,
 )
 
--- src/forward.rt: return forward_alone(cat, tab, size, list, t, from, to);
+-- src/forward.rt: return forward_alone(cat, tab, size, one, two, t, e, from, to);
 returns-3 : tie.Need-returns-3
 returns-3 c = search needs
 
--- src/forward.rt: return forward(cat, tab, size, list, t, 0, from, to);
-forward-requires : tie.Need-forward-requires
-forward-requires c κs = search needs
+-- src/forward.rt: return forward_alone(cat, tab, size, one, two, t, e, from, to);
+enum-told : tie.Need-enum-told
+enum-told c = search needs
 
--- src/forward.rt: return forward(cat, tab, size, list, t, 0, from, to);
+-- src/forward.rt: ask(cat, one, two, t, &mut asked);
+ask-requires : tie.Need-ask-requires
+ask-requires c κs =
+    let ·pre = c .before .before .before .before .before .before .before .before .before .before .before .pre in
+    (·pre .0 .pair, ·pre .0 .good .known, refl)
+
+-- src/forward.rt: return forward(cat, tab, size, one, two, &asked, t, 0, from, to);
+forward-requires : tie.Need-forward-requires
+forward-requires c κs = (
+  filled-told (c .before .before .before .before .before .before .before .before .before
+      .before .before .before .before .before .pre .0) (c .before .before .ask .ensures),
+  omega arith,
+  c .before .before .before .before .before .before .before .before .before .before .before .before .before .before
+      .pre .1,
+  rw (c .before .if3 .taken),
+)
+
+-- src/forward.rt: return forward(cat, tab, size, one, two, &asked, t, 0, from, to);
 returns-4 : tie.Need-returns-4
 returns-4 c = search needs
 
--- src/forward.rt: let before = path_to(cat, tab, size, list, t, CellNumber(from - 1));
-sub-t12 : tie.Need-sub-t12
-sub-t12 c = search needs
+-- src/forward.rt: let before = path_to(cat, tab, size, one, two, &asked, t, CellNumber(from - 1));
+sub-t19 : tie.Need-sub-t19
+sub-t19 c = search needs
 
--- src/forward.rt: let before = path_to(cat, tab, size, list, t, CellNumber(from - 1));
+-- src/forward.rt: let before = path_to(cat, tab, size, one, two, &asked, t, CellNumber(from - 1));
 path-to-requires : tie.Need-path-to-requires
-path-to-requires c κs = search needs
+path-to-requires c κs = (
+  filled-told (c .before .before .before .before .before .before .before .before .before
+      .before .before .before .before .before .pre .0) (c .before .before .ask .ensures),
+  omega (
+    arith,
+    c .before .before .before .before .before .before .before .before .before .before .before .before .before
+        .before .pre .1,
+    c .before .before .before .before .before .before .before .before .before .if1 .left,
+  ),
+)
 
--- src/forward.rt: forward(cat, tab, size, list, t, before.long, from, to)
+-- src/forward.rt: forward(cat, tab, size, one, two, &asked, t, before.long, from, to)
 forward-requires-2 : tie.Need-forward-requires-2
 forward-requires-2 c κs =
-    let ·args = c .before .before .before .before .before .before .before .before .before .before .args in (
-      c .before .before .before .before .before .before .before .before .before .before .pre .0,
+    let ·args = c .before .before .before .before .before .before .before .before .before .before .before .before
+    .before .before .before .before .args in (
+      filled-told (c .before .before .before .before .before .before .before .before .before .before .before .before
+          .before .before .before .before .pre .0) (c .before .before .before .before .ask .ensures),
       omega arith,
-      c .before .before .before .before .before .before .before .before .before .before .pre .1,
-      before-cell
-          (c .before .before .before .before .before .before .before .before .before .before .pre .0) (·args .from)
-          (c .path-to .result) (c .before .if4 .left) (c .path-to .ensures),
+      c .before .before .before .before .before .before .before .before .before .before .before .before .before .before
+          .before .before .pre .1,
+      before-cell (c .before .before .before .before .before .before .before .before .before
+          .before .before .before .before .before .before .before .pre .0 .good) (·args .from) (c .before .path-to .result)
+          (c .before .before .before .if3 .left) (c .before .path-to .ensures),
     )
 
 -- src/forward.rt: pub fn first_match(
@@ -76,12 +108,15 @@ first-match-spec =
     (tie.spec
     returns
     returns-2
-    is-plain-above-requires
+    alone-requires
+    enum-known-e
     forward-alone-requires
     returns-3
+    enum-told
+    ask-requires
     forward-requires
     returns-4
-    sub-t12
+    sub-t19
     path-to-requires
     forward-requires-2
     returns-5)

@@ -3,6 +3,7 @@ use Rattle.catalogue.proofs.Hierarchy.{range-type}
 use mathlib.Core.Logic.{⊎-elim}
 use native.Mathlib.Omega.{arith}
 use mathlib.Core.Path.{_≡_, refl, _∙_}
+use mathlib.Core.List.{_++_}
 use Prim.Native.Nat.{_-_}
 use Rattle.rules.specs.Matching.{firstMatch}
 use Rattle.rules.specs.Table.{listing}
@@ -12,40 +13,43 @@ use Rattle.search.proofs.forward.forward.Statement.{statement}
 use Rattle.search.proofs.forward.forward.Tie as tie
 
 abbrev Inv-loop : tie.InvT-loop
-Inv-loop cat tab size list t k from to row last long₀ i₀ long i =
-    (long ≡ stretchBefore cat (listing cat tab) (levels cat list t) i) ×
-    (firstMatch cat (listing cat tab) (levels cat list t) i to ≡ firstMatch cat (listing cat tab) (levels cat list t)
-    from to)
+Inv-loop cat tab size one two asked t k from to row last long₀ i₀ long i =
+    (long ≡ stretchBefore cat (listing cat tab) (levels cat (one ++ two) t) i) ×
+    (firstMatch cat (listing cat tab) (levels cat (one ++ two) t) i to ≡ firstMatch cat (listing cat tab)
+    (levels cat (one ++ two) t) from to)
 
 abbrev μ-loop : tie.MeasureT-loop
-μ-loop cat tab size list t k from to row last long₀ i₀ long i = to - i
+μ-loop cat tab size one two asked t k from to row last long₀ i₀ long i = to - i
 
 -- src/forward.rt: levels(cat, &mut row);
 levels-requires : tie.Need-levels-requires Inv-loop μ-loop
-levels-requires c κs = let ·pre = c .before .before .before .before .pre in
-    let ·args = c .before .before .before .before .args in
-    (·pre .0 .catalogue, levels-none (·args .cat .now))
+levels-requires c κs = let ·pre = c .before .before .before .before .before .pre in
+    let ·args = c .before .before .before .before .before .args in
+    (·pre .0 .good .catalogue, levels-none (·args .cat .now))
 
 -- src/forward.rt: let last = level_by(&row, cat, t);
 level-by-requires : tie.Need-level-by-requires Inv-loop μ-loop
-level-by-requires c κs = let ·pre = c .before .before .before .before .before .before .pre in
-    let ·args = c .before .before .before .before .before .before .args in
-    (·pre .0 .catalogue, range-type (·args .cat .now) (·args .t) (·pre .1) (·pre .0 .known), c .before .levels .ensures)
+level-by-requires c κs = let ·pre = c .before .before .before .before .before .before .before .pre in
+    let ·args = c .before .before .before .before .before .before .before .args in (
+      ·pre .0 .good .catalogue,
+      range-type (·args .cat .now) (·args .t) (·pre .1) (·pre .0 .good .known),
+      c .before .levels .ensures,
+    )
 
 -- src/forward.rt: while i < to {
 loop-holds : tie.Need-loop-holds Inv-loop μ-loop
-loop-holds c = let ·pre = c .before .before .before .before .before .before .before .pre in
+loop-holds c = let ·pre = c .before .before .before .before .before .before .before .before .pre in
     (·pre .3, refl)
 
--- src/forward.rt: i = upcoming(cat, tab, size, list, t, long, i, to);
+-- src/forward.rt: i = upcoming(cat, tab, size, one, two, t, long, i, to);
 upcoming-requires : tie.Need-upcoming-requires Inv-loop μ-loop
 upcoming-requires c κs = (
-  c .before .before .before .before .before .before .before .before .before .pre .0,
-  c .before .before .before .before .before .before .before .before .before .pre .1,
-  c .before .before .before .before .before .before .before .before .before .pre .2,
+  c .before .before .before .before .before .before .before .before .before .before .pre .0
+      .good,
+  c .before .before .before .before .before .before .before .before .before .before .pre .1,
+  c .before .before .before .before .before .before .before .before .before .before .pre .2,
   c .before .loop .inv .0,
-  omega
-      (arith, c .loop-test .taken),
+  omega (arith, c .loop-test .taken),
 )
 
 -- src/forward.rt: return Found::Nothing;
@@ -57,34 +61,35 @@ returns c = let ·loop = c .before .before .before .loop in
 level-at-requires : tie.Need-level-at-requires Inv-loop μ-loop
 level-at-requires c κs = (
   good-sound (c .before .before .before .before .before .before .before .before .before
-      .before .before .before .pre .0),
+      .before .before .before .before .pre .0 .good),
   omega (
     arith,
-    c .before .before .before .before .before .before .before .before .before .before .before .before .pre .2,
+    c .before .before .before .before .before .before .before .before .before .before .before .before .before
+        .pre .2,
     c .before .if1 .left,
   ),
   c .before .before .before .before .before .before .before .levels .ensures,
 )
 
--- src/forward.rt: long = stretched(cat, tab, size, list, t, long, l, c);
+-- src/forward.rt: long = stretched(cat, tab, size, one, two, asked, t, long, l, c);
 stretched-requires : tie.Need-stretched-requires Inv-loop μ-loop
 stretched-requires c κs = (
   c .before .before .before .before .before .before .before .before .before .before .before
-      .before .before .pre .0,
+      .before .before .before .pre .0,
   omega (
     arith,
-    c .before .before .before .before .before .before .before .before .before
-        .before .before .before .before .pre .2,
+    c .before .before .before .before .before .before .before .before .before .before .before .before .before .before
+        .pre .2,
     c .before .before .if1 .left,
   ),
   c .level-at .ensures,
   carried-cell
-      (c .before .before .before .before .before .before .before .before .before .before .before .before .before .pre .0)
-      (c .before .before .before .upcoming .result) (c .before .before .before .before .before .loop .long)
+      (c .before .before .before .before .before .before .before .before .before .before .before .before .before .before
+      .pre .0 .good) (c .before .before .before .upcoming .result) (c .before .before .before .before .before .loop .long)
       (omega (
         arith,
         c .before .before .before .before .before .before .before .before .before .before .before .before
-            .before .pre .2,
+            .before .before .pre .2,
         c .before .before .if1 .left,
       )) (c .before .before .before .upcoming .ensures .2),
 )
@@ -93,14 +98,15 @@ stretched-requires c κs = (
 returns-2 : tie.Need-returns-2 Inv-loop μ-loop
 returns-2 c =
     let ·pre = c .before .before .before .before .before .before .before .before .before .before .before .before .before
-    .before .before .before .pre in let ·upcoming = c .before .before .before .before .before .before .upcoming in
+    .before .before .before .before .pre in
+    let ·upcoming = c .before .before .before .before .before .before .upcoming in
     let ·level-at = c .before .before .before .level-at in let ·stretched = c .before .before .stretched in
     let ·level-by = c .before .before .before .before .before .before .before .before .before .level-by in
     let ·args = c .before .before .before .before .before .before .before .before .before .before .before .before
-    .before .before .before .before .args in let ·if1 = c .before .before .before .before .before .if1 in
+    .before .before .before .before .before .args in let ·if1 = c .before .before .before .before .before .if1 in
     let ·loop = c .before .before .before .before .before .before .before .before .loop in
-    turn-found (·pre .0) (·upcoming .result) (·level-at .result) (·stretched .result) (·level-by .result) (·args .to)
-    (·if1 .left) (·pre .2) (·pre .1) (·level-at .ensures) (·stretched .ensures) (·level-by .ensures)
+    turn-found (·pre .0 .good) (·upcoming .result) (·level-at .result) (·stretched .result) (·level-by .result)
+    (·args .to) (·if1 .left) (·pre .2) (·pre .1) (·level-at .ensures) (·stretched .ensures) (·level-by .ensures)
     (c .before .if2 .taken) (c .if3 .taken) ∙ ·upcoming .ensures .3 ∙ ·loop .inv .1
 
 -- src/forward.rt: i += 1;
@@ -108,7 +114,9 @@ add-i : tie.Need-add-i Inv-loop μ-loop
 add-i c = omega (
   arith,
   c .before .before .before .before .before .before .before .before .before .before .before
-      .before .before .before .before .pre .2,
+      .before .before .before .before .before .pre .0 .good .sized .few,
+  c .before .before .before .before .before .before .before .before .before .before .before .before .before .before
+      .before .before .pre .2,
   c .before .before .before .before .if1 .left,
 )
 
@@ -124,20 +132,20 @@ loop-less c = omega (
 loop-again : tie.Need-loop-again Inv-loop μ-loop
 loop-again c =
     let ·pre = c .before .before .before .before .before .before .before .before .before .before .before .before .before
-    .before .before .pre in let ·upcoming = c .before .before .before .before .before .upcoming in
+    .before .before .before .pre in let ·upcoming = c .before .before .before .before .before .upcoming in
     let ·level-at = c .before .before .level-at in
     let ·level-by = c .before .before .before .before .before .before .before .before .level-by in
     let ·args = c .before .before .before .before .before .before .before .before .before .before .before .before
-    .before .before .before .args in let ·if1 = c .before .before .before .before .if1 in
+    .before .before .before .before .args in let ·if1 = c .before .before .before .before .if1 in
     let ·loop = c .before .before .before .before .before .before .before .loop in (
-      before-next (·pre .0) (·upcoming .result) (c .before .stretched .result) (c .before .stretched .ensures),
-      turn-next
-          (·pre .0) (·upcoming .result) (·level-at .result) (c .before .stretched .result) (·level-by .result) (·args .to)
-          (·if1 .left) (·pre .2) (·pre .1) (·level-at .ensures) (c .before .stretched .ensures) (·level-by .ensures)
-          (⊎-elim (λ w a b. w .1 .left b) (λ w a b. w .left a) (c .if2 .came)) ∙ ·upcoming .ensures .3 ∙ ·loop .inv .1,
+      before-next (·pre .0 .good) (·upcoming .result) (c .before .stretched .result) (c .before .stretched .ensures),
+      turn-next (·pre .0 .good) (·upcoming .result) (·level-at .result) (c .before .stretched .result) (·level-by .result)
+          (·args .to) (·if1 .left) (·pre .2) (·pre .1) (·level-at .ensures) (c .before .stretched .ensures)
+          (·level-by .ensures) (⊎-elim (λ w a b. w .1 .left b) (λ w a b. w .left a) (c .if2 .came)) ∙ ·upcoming .ensures .3 ∙
+          ·loop .inv .1,
     )
 
--- src/forward.rt: pub fn forward(
+-- src/forward.rt: pub(crate) fn forward(
 returns-3 : tie.Need-returns-3 Inv-loop μ-loop
 returns-3 c = first-none _ _ _ _ _ (c .loop-test .left) ∙ c .before .loop .inv .1
 

@@ -13,8 +13,8 @@ next-root-requires c κs = search needs
 
 -- src/forward.rt: fn upcoming(
 returns-2 : tie.Need-returns-2
-returns-2 c = let ·pre = c .before .before .before .before .before .pre in
-    let ·args = c .before .before .before .before .before .args in
+returns-2 c = let ·pre = c .before .before .before .before .before .before .pre in
+    let ·args = c .before .before .before .before .before .before .args in
     root-past (·pre .0) (·args .from) (·args .k) (·args .to) (c .next-root .result) (·pre .2) (·pre .1)
     (c .before .if1 .left) (·pre .3) (c .next-root .ensures)
 

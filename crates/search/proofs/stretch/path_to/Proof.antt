@@ -1,5 +1,6 @@
 use native.Mathlib.Omega.{arith}
 use mathlib.Core.Path.{_≡_, sym, _∙_}
+use mathlib.Core.List.{_++_}
 use Prim.Native.Nat.{_<_}
 use borrow.Author.Needs.{needs}
 use Rattle.rules.specs.Cells.{levelAt}
@@ -12,33 +13,33 @@ use Rattle.search.proofs.stretch.path_to.Statement.{statement}
 use Rattle.search.proofs.stretch.path_to.Tie as tie
 
 abbrev Inv-loop : tie.InvT-loop
-Inv-loop cat tab size list t at₀ l₀ below₀ at l below = (at .0 < count tab) ×
+Inv-loop cat tab size one two asked t at₀ l₀ below₀ at l below = (at .0 < count tab) ×
     (l ≡ levelAt cat (listing cat tab) (at .0)) ×
-    (fromCell cat tab list t (at .0) below ≡ reached cat (listing cat tab) (levels cat list t) (at₀ .0))
+    (fromCell cat tab (one ++ two) t (at .0) below ≡ reached cat (listing cat tab) (levels cat (one ++ two) t) (at₀ .0))
 
 abbrev μ-loop : tie.MeasureT-loop
-μ-loop cat tab size list t at₀ l₀ below₀ at l below = at .0
+μ-loop cat tab size one two asked t at₀ l₀ below₀ at l below = at .0
 
 -- src/stretch.rt: let mut l = level_of(cat, tab, size, c);
 level-of-requires : tie.Need-level-of-requires Inv-loop μ-loop
-level-of-requires c κs = let ·pre = c .before .before .before .pre in
-    (good-sound (·pre .0), ·pre .1)
+level-of-requires c κs = let ·pre = c .before .before .before .before .pre in
+    (good-sound (·pre .0 .good), ·pre .1)
 
 -- src/stretch.rt: loop {
 loop-holds : tie.Need-loop-holds Inv-loop μ-loop
-loop-holds c = let ·pre = c .before .before .before .before .pre in
-    let ·args = c .before .before .before .before .args in
-    (·pre .1, c .level-of .ensures, climb-start (·pre .0) (·args .c .0) (·pre .1) _ (c .level-of .ensures))
+loop-holds c = let ·pre = c .before .before .before .before .before .pre in
+    let ·args = c .before .before .before .before .before .args in
+    (·pre .1, c .level-of .ensures, climb-start (·pre .0 .good) (·args .c .0) (·pre .1) _ (c .level-of .ensures))
 
--- src/stretch.rt: below = one_up(cat, tab, size, list, t, below, l, at);
+-- src/stretch.rt: below = one_up(cat, tab, size, one, two, asked, t, below, l, at);
 one-up-requires : tie.Need-one-up-requires Inv-loop μ-loop
-one-up-requires c κs = let ·pre = c .before .before .before .before .before .pre in
+one-up-requires c κs = let ·pre = c .before .before .before .before .before .before .pre in
     (·pre .0, c .loop .inv .0, c .loop .inv .1)
 
 -- src/stretch.rt: let Found::At(p) = parent_of(cat, tab, size, at) else {
 parent-of-requires : tie.Need-parent-of-requires Inv-loop μ-loop
-parent-of-requires c κs = let ·pre = c .before .before .before .before .before .before .pre in
-    (good-sound (·pre .0), c .before .loop .inv .0)
+parent-of-requires c κs = let ·pre = c .before .before .before .before .before .before .before .pre in
+    (good-sound (·pre .0 .good), c .before .loop .inv .0)
 
 -- src/stretch.rt: let Found::At(p) = parent_of(cat, tab, size, at) else {
 enum-known-p : tie.Need-enum-known-p Inv-loop μ-loop
@@ -50,10 +51,10 @@ enum-told c = search needs
 
 -- src/stretch.rt: return below;
 returns : tie.Need-returns Inv-loop μ-loop
-returns c = let ·pre = c .before .before .before .before .before .before .before .before .before .pre in
+returns c = let ·pre = c .before .before .before .before .before .before .before .before .before .before .pre in
     let ·loop = c .before .before .before .before .loop in let ·parent-of = c .before .before .parent-of in
     let ·one-up = c .before .before .before .one-up in
-    climb-end (·pre .0) (·loop .at .0) (·loop .inv .0) _ (sym (c .enum-told .given .1) ∙ ·parent-of .ensures) ∙
+    climb-end (·pre .0 .good) (·loop .at .0) (·loop .inv .0) _ (sym (c .enum-told .given .1) ∙ ·parent-of .ensures) ∙
     ·one-up .ensures ∙ ·loop .inv .2
 
 -- src/stretch.rt: l -= 1;
@@ -62,7 +63,7 @@ sub-l c = omega (
   arith,
   c .before .before .before .before .before .loop .inv .1,
   parent-level
-      (c .before .before .before .before .before .before .before .before .before .before .pre .0)
+      (c .before .before .before .before .before .before .before .before .before .before .before .pre .0 .good)
       (c .before .before .before .before .before .loop .at .0) (c .before .before .before .before .before .loop .inv .0) _
       (sym (c .before .p .given .1) ∙ c .before .before .before .parent-of .ensures),
 )
@@ -88,12 +89,12 @@ loop-again c = (
     arith,
     c .before .before .before .before .before .loop .inv .1,
     parent-level
-        (c .before .before .before .before .before .before .before .before .before .before .pre .0)
+        (c .before .before .before .before .before .before .before .before .before .before .before .pre .0 .good)
         (c .before .before .before .before .before .loop .at .0) (c .before .before .before .before .before .loop .inv .0) _
         (sym (c .before .p .given .1) ∙ c .before .before .before .parent-of .ensures),
   ),
   climb-up
-      (c .before .before .before .before .before .before .before .before .before .before .pre .0)
+      (c .before .before .before .before .before .before .before .before .before .before .before .pre .0 .good)
       (c .before .before .before .before .before .loop .at .0) (c .before .before .before .before .before .loop .inv .0) _
       _ (sym (c .before .p .given .1) ∙ c .before .before .before .parent-of .ensures) ∙
       c .before .before .before .before .one-up .ensures ∙ c .before .before .before .before .before .loop .inv .2,
