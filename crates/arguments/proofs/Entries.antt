@@ -27,7 +27,7 @@ use Rattle.arguments.specs.declared.alone.Tests.the-variants.{Own}
 use Rattle.arguments.proofs.Sound.{list-empty}
 use Rattle.arguments.proofs.Walk.{wanted-here, wanted-next}
 use Rattle.arguments.proofs.Complete.{asked-wanted}
-use Rattle.arguments.proofs.Every.{every-in, every-out}
+use Rattle.rules.proofs.Every.{every-in, every-out}
 use Rattle.arguments.proofs.Cut.{same-meant, moved-meant}
 use Rattle.arguments.proofs.Placed.{PlacedWanted, GoodWanted, wanted-placed, wanted-good, orElse, movedWanted, pair-wanted}
 

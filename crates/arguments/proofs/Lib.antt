@@ -5,7 +5,6 @@ pub mod Above
 pub mod Sound
 pub mod Short
 pub mod Cut
-pub mod Every
 pub mod Placed
 pub mod Once
 pub mod Rows

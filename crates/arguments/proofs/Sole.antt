@@ -19,7 +19,7 @@ use Rattle.arguments.specs.Asked.{Pair, marked, entryFor, setOnce}
 use Rattle.arguments.specs.Alone.{isAlone, aloneBehind, aloneOf}
 use Rattle.arguments.specs.declared.alone.Tests.{Tests}
 use Rattle.arguments.specs.declared.alone.Tests.the-variants.{Others, Own}
-use Rattle.arguments.proofs.Every.{every-in, every-out, every-append, every-map}
+use Rattle.rules.proofs.Every.{every-in, every-out, every-append, every-map}
 use Rattle.arguments.proofs.Cut.{movedTest, moved}
 use Rattle.arguments.proofs.Walk.{Walked, left, walked-start, left-start, left-end, walked-next, left-next}
 use Rattle.arguments.proofs.Placed.{placed-at, wanted-placed, pair-arguments, pair-wanted}

@@ -79,4 +79,5 @@ meaning cat list (Named q) = meant cat list q
 -- "not beneath the type before it" is denied of each argument, and each one's test is good
 abbrev pub Downward : Bytes → Bytes → TypeCode → List Argument → Type 0
 Downward cat list before [] = Unit {0}
-Downward cat list before (a ∷ ar) = (goodNext cat list before (a .code) ≡ true) × GoodQualification cat list (a .code) (a .qualification) × Downward cat list (a .code) ar
+Downward cat list before (a ∷ ar) =
+    (goodNext cat list before (a .code) ≡ true) × GoodQualification cat list (a .code) (a .qualification) × Downward cat list (a .code) ar

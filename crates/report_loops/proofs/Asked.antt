@@ -18,6 +18,7 @@ use Rattle.rules.specs.Catalogue.{isType, typeBeneath, goodCatalogue}
 use Rattle.rules.specs.Cells.{Segment}
 use Rattle.rules.specs.Arguments.{implied, goodNext, meant, askedOf, lastArgument}
 use Rattle.rules.specs.Matching.{satisfies}
+use Rattle.rules.proofs.Every.{every-cons}
 use Rattle.catalogue.proofs.Hierarchy.{beneath-trans}
 use Rattle.arguments.specs.Sound.{Downward}
 use Rattle.arguments.proofs.Above.{type-first, type-last, next-type, next-beneath, beneath-below}
@@ -110,14 +111,10 @@ module _ (cat list : Bytes) (t : TypeCode) where
 
 -- what is asked of a type, and every argument for it: the types of a list are each named once
 module _ (cat list : Bytes) (g : goodCatalogue cat ≡ true) (s : Segment) where
-  every-cons : (a : Argument) (ar : List Argument) → every (heeds cat list s) (a ∷ ar) ≡ (heeds cat list s a && every (heeds cat list s) ar)
-  unfolding every
-  every-cons a ar = elim (is (heeds cat list s a)) [ on e ↦ rw (every, e) | off e ↦ rw (every, e) ]
-
   heeds-none : (ar : List Argument) → Missing (s .code) ar → every (heeds cat list s) ar ≡ true
   unfolding every
   heeds-none [] n = refl
-  heeds-none (a ∷ ar) n = every-cons a ar ∙ rw (ne-eqb (a .code .0) (s .code .0) (n .0), heeds-none ar (n .1))
+  heeds-none (a ∷ ar) n = every-cons (heeds cat list s) a ar ∙ rw (ne-eqb (a .code .0) (s .code .0) (n .0), heeds-none ar (n .1))
 
   pub asked-heeds : (before : TypeCode) (ar : List Argument) → Downward cat list before ar → satisfies cat s (askedOf cat list ar (s .code)) ≡ every (heeds cat list s) ar
   unfolding askedOf every
@@ -126,8 +123,8 @@ module _ (cat list : Bytes) (g : goodCatalogue cat ≡ true) (s : Segment) where
     | on e ↦
         let z : a .code .0 ≡ s .code .0 = eqb-true (a .code .0) (s .code .0) e in
         let n : Missing (s .code) ar = all-to (λ (c : Argument). a .code .0 < c .code .0) (λ (c : Argument). (c .code .0 ≡ s .code .0) → ⊥) ar (λ c p q. omega arith) (down-past cat list g (a .code .0) (a .code) ar (omega arith) (d .2)) in
-        rw (asked-in cat list (s .code) a ar e, every-cons a ar, e, heeds-none ar n) (sym (and-true (satisfies cat s (meant cat list (a .qualification)))))
-    | off e ↦ rw (asked-out cat list (s .code) a ar e, every-cons a ar, e) (asked-heeds (a .code) ar (d .2))
+        rw (asked-in cat list (s .code) a ar e, every-cons (heeds cat list s) a ar, e, heeds-none ar n) (sym (and-true (satisfies cat s (meant cat list (a .qualification)))))
+    | off e ↦ rw (asked-out cat list (s .code) a ar e, every-cons (heeds cat list s) a ar, e) (asked-heeds (a .code) ar (d .2))
   ]
 
 -- what the arguments of the first part ask in the whole list, and those of the second

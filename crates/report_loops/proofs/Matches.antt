@@ -1,7 +1,7 @@
 -- A cell matches a completed list exactly when it has the last type and its row satisfies what the list asks of each type. From that: the tests of a
 -- list, of a list beneath it and of both joined nest. Assumes nothing.
 use mathlib.Core.Path.{_≡_, refl, ap, sym, _∙_}
-use mathlib.Core.Bool.{Bool, true, false, _&&_, and-true, and-assoc}
+use mathlib.Core.Bool.{Bool, true, false, _&&_, and-true}
 use mathlib.Core.List.{List, [], _∷_, _++_, map, reverse, reverseAux, reverse-reverse}
 use Prim.Native.Nat.{ℕ, _+_, _<_}
 use native.Mathlib.Omega.{arith}
@@ -18,7 +18,7 @@ use Rattle.rules.specs.Catalogue.{lineage, isType, typeBeneath, goodCatalogue}
 use Rattle.rules.specs.Cells.{Segment, segment, levelAt, runAt, endAt, rowAt, goodListing}
 use Rattle.rules.specs.Arguments.{Asked, Level, askedOf, complete, lastArgument, getLevels}
 use Rattle.rules.specs.Matching.{satisfies, agrees, pathTo, agree, matches}
-use Rattle.rules.proofs.Every.{every-in, every-out}
+use Rattle.rules.proofs.Every.{every-in, every-cons, every-append}
 use Rattle.catalogue.proofs.Hierarchy.{type-range, lineage-up, level-least}
 use Rattle.arguments.specs.Sound.{Downward}
 use Rattle.arguments.proofs.Complete.{complete-length}
@@ -36,21 +36,10 @@ same-test false true f h = h refl
 same-test false false f h = refl
 
 module _ (p : ℕ → Bool) where
-  every-cons : (x : ℕ) (xs : List ℕ) → every p (x ∷ xs) ≡ (p x && every p xs)
-  every-cons x xs = elim (is (p x)) [
-    | on e ↦ rw (every-in p x xs e, e)
-    | off e ↦ rw (every-out p x xs e, e)
-  ]
-
-  every-append : (xs ys : List ℕ) → every p (xs ++ ys) ≡ (every p xs && every p ys)
-  unfolding every
-  every-append [] ys = refl
-  every-append (x ∷ xs) ys = every-cons x (xs ++ ys) ∙ rw (every-append xs ys, every-cons x xs) (sym (and-assoc (p x) (every p xs) (every p ys)))
-
   every-turned : (xs r : List ℕ) → every p (reverseAux xs r) ≡ (every p xs && every p r)
   unfolding every
   every-turned [] r = refl
-  every-turned (x ∷ xs) r = every-turned xs (x ∷ r) ∙ rw (every-cons x r, every-cons x xs) (turn (every p xs) (p x) (every p r))
+  every-turned (x ∷ xs) r = every-turned xs (x ∷ r) ∙ rw (every-cons p x r, every-cons p x xs) (turn (every p xs) (p x) (every p r))
     where
       turn : (a b c : Bool) → (a && (b && c)) ≡ ((b && a) && c)
       turn true true c = refl

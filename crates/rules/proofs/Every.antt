@@ -1,7 +1,7 @@
--- What holds of each number of a range, one number at a time. Assumes nothing.
+-- What holds of each of a row, one at a time; of each number of a range. Assumes nothing.
 use mathlib.Core.Path.{_≡_, refl, ap, sym, _∙_}
-use mathlib.Core.Bool.{Bool, true, false}
-use mathlib.Core.List.{List, _∷_}
+use mathlib.Core.Bool.{Bool, true, false, _&&_}
+use mathlib.Core.List.{List, [], _∷_, _++_, map}
 use Prim.Native.Nat.{ℕ, zero, suc, _+_, _<_, _≤_}
 use native.Mathlib.Omega.{arith}
 use lib.ListN.{replicate}
@@ -11,13 +11,39 @@ use Rattle.forest.specs.Good.{on, off, is}
 use Rattle.forest.specs.Numbers.{range}
 use Rattle.rules.specs.Block.{every, zeros}
 
-pub every-in : (p : ℕ → Bool) (x : ℕ) (xs : List ℕ) → p x ≡ true → every p (x ∷ xs) ≡ every p xs
-unfolding every
-every-in p x xs h = rw (every, h)
+-- one that passes leaves it to the rest, and one that does not decides
+module _ {A : Type 0} (p : A → Bool) (x : A) (xs : List A) where
+  pub every-in : p x ≡ true → every p (x ∷ xs) ≡ every p xs
+  unfolding every
+  every-in h = rw (every, h)
 
-pub every-out : (p : ℕ → Bool) (x : ℕ) (xs : List ℕ) → p x ≡ false → every p (x ∷ xs) ≡ false
-unfolding every
-every-out p x xs h = rw (every, h)
+  pub every-out : p x ≡ false → every p (x ∷ xs) ≡ false
+  unfolding every
+  every-out h = rw (every, h)
+
+-- two stretches, and a row that was changed where the test does not look
+module _ {A : Type 0} (p : A → Bool) where
+  pub every-cons : (x : A) (xs : List A) → every p (x ∷ xs) ≡ (p x && every p xs)
+  every-cons x xs = elim (is (p x)) [
+    | on e ↦ rw (every-in p x xs e, e)
+    | off e ↦ rw (every-out p x xs e, e)
+  ]
+
+  pub every-append : (xs ys : List A) → every p (xs ++ ys) ≡ (every p xs && every p ys)
+  unfolding every
+  every-append [] ys = refl
+  every-append (x ∷ xs) ys = elim (is (p x)) [
+    | on e ↦ rw (every-in p x (xs ++ ys) e, every-in p x xs e) (every-append xs ys)
+    | off e ↦ rw (every-out p x (xs ++ ys) e, every-out p x xs e)
+  ]
+
+  pub every-map : (f : A → A) (xs : List A) → ((x : A) → p (f x) ≡ p x) → every p (map f xs) ≡ every p xs
+  unfolding every
+  every-map f [] h = refl
+  every-map f (x ∷ xs) h = elim (is (p x)) [
+    | on e ↦ rw (every-in p (f x) (map f xs) (h x ∙ e), every-in p x xs e) (every-map f xs h)
+    | off e ↦ rw (every-out p (f x) (map f xs) (h x ∙ e), every-out p x xs e)
+  ]
 
 -- what holds of each number of a range holds of one
 pub every-at : (p : ℕ → Bool) (i n u : ℕ) → every p (range i n) ≡ true → i ≤ u → u < i + n → p u ≡ true

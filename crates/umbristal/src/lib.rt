@@ -151,7 +151,8 @@ pub extern "C" fn umbristal_report_nested(
     two: &[u8],
     out: &mut [u8],
 ) -> u64
-    ensures { λ r. ⌜ reportedBack r (now (out .exit)) ≡ reportFace (now (cat .entry)) (now (tab .entry)) (now (one .entry)) (now (two .entry)) (now (out .entry)) ⌝ }
+    ensures { λ r. ⌜ reportedBack r (now (out .exit))
+        ≡ reportFace (now (cat .entry)) (now (tab .entry)) (now (one .entry)) (now (two .entry)) (now (out .entry)) ⌝ }
 {
     packed_report(reports::nested(cat, tab, one, two, out))
 }
@@ -165,7 +166,8 @@ pub extern "C" fn umbristal_report_joined(
     two: &[u8],
     out: &mut [u8],
 ) -> u64
-    ensures { λ r. ⌜ reportedBack r (now (out .exit)) ≡ reportFace (now (cat .entry)) (now (tab .entry)) (now (one .entry)) (now (two .entry)) (now (out .entry)) ⌝ }
+    ensures { λ r. ⌜ reportedBack r (now (out .exit))
+        ≡ reportFace (now (cat .entry)) (now (tab .entry)) (now (one .entry)) (now (two .entry)) (now (out .entry)) ⌝ }
 {
     packed_report(reports::joined(cat, tab, one, two, out))
 }
@@ -179,7 +181,8 @@ pub extern "C" fn umbristal_report_plain(
     two: &[u8],
     out: &mut [u8],
 ) -> u64
-    ensures { λ r. ⌜ reportedBack r (now (out .exit)) ≡ reportFace (now (cat .entry)) (now (tab .entry)) (now (one .entry)) (now (two .entry)) (now (out .entry)) ⌝ }
+    ensures { λ r. ⌜ reportedBack r (now (out .exit))
+        ≡ reportFace (now (cat .entry)) (now (tab .entry)) (now (one .entry)) (now (two .entry)) (now (out .entry)) ⌝ }
 {
     packed_report(reports::plain(cat, tab, one, two, out))
 }
