@@ -1,5 +1,7 @@
-# make run: the main job on the shipped example. make test: the gate. make bench: what a call costs, into docs/.
-.PHONY: run test soak bench fmt clean
+# make run: the main job on the shipped example. make test: the gate. make bench: what a call costs, into target/bench/; make bench-page: into docs/.
+.PHONY: run test soak bench bench-page fmt clean
+
+measure = cargo run --offline --release --quiet --manifest-path rust/Cargo.toml --package bench --
 
 run:
 	@tools/run-example
@@ -11,7 +13,10 @@ soak:
 	@tools/soak
 
 bench:
-	@cargo run --offline --release --quiet --manifest-path rust/Cargo.toml --package bench -- docs
+	@$(measure) target/bench
+
+bench-page:
+	@$(measure) docs
 
 fmt:
 	rt fmt

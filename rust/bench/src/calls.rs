@@ -3,7 +3,7 @@
 use crate::sample::{
     serial, Sample, Segment, CELL, LENGTH, STATE, STEP, STEP_KEY, TRY, UNIT, UNIT_KEY, VERDICT,
 };
-use crate::work::{Contender, Done, Operation, CHECKED_CALLS};
+use crate::work::{cell_numbers, Contender, Done, Operation, CHECKED_CALLS, TURNS};
 use face::number::{DLET, GHU, GN, GU, ISRT};
 use face::status::GB;
 use face::{Functions, Report, FRESH, POSITION_SIZE};
@@ -54,6 +54,22 @@ impl<'s, F: Measured> Session<'s, F> {
             done.sum += serial(&area);
         }
         done
+    }
+
+    /// Every position has an area of its own, and all of them end in the same turn.
+    fn in_turns(&mut self) -> Done {
+        let mut positions = [FRESH; TURNS];
+        let mut areas = [[0; LENGTH]; TURNS];
+        let mut done = Done { count: 0, sum: 0 };
+        loop {
+            for (position, area) in positions.iter_mut().zip(&mut areas) {
+                if self.sound(position, GN, &[], area) as u8 >= GB {
+                    return done;
+                }
+                done.count += 1;
+                done.sum += serial(area);
+            }
+        }
     }
 
     fn checked(&mut self) -> Done {
@@ -109,7 +125,7 @@ impl<'s, F: Measured> Session<'s, F> {
         } else {
             position[6] = 1;
         }
-        let cell = u64::from(position[1]) << 8 | u64::from(position[2]);
+        let cell = cell_numbers(&position[1..3]).sum();
         let removed = self.sound(&mut position, DLET, &[], &mut area) >> 32;
         Done {
             count: removed as usize,
@@ -126,12 +142,9 @@ impl<'s, F: Measured> Session<'s, F> {
             &mut self.out,
         );
         let count = (packed >> 32) as usize;
-        let cells = self.out[..2 * count].chunks_exact(2);
         Done {
             count,
-            sum: cells
-                .map(|cell| u64::from(cell[0]) << 8 | u64::from(cell[1]))
-                .sum(),
+            sum: cell_numbers(&self.out[..2 * count]).sum(),
         }
     }
 }
@@ -141,12 +154,12 @@ fn by_keys(unit: [u8; 2], step: [u8; 2]) -> [u8; 10] {
     [UNIT, 1, UNIT_KEY, u1, u2, STEP, 1, STEP_KEY, s1, s2]
 }
 
-impl<F: Measured> Contender for Session<'_, F> {
+impl<F: Measured> Contender<Operation> for Session<'_, F> {
     fn name(&self) -> &'static str {
         F::FUNCTIONS.name
     }
 
-    fn run(&mut self, operation: Operation) -> Option<Done> {
+    fn run(&mut self, operation: &Operation) -> Option<Done> {
         Some(match operation {
             Operation::Listing => self.listing(),
             Operation::Nested => self.report(F::FUNCTIONS.report_nested),
@@ -156,6 +169,7 @@ impl<F: Measured> Contender for Session<'_, F> {
             Operation::InsertDelete => self.insert_delete(false),
             Operation::InsertGetDelete => self.insert_delete(true),
             Operation::Checked => self.checked(),
+            Operation::InTurns => self.in_turns(),
         })
     }
 
@@ -188,13 +202,13 @@ impl Floor {
     }
 }
 
-impl Contender for Floor {
+impl Contender<Operation> for Floor {
     fn name(&self) -> &'static str {
         "memmove"
     }
 
-    fn run(&mut self, operation: Operation) -> Option<Done> {
-        if operation != Operation::InsertDelete {
+    fn run(&mut self, operation: &Operation) -> Option<Done> {
+        if *operation != Operation::InsertDelete {
             return None;
         }
         let (start, tail) = (self.start, self.tail);

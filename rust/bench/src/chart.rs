@@ -1,142 +1,155 @@
-//! The picture: cost against size, a panel for each operation, both axes by powers.
+//! The picture: cost against size, a panel for each operation on the samples, and below them the worst tables.
 
-use crate::contenders::ALL;
-use crate::figures::Figures;
-use crate::page::thousands;
+use crate::contenders::{ALL, STORE};
+use crate::figures::Run;
+use crate::marks::{Mark, STYLES};
+use crate::panel::{entry, text, Line, Panel, WIDTH};
+use crate::shapes;
 use crate::work::Operation;
+use crate::worst::Row;
 use crate::SIZES;
-use std::fmt::Write;
-
-const COLOURS: [&str; ALL.len()] = ["#1b6ca8", "#5a9e4b", "#c7762b", "#8d4f9f", "#777777"];
-
-/// The outer measures of a panel, and its margins.
-const WIDTH: f64 = 400.0;
-const HEIGHT: f64 = 230.0;
-const LEFT: f64 = 70.0;
-const RIGHT: f64 = 20.0;
-const ABOVE: f64 = 34.0;
-const BELOW: f64 = 34.0;
 
 const COLUMNS: usize = 2;
-const LEGEND: f64 = 40.0;
+
+/// What stands above the panels: a heading and a line, and a legend above those that share one.
+const HEAD: f64 = 60.0;
+const LEGEND: f64 = 24.0;
+
+/// The rows of the worst tables that share a panel.
+const TOGETHER: [(&str, &[Row]); 4] = [
+    (
+        "one root with n − 1 children, a step",
+        &[Row::ChildrenNext, Row::ChildrenWithin, Row::ChildrenTested],
+    ),
+    (
+        "reports, whole",
+        &[
+            Row::ChildrenPlain,
+            Row::ParentsNested,
+            Row::PathsPlain,
+            Row::DeepJoined,
+        ],
+    ),
+    (
+        "fifteen levels, a call or a step",
+        &[Row::PathsUnique, Row::DeepWithin, Row::DeepTested],
+    ),
+    (
+        "twins, a pair or a step; checks, whole",
+        &[
+            Row::TwinsInsert,
+            Row::TwinsNext,
+            Row::PathsCheck,
+            Row::TypesCheck,
+        ],
+    ),
+];
 
 /// benchmark.svg.
-pub fn chart(figures: &Figures) -> String {
-    let rows = Operation::ALL.len().div_ceil(COLUMNS);
+pub fn chart(run: &Run) -> String {
+    let (samples, worst) = (samples(run), worst(run));
     let width = WIDTH * COLUMNS as f64;
-    let height = HEIGHT * rows as f64 + LEGEND;
-    let mut svg = format!(
+    let first = HEAD + LEGEND + height(&samples);
+    let height = first + HEAD + height(&worst);
+    let head = format!(
         "<svg xmlns=\"http://www.w3.org/2000/svg\" viewBox=\"0 0 {width} {height}\" \
          font-family=\"sans-serif\" font-size=\"12\">\n\
          <rect width=\"{width}\" height=\"{height}\" fill=\"white\"/>\n"
     );
-    for (index, name) in ALL.iter().enumerate() {
-        let x = 70.0 + 140.0 * index as f64;
-        draw(&mut svg, &legend(x, COLOURS[index], name));
-    }
-    for (index, &operation) in Operation::ALL.iter().enumerate() {
-        let x = WIDTH * (index % COLUMNS) as f64;
-        let y = LEGEND + HEIGHT * (index / COLUMNS) as f64;
-        draw(&mut svg, &format!("<g transform=\"translate({x} {y})\">"));
-        panel(&mut svg, figures, operation);
-        draw(&mut svg, "</g>");
-    }
-    svg + "</svg>\n"
+    let parts = [
+        heading("What a segment, a hit or a call costs", EVERYBODY),
+        everybody(),
+        placed(&samples, HEAD + LEGEND),
+        format!("<g transform=\"translate(0 {first})\">\n"),
+        heading("What the store costs on the worst tables", GROWTH),
+        placed(&worst, HEAD),
+        "</g>\n".to_string(),
+    ];
+    head + &parts.concat() + "</svg>\n"
 }
 
-fn draw(svg: &mut String, element: &str) {
-    writeln!(svg, "{element}").expect("a string takes all");
+const EVERYBODY: &str = "Both axes are logarithmic. Lower is faster.";
+const GROWTH: &str = "Both axes are logarithmic. Dashed: grows with the number of segments. \
+                      A step should be flat, a report that steep.";
+
+fn heading(words: &str, below: &str) -> String {
+    let large = "font-size=\"16\" font-weight=\"bold\"";
+    text(20.0, 26.0, "start", large, words) + &text(20.0, 46.0, "start", "", below)
 }
 
-fn legend(x: f64, colour: &str, name: &str) -> String {
-    format!(
-        "<line x1=\"{x}\" y1=\"20\" x2=\"{}\" y2=\"20\" stroke=\"{colour}\" stroke-width=\"3\"/>\
-         <text x=\"{}\" y=\"24\">{name}</text>",
-        x + 24.0,
-        x + 30.0
-    )
+/// The legend of everybody who is compared.
+fn everybody() -> String {
+    let entries = ALL.iter().enumerate();
+    entries
+        .map(|(index, name)| entry(20.0 + 132.0 * index as f64, 68.0, STYLES[index], name))
+        .collect()
 }
 
-/// The powers of ten that a panel reaches from and to.
-struct Scale {
-    low: i32,
-    high: i32,
+/// A panel for each operation, with a line for everybody who offers it.
+fn samples(run: &Run) -> Vec<Panel> {
+    let panel = |operation: Operation| Panel {
+        title: operation.title().to_string(),
+        sizes: SIZES,
+        lines: lines(&ALL, SIZES, |name, size| {
+            run.sample.of(operation, size, name)
+        }),
+        legend: 0,
+        guide: false,
+    };
+    Operation::ALL.into_iter().map(panel).collect()
 }
 
-impl Scale {
-    fn of(figures: &Figures, operation: Operation) -> Scale {
-        let all: Vec<f64> = SIZES
-            .iter()
-            .flat_map(|&size| ALL.map(|name| figures.of(operation, size, name)))
-            .flatten()
-            .collect();
-        let least = all.iter().copied().fold(f64::MAX, f64::min);
-        let most = all.iter().copied().fold(1.0, f64::max);
-        let low = least.max(1.0).log10().floor() as i32;
-        Scale {
-            low,
-            high: (most.log10().ceil() as i32).max(low + 1),
+/// A panel for each group of rows, with a line for each row.
+fn worst(run: &Run) -> Vec<Panel> {
+    let panel = |(title, rows): (&str, &[Row])| {
+        let names: Vec<&str> = rows.iter().map(|row| row.name()).collect();
+        let of = |name: &str, size: usize| {
+            let row = rows.iter().find(|row| row.name() == name)?;
+            run.worst.of(*row, size, STORE)
+        };
+        Panel {
+            title: title.to_string(),
+            sizes: shapes::SIZES,
+            lines: lines(&names, shapes::SIZES, of),
+            legend: 4,
+            guide: true,
         }
-    }
-
-    fn y(&self, nanoseconds: f64) -> f64 {
-        let share =
-            (nanoseconds.max(1.0).log10() - f64::from(self.low)) / f64::from(self.high - self.low);
-        HEIGHT - BELOW - share * (HEIGHT - ABOVE - BELOW)
-    }
+    };
+    TOGETHER.into_iter().map(panel).collect()
 }
 
-fn x(size: usize) -> f64 {
-    let [first, .., last] = SIZES.map(|size| (size as f64).ln());
-    LEFT + ((size as f64).ln() - first) / (last - first) * (WIDTH - LEFT - RIGHT)
-}
-
-fn panel(svg: &mut String, figures: &Figures, operation: Operation) {
-    let scale = Scale::of(figures, operation);
-    let title = format!("{}, ns", operation.title());
-    draw(svg, &text(LEFT, 20.0, "start", &title));
-    for power in scale.low..=scale.high {
-        let y = scale.y(10f64.powi(power));
-        let label = thousands(10usize.pow(power as u32));
-        draw(svg, &rule(y));
-        draw(svg, &text(LEFT - 6.0, y + 4.0, "end", &label));
-    }
-    for size in SIZES {
-        let below = HEIGHT - BELOW + 16.0;
-        draw(svg, &text(x(size), below, "middle", &thousands(size)));
-    }
-    for (name, colour) in ALL.iter().zip(COLOURS) {
-        let points: Vec<(f64, f64)> = SIZES
+/// A line through what was measured under each name.
+fn lines(
+    names: &[&'static str],
+    sizes: [usize; 3],
+    of: impl Fn(&str, usize) -> Option<f64>,
+) -> Vec<Line> {
+    let line = |(name, style): (&&'static str, (&'static str, Mark))| {
+        let points = sizes
             .iter()
-            .filter_map(|&size| Some((x(size), scale.y(figures.of(operation, size, name)?))))
-            .collect();
-        curve(svg, &points, colour);
-    }
+            .filter_map(|&size| Some((size, of(name, size)?)));
+        Line {
+            name,
+            style,
+            points: points.collect(),
+        }
+    };
+    let all = names.iter().zip(STYLES).map(line);
+    all.filter(|line| !line.points.is_empty()).collect()
 }
 
-fn text(x: f64, y: f64, anchor: &str, words: &str) -> String {
-    format!("<text x=\"{x:.1}\" y=\"{y:.1}\" text-anchor=\"{anchor}\">{words}</text>")
+/// The panels side by side, from this height down.
+fn placed(panels: &[Panel], from: f64) -> String {
+    let place = |(index, panel): (usize, &Panel)| {
+        let x = WIDTH * (index % COLUMNS) as f64;
+        let y = from + Panel::height(panel.legend) * (index / COLUMNS) as f64;
+        let drawn = panel.drawn();
+        format!("<g transform=\"translate({x} {y})\">\n{drawn}</g>\n")
+    };
+    panels.iter().enumerate().map(place).collect()
 }
 
-/// A thin line across the panel.
-fn rule(y: f64) -> String {
-    let right = WIDTH - RIGHT;
-    format!("<path d=\"M{LEFT} {y:.1}H{right}\" stroke=\"#dddddd\"/>")
-}
-
-fn curve(svg: &mut String, points: &[(f64, f64)], colour: &str) {
-    if points.is_empty() {
-        return;
-    }
-    let line: Vec<String> = points
-        .iter()
-        .map(|(x, y)| format!("{x:.1},{y:.1}"))
-        .collect();
-    let line = line.join(" ");
-    let style = format!("fill=\"none\" stroke=\"{colour}\" stroke-width=\"2\"");
-    draw(svg, &format!("<polyline points=\"{line}\" {style}/>"));
-    for (x, y) in points {
-        let place = format!("cx=\"{x:.1}\" cy=\"{y:.1}\"");
-        draw(svg, &format!("<circle {place} r=\"3\" fill=\"{colour}\"/>"));
-    }
+/// How high the panels are together.
+fn height(panels: &[Panel]) -> f64 {
+    Panel::height(panels[0].legend) * panels.len().div_ceil(COLUMNS) as f64
 }

@@ -1,21 +1,24 @@
-//! Who is measured, and that all of them do the same.
+//! Who is measured, at what.
 
+use crate::asked::{self, Asked};
 use crate::by_hand::ByHand;
 use crate::calls::{Floor, Proved, Session};
-use crate::clock::{Clock, REPETITIONS};
 use crate::figures::Figures;
+use crate::measure::{agreed, timed, Anybody};
 use crate::sample::Sample;
-use crate::work::{Contender, Done, Operation};
-use std::hint::black_box;
+use crate::shapes::{Blocks, Shape};
+use crate::work::Operation;
+use crate::worst::Row;
 
 /// Everybody who can be compared, by the name of the column.
 pub const STORE: &str = "store";
 pub const BY_HAND: &str = "Rust by hand";
 pub const LMDB: &str = "LMDB";
+pub const LMDB_COPIED: &str = "LMDB, copied";
 pub const SQLITE: &str = "SQLite";
 pub const FLOOR: &str = "memmove";
 
-pub const ALL: [&str; 5] = [STORE, BY_HAND, LMDB, SQLITE, FLOOR];
+pub const ALL: [&str; 6] = [STORE, BY_HAND, LMDB, LMDB_COPIED, SQLITE, FLOOR];
 
 /// The peers that were not installed when this was built, with the Debian package that brings each.
 pub const MISSING: &[(&str, &str)] = &[
@@ -25,76 +28,58 @@ pub const MISSING: &[(&str, &str)] = &[
     (SQLITE, "libsqlite3-dev"),
 ];
 
-fn contenders(sample: &Sample) -> Vec<Box<dyn Contender + '_>> {
+fn contenders(sample: &Sample) -> Vec<Anybody<'_, Operation>> {
     vec![
         Box::new(Session::<Proved>::new(sample)),
         Box::new(Session::<ByHand>::new(sample)),
         #[cfg(lmdb)]
         Box::new(crate::lmdb::Lmdb::new(sample)),
+        #[cfg(lmdb)]
+        Box::new(crate::lmdb::Copied::new(sample)),
         #[cfg(sqlite)]
         Box::new(crate::sqlite::Sqlite::new(sample)),
         Box::new(Floor::new(sample)),
     ]
 }
 
-/// Measures everybody at everything they offer. Their repetitions take turns, so that what else the machine does
-/// meets all of them.
-pub fn measure(sample: &Sample, figures: &mut Figures) {
+/// Measures everybody at everything they offer on a sample.
+pub fn measure(sample: &Sample, figures: &mut Figures<Operation>) {
     let mut contenders = contenders(sample);
     for operation in Operation::ALL {
-        let done = agreed(&mut contenders, operation);
-        let mut clocks = Vec::new();
-        for contender in &mut contenders {
-            if contender.run(operation).is_some() {
-                let clock = Clock::new(|| round(contender, operation));
-                clocks.push((contender, clock));
-            }
-        }
-        for _ in 0..REPETITIONS {
-            for (contender, clock) in &mut clocks {
-                clock.repeat(|| round(contender, operation));
-            }
-        }
-        for (contender, clock) in clocks {
-            let nanoseconds = clock.best() / done.count as f64;
+        let done = agreed(&mut contenders, &operation);
+        for (name, nanoseconds) in timed(&mut contenders, &operation) {
             let size = sample.segments.len();
-            figures.add(operation, size, contender.name(), nanoseconds);
+            figures.add(operation, size, name, nanoseconds / done.count as f64);
         }
     }
     assert!(contenders.iter().all(|contender| contender.is_as_before()));
 }
 
-fn round(contender: &mut Box<dyn Contender + '_>, operation: Operation) {
-    black_box(contender.run(operation));
+/// Those who work on the worst tables: the peers have no such tables.
+fn on_blocks(blocks: &Blocks) -> Vec<Anybody<'_, Asked>> {
+    vec![
+        Box::new(asked::Session::<Proved>::new(blocks)),
+        Box::new(asked::Session::<ByHand>::new(blocks)),
+    ]
 }
 
-/// What a round comes to; everybody who offers it must come to the same.
-fn agreed(contenders: &mut [Box<dyn Contender + '_>], operation: Operation) -> Done {
-    let mut all = contenders.iter_mut();
-    let first = all.next().and_then(|store| store.run(operation));
-    let first = first.expect("the store offers everything");
-    for contender in all {
-        if let Some(done) = contender.run(operation) {
-            assert_eq!(done, first, "{} at {operation:?}", contender.name());
+/// Measures the worst tables of so many cells.
+pub fn measure_worst(size: usize, figures: &mut Figures<Row>) {
+    for shape in Shape::ALL {
+        let blocks = shape.blocks(size);
+        let mut contenders = on_blocks(&blocks);
+        for row in Row::ALL.into_iter().filter(|row| row.shape() == shape) {
+            let asked = row.asked(&blocks);
+            let done = agreed(&mut contenders, &asked);
+            assert_eq!(done, row.expected(&blocks), "{row:?}");
+            let parts = if row.is_whole() { 1 } else { done.count };
+            for (name, nanoseconds) in timed(&mut contenders, &asked) {
+                figures.add(row, size, name, nanoseconds / parts as f64);
+            }
         }
+        assert!(contenders.iter().all(|contender| contender.is_as_before()));
     }
-    assert!(first.count > 0);
-    first
 }
 
 #[cfg(test)]
-mod tests {
-    use super::*;
-
-    #[test]
-    fn everybody_does_the_same() {
-        for size in [10, 64, 512] {
-            let sample = Sample::new(size);
-            let mut contenders = contenders(&sample);
-            for operation in Operation::ALL {
-                agreed(&mut contenders, operation);
-            }
-            assert!(contenders.iter().all(|contender| contender.is_as_before()));
-        }
-    }
-}
+mod tests;

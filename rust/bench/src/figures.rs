@@ -1,21 +1,26 @@
 //! What was measured.
 
 use crate::work::Operation;
+use crate::worst::Row;
 
-struct Figure {
-    operation: Operation,
+struct Figure<R> {
+    row: R,
     size: usize,
     name: &'static str,
     nanoseconds: f64,
 }
 
-#[derive(Default)]
-pub struct Figures(Vec<Figure>);
+/// The figures of the rows of one kind.
+pub struct Figures<R>(Vec<Figure<R>>);
 
-impl Figures {
-    pub fn add(&mut self, operation: Operation, size: usize, name: &'static str, nanoseconds: f64) {
+impl<R: PartialEq> Figures<R> {
+    pub fn new() -> Figures<R> {
+        Figures(Vec::new())
+    }
+
+    pub fn add(&mut self, row: R, size: usize, name: &'static str, nanoseconds: f64) {
         self.0.push(Figure {
-            operation,
+            row,
             size,
             name,
             nanoseconds,
@@ -23,10 +28,15 @@ impl Figures {
     }
 
     /// The nanoseconds of one, if it was measured.
-    pub fn of(&self, operation: Operation, size: usize, name: &str) -> Option<f64> {
-        let is_it = |figure: &&Figure| {
-            figure.operation == operation && figure.size == size && figure.name == name
-        };
+    pub fn of(&self, row: R, size: usize, name: &str) -> Option<f64> {
+        let is_it =
+            |figure: &&Figure<R>| figure.row == row && figure.size == size && figure.name == name;
         self.0.iter().find(is_it).map(|figure| figure.nanoseconds)
     }
+}
+
+/// All the figures of a run.
+pub struct Run {
+    pub sample: Figures<Operation>,
+    pub worst: Figures<Row>,
 }

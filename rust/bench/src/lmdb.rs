@@ -1,12 +1,15 @@
 //! LMDB: segments by the keys on their path, which LMDB keeps in hierarchic order. Its file is never synced to
 //! the disk.
 
-use crate::sample::{serial, Sample, Segment, STEP, UNIT};
+use crate::contenders::{LMDB, LMDB_COPIED};
+use crate::sample::{serial, Sample, Segment, LENGTH, STEP, UNIT};
 use crate::work::{Contender, Done, Operation};
 use std::ffi::{c_char, c_int, c_uint, c_void, CString};
+use std::hint::black_box;
 use std::os::unix::ffi::OsStrExt;
 use std::path::PathBuf;
 use std::ptr::null_mut;
+use std::sync::atomic::{AtomicUsize, Ordering};
 
 #[repr(C)]
 struct Value {
@@ -76,9 +79,13 @@ pub struct Lmdb<'s> {
     file: PathBuf,
 }
 
+/// How many files there have been, so that each has a name of its own.
+static FILES: AtomicUsize = AtomicUsize::new(0);
+
 impl<'s> Lmdb<'s> {
     pub fn new(sample: &'s Sample) -> Lmdb<'s> {
-        let name = format!("umbristal-bench-{}", std::process::id());
+        let turn = FILES.fetch_add(1, Ordering::Relaxed);
+        let name = format!("umbristal-bench-{}-{turn}", std::process::id());
         let file = std::env::temp_dir().join(name);
         let mut lmdb = Lmdb {
             sample,
@@ -115,25 +122,26 @@ impl<'s> Lmdb<'s> {
         done(mdb_cursor_open(self.reading, self.dbi, &mut self.cursor));
     }
 
-    fn listing(&mut self) -> Done {
+    /// Every segment, with what a taker reads off the data that LMDB points to.
+    fn listing(&mut self, mut taken: impl FnMut(&[u8]) -> u64) -> Done {
         let mut work = Done { count: 0, sum: 0 };
         let (mut key, mut data) = (Value::none(), Value::none());
         let mut op = FIRST;
         while unsafe { mdb_cursor_get(self.cursor, &mut key, &mut data, op) } == 0 {
             work.count += 1;
-            work.sum += serial(data.bytes());
+            work.sum += taken(data.bytes());
             op = NEXT;
         }
         work
     }
 
-    fn unique(&mut self) -> Done {
+    fn unique(&mut self, mut taken: impl FnMut(&[u8]) -> u64) -> Done {
         let mut sum = 0;
         for ([u1, u2], [s1, s2]) in &self.sample.probes {
             let path = [*u1, *u2, *s1, *s2];
             let (mut key, mut data) = (Value::of(&path), Value::none());
             done(unsafe { mdb_get(self.reading, self.dbi, &mut key, &mut data) });
-            sum += serial(data.bytes());
+            sum += taken(data.bytes());
         }
         Done {
             count: self.sample.probes.len(),
@@ -213,19 +221,56 @@ impl<'s> Lmdb<'s> {
     }
 }
 
-impl Contender for Lmdb<'_> {
+impl Contender<Operation> for Lmdb<'_> {
     fn name(&self) -> &'static str {
-        "LMDB"
+        LMDB
     }
 
-    fn run(&mut self, operation: Operation) -> Option<Done> {
+    fn run(&mut self, operation: &Operation) -> Option<Done> {
         match operation {
-            Operation::Listing => Some(self.listing()),
+            Operation::Listing => Some(self.listing(serial)),
             Operation::Nested => Some(self.nested()),
             Operation::Joined => Some(self.joined()),
-            Operation::Unique => Some(self.unique()),
+            Operation::Unique => Some(self.unique(serial)),
             Operation::InsertGetDelete => Some(self.insert_delete()),
-            Operation::Plain | Operation::InsertDelete | Operation::Checked => None,
+            Operation::Plain
+            | Operation::InsertDelete
+            | Operation::Checked
+            | Operation::InTurns => None,
+        }
+    }
+}
+
+/// LMDB under a caller who copies what is found to an area of his own, as the store does: the rows in which it does.
+pub struct Copied<'s> {
+    lmdb: Lmdb<'s>,
+    area: [u8; LENGTH],
+}
+
+impl<'s> Copied<'s> {
+    pub fn new(sample: &'s Sample) -> Copied<'s> {
+        Copied {
+            lmdb: Lmdb::new(sample),
+            area: [0; LENGTH],
+        }
+    }
+}
+
+impl Contender<Operation> for Copied<'_> {
+    fn name(&self) -> &'static str {
+        LMDB_COPIED
+    }
+
+    fn run(&mut self, operation: &Operation) -> Option<Done> {
+        let area = &mut self.area;
+        let copied = |data: &[u8]| {
+            area[..data.len()].copy_from_slice(data);
+            serial(black_box(&*area))
+        };
+        match operation {
+            Operation::Listing => Some(self.lmdb.listing(copied)),
+            Operation::Unique => Some(self.lmdb.unique(copied)),
+            _ => None,
         }
     }
 }

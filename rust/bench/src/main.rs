@@ -1,6 +1,7 @@
-//! What a call costs. `bench FOLDER` measures, prints a table, and writes BENCHMARK.md and benchmark.svg into the
-//! folder; without a folder it only prints.
+//! What a call costs. `bench FOLDER` measures, prints tables, and writes BENCHMARK.md and benchmark.svg into the
+//! folder, which it makes; without a folder it only prints.
 
+mod asked;
 mod by_hand;
 mod calls;
 mod chart;
@@ -9,15 +10,23 @@ mod contenders;
 mod figures;
 #[cfg(lmdb)]
 mod lmdb;
+mod markdown;
+mod marks;
+mod measure;
 mod page;
+mod panel;
 mod processor;
 mod sample;
+mod shapes;
 #[cfg(sqlite)]
 mod sqlite;
+mod targets;
 mod work;
+mod worst;
 
-use figures::Figures;
+use figures::{Figures, Run};
 use sample::Sample;
+use stack::Depth;
 use std::path::Path;
 use std::process::ExitCode;
 
@@ -26,26 +35,45 @@ const SIZES: [usize; 3] = [64, 512, 4059];
 
 fn main() -> ExitCode {
     print!("{}", page::missing());
-    let mut figures = Figures::default();
-    for size in SIZES {
-        contenders::measure(&Sample::new(size), &mut figures);
-        println!("{}", page::costs(&figures, size));
-    }
-    println!("{}", page::targets(&figures));
+    let run = run();
     let depths = stack::depths();
     println!("{}", page::depths(&depths));
     let Some(folder) = std::env::args().nth(1) else {
         return ExitCode::SUCCESS;
     };
-    let page = page::page(&figures, &depths);
-    let chart = chart::chart(&figures);
-    let written = std::fs::write(Path::new(&folder).join("BENCHMARK.md"), page)
-        .and_then(|()| std::fs::write(Path::new(&folder).join("benchmark.svg"), chart));
-    match written {
-        Ok(()) => ExitCode::SUCCESS,
+    match written(Path::new(&folder), &run, &depths) {
+        Ok(()) => {
+            println!("{folder}: BENCHMARK.md and benchmark.svg are written");
+            ExitCode::SUCCESS
+        }
         Err(error) => {
             eprintln!("{folder}: {error}");
             ExitCode::FAILURE
         }
     }
+}
+
+/// Measures everything, and tells it on the way.
+fn run() -> Run {
+    let mut run = Run {
+        sample: Figures::new(),
+        worst: Figures::new(),
+    };
+    for size in SIZES {
+        contenders::measure(&Sample::new(size), &mut run.sample);
+        println!("{}", page::costs(&run.sample, size));
+    }
+    for size in shapes::SIZES {
+        contenders::measure_worst(size, &mut run.worst);
+    }
+    println!("{}", page::worst(&run.worst));
+    println!("{}", targets::targets(&run));
+    println!("{}", targets::without_target(&run));
+    run
+}
+
+fn written(folder: &Path, run: &Run, depths: &[Depth]) -> std::io::Result<()> {
+    std::fs::create_dir_all(folder)?;
+    std::fs::write(folder.join("BENCHMARK.md"), page::page(run, depths))?;
+    std::fs::write(folder.join("benchmark.svg"), chart::chart(run))
 }

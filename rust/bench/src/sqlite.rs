@@ -194,12 +194,12 @@ impl<'s> Sqlite<'s> {
     }
 }
 
-impl Contender for Sqlite<'_> {
+impl Contender<Operation> for Sqlite<'_> {
     fn name(&self) -> &'static str {
         "SQLite"
     }
 
-    fn run(&mut self, operation: Operation) -> Option<Done> {
+    fn run(&mut self, operation: &Operation) -> Option<Done> {
         let by = self.statements.as_ref()?;
         let mut work = Done { count: 0, sum: 0 };
         match operation {
@@ -208,7 +208,10 @@ impl Contender for Sqlite<'_> {
             Operation::Nested => work = self.nested(by),
             Operation::Unique => work = self.unique(by),
             Operation::InsertGetDelete => work = self.insert_delete(by),
-            Operation::Plain | Operation::InsertDelete | Operation::Checked => return None,
+            Operation::Plain
+            | Operation::InsertDelete
+            | Operation::Checked
+            | Operation::InTurns => return None,
         }
         Some(work)
     }

@@ -19,10 +19,12 @@ pub enum Operation {
     InsertGetDelete,
     /// Get-next with every check before it.
     Checked,
+    /// The listing by sixteen positions in turns, so that no step reads the block that the step before wrote.
+    InTurns,
 }
 
 impl Operation {
-    pub const ALL: [Operation; 8] = [
+    pub const ALL: [Operation; 9] = [
         Operation::Listing,
         Operation::Nested,
         Operation::Joined,
@@ -31,6 +33,7 @@ impl Operation {
         Operation::InsertDelete,
         Operation::InsertGetDelete,
         Operation::Checked,
+        Operation::InTurns,
     ];
 
     /// Its title, with what is counted.
@@ -44,6 +47,7 @@ impl Operation {
             Operation::InsertDelete => "ISRT + DLET early in the table",
             Operation::InsertGetDelete => "ISRT + GHU + DLET, by key",
             Operation::Checked => "checked GN",
+            Operation::InTurns => "GN step, 16 positions in turns",
         }
     }
 }
@@ -57,12 +61,12 @@ pub struct Done {
     pub sum: u64,
 }
 
-/// Somebody who does the work on one sample.
-pub trait Contender {
+/// Somebody who does the work on one table. What is asked there is an operation, or something else.
+pub trait Contender<W> {
     fn name(&self) -> &'static str;
 
-    /// One round, or nothing where the operation is not offered. What it changes it changes back.
-    fn run(&mut self, operation: Operation) -> Option<Done>;
+    /// One round, or nothing where the work is not offered. What it changes it changes back.
+    fn run(&mut self, work: &W) -> Option<Done>;
 
     /// Whether all that was done has been undone.
     fn is_as_before(&self) -> bool {
@@ -72,3 +76,12 @@ pub trait Contender {
 
 /// How many get-next calls a round of checked calls has.
 pub const CHECKED_CALLS: usize = 16;
+
+/// How many positions take turns.
+pub const TURNS: usize = 16;
+
+/// The numbers of cells in a report's out or in a position, two bytes each.
+pub fn cell_numbers(bytes: &[u8]) -> impl Iterator<Item = u64> + '_ {
+    let pairs = bytes.chunks_exact(2);
+    pairs.map(|cell| u64::from(cell[0]) << 8 | u64::from(cell[1]))
+}

@@ -1,5 +1,6 @@
 //! Catalogue and table: lookups and checks.
 
+use face::status::{BLANK, CX, TX};
 use std::cmp::Ordering;
 use std::ops::Range;
 
@@ -168,6 +169,15 @@ fn check_type(catalogue: Catalogue, known: &Types, code: u8) -> Option<u8> {
 
 fn fits(start: u8, length: u8, whole: u8) -> bool {
     start >= 1 && length >= 1 && u16::from(start) + u16::from(length) - 1 <= u16::from(whole)
+}
+
+/// CX, TX or 0.
+pub fn table_check(catalogue: &[u8], table: &[u8]) -> u8 {
+    match check_catalogue(catalogue) {
+        None => CX,
+        Some(types) if !check_table(&types, table) => TX,
+        Some(_) => BLANK,
+    }
 }
 
 /// How many segments a table has.
