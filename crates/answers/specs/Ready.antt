@@ -3,19 +3,20 @@ use mathlib.Core.Path.{_≡_}
 use mathlib.Core.Bool.{Bool, true}
 use mathlib.Core.Option.{none}
 use mathlib.Core.List.{List}
-use Prim.Native.Nat.{ℕ}
+use Prim.Native.Nat.{ℕ, _-_, _<_}
 use Rattle.terms.specs.declared.Position.{Position}
 use Rattle.terms.specs.declared.Parentage.{Parentage}
 use Rattle.terms.specs.declared.Status.{Status}
 use Rattle.terms.specs.declared.Status.the-variants.{Blank}
 use Rattle.terms.specs.declared.Answer.{Answer}
-use Rattle.terms.specs.Moves.{movedOnto}
+use Rattle.terms.specs.Moves.{movedOnto, afterPlace}
 use Rattle.rules.specs.Block.{Bytes}
 use Rattle.rules.specs.Catalogue.{goodCatalogue}
 use Rattle.rules.specs.Table.{goodTable, listing}
 use Rattle.rules.specs.Cells.{Segment, segment, shownBytes}
 use Rattle.rules.specs.Position.{goodPosition}
-use Rattle.rules.specs.Arguments.{listRead}
+use Rattle.rules.specs.Arguments.{listRead, getLevels}
+use Rattle.rules.specs.Matching.{matches}
 use Rattle.rules.specs.Change.{nothing}
 use Rattle.rules.specs.Calls.{After, over, answerOf}
 use Rattle.rules.specs.Outcome.{Outcome}
@@ -35,6 +36,13 @@ pub record Ready (cat tab : Bytes) (size : ℕ) (pos : Position) (list : Bytes) 
   pub sound : Sound cat tab size
   pub position : goodPosition cat (listing cat tab) pos ≡ true
   pub asked : listRead cat list .fault ≡ Blank
+
+-- the cell before the one that a get-next would look at first, if there is one, matches the list: so where get-next with this list has found the last
+-- cell, or begins
+abbrev pub Again : Bytes → Bytes → Bytes → Position → Type 0
+Again cat tab list pos =
+    0 < afterPlace (pos .place)
+    → matches cat (listing cat tab) (getLevels cat list (listRead cat list .arguments)) (afterPlace (pos .place) - 1) ≡ true
 
 -- a place on a cell that is held
 pub record Held (cat tab : Bytes) (size : ℕ) (pos : Position) : Type 0 where

@@ -35,15 +35,18 @@ cut b a e l =
     (sym (take-append-drop (e - a) (drop a b))
     ∙ ap (λ (t : Bytes). take (e - a) (drop a b) ++ t) (drop-drop (e - a) a b ∙ ap (λ (k : ℕ). drop k b) z))
 
+-- z is written over, all of it
+pub anew : (s z y : Bytes) → length z ≤ length s → y ≡ s ++ drop (length s) z → y ≡ s
+anew s z y l e = e ∙ ap (λ (t : Bytes). s ++ t) (drop-of-length-le z {i = length s} l) ∙ append-nil s
+
 -- a part all of whose bytes are written anew
 pub put-part : (tab from y : Bytes) (start end : ℕ) → length from ≡ end - start → start ≤ end → end ≤ length tab
     → y ≡ from ++ drop (length from) (midOf start (end - start) tab) → putMid start (end - start) tab y ≡ take start tab ++ (from ++ drop end tab)
 put-part tab from y start end f l in-tab e =
     let n : length (midOf start (end - start) tab) ≡ end - start = mid-len start end tab in-tab in
-    let v : drop (length from) (midOf start (end - start) tab) ≡ [] = drop-of-length-le (midOf start (end - start) tab) {i = length from} (omega arith) in
     back tab (take start tab) (midOf start (end - start) tab) (drop end tab) start end (cut tab start end l)
     (length-take-le start tab (omega arith)) (omega arith) y
-    ∙ ap (λ (t : Bytes). take start tab ++ (t ++ drop end tab)) (e ∙ ap (λ (t : Bytes). from ++ t) v ∙ append-nil from)
+    ∙ ap (λ (t : Bytes). take start tab ++ (t ++ drop end tab)) (anew from (midOf start (end - start) tab) y (omega arith) e)
 
 -- a tail that was lent, said of the whole: F is what the callee did to it
 pub lent-tail : (F : Bytes → Bytes) (a y : Bytes) (at : ℕ) → y ≡ F (take (length a - at) (drop at a))

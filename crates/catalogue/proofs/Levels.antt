@@ -1,6 +1,7 @@
 -- A row of type levels, one type more at a time: each from its parent's. Assumes nothing.
 use mathlib.Core.Path.{_≡_, refl, ap, sym, _∙_}
 use mathlib.Core.Bool.{true}
+use mathlib.Core.List.{[]}
 use Prim.Native.Nat.{ℕ, zero, suc, _+_, _-_, _*_, _<_, _≤_}
 use native.Mathlib.Omega.{arith}
 use lib.ListN.{length, set, length-set, replicate}
@@ -13,7 +14,7 @@ use Rattle.rules.specs.Block.{Bytes, byte}
 use Rattle.rules.specs.Catalogue.{types, typeByte, parentOf, lineage, level, isType, goodCatalogue}
 use Rattle.rules.proofs.Catalogue.{par, lower-to}
 use Rattle.catalogue.specs.Levels.{Ordered, Levels}
-use Rattle.catalogue.proofs.Hierarchy.{type-range, header-facts, parent-before, level-child}
+use Rattle.catalogue.proofs.Hierarchy.{type-range, header-facts}
 
 -- as many types stand above as the climb has steps
 climbed-most : (par : ℕ → ℕ) (n u : ℕ) → length (Types.lineageFrom par n u) ≤ n
@@ -78,29 +79,17 @@ module _ (cat : Bytes) where
         let f = header-facts cat g in
         record { few = omega (arith, f .types-most); within = omega (arith, f .size); lower = lower-to cat g k h }
 
-    -- of one type alone: one more than its parent's, where the row ends
-    module _ (t : TypeCode) (k : isType cat t ≡ true) (a : ℕ) (is : a ≡ byte cat (8 * t .0)) where
-      entry : a ≡ parentOf cat t .0
-      unfolding typeByte parentOf
-      entry = let z : 8 * t .0 + 0 ≡ 8 * t .0 = omega arith in is ∙ rw z
+    -- one type up, as its entry has it: k levels were counted so far, of those of type t
+    module _ (t : TypeCode) (is-type : isType cat t ≡ true) (k u : ℕ) (known : u ≤ types cat) (counted : k + level cat (code u) ≡ level cat t) where
+      pub counted-few : k < 33
+      counted-few = omega (arith, counted, level-within t, type-range cat t is-type .1, header-facts cat g .types-most)
 
-      above-least : a < t .0
-      above-least = rw entry (parent-before cat g t (type-range cat t k .0) (type-range cat t k .1))
+      module _ (a : ℕ) (some : 0 < u) (is : a ≡ byte cat (8 * u)) where
+        pub up-less : a < u
+        up-less = above-before [] u a (ordered u known) some is
 
-      pub above-type : a ≤ types cat
-      above-type = omega (arith, above-least, type-range cat t k .1)
-
-      module _ (row : Bytes) (l : Levels cat row a) (b : ℕ) (e : b ≡ a) where
-        pub index-few : b < 33
-        index-few = omega (arith, above-type, header-facts cat g .types-most)
-
-        pub level-above : byte row b + 1 ≡ level cat t
-        level-above =
-            let f : level cat (code a) ≡ level cat (parentOf cat t) = ap (λ (u : ℕ). level cat (code u)) entry in
-            rw e (omega (arith, l .each a (omega arith), level-child cat g t (type-range cat t k .0) (type-range cat t k .1), f))
-
-        pub level-few : byte row b < 33
-        level-few = omega (arith, level-above, level-within t, type-range cat t k .1, header-facts cat g .types-most)
+        pub counted-more : k + 1 + level cat (code a) ≡ level cat t
+        counted-more = omega (arith, counted, level-up [] u a (ordered u known) some is)
 
     -- the row of all types, asked for one of them
     module _ (row : Bytes) (l : Levels cat row (types cat)) (t : TypeCode) (k : isType cat t ≡ true) (b : ℕ) (e : b ≡ t .0) where

@@ -48,15 +48,18 @@ pub fn level_by(row: &[u8; 33], cat: &[u8], t: TypeCode) -> u8
     row[wide(t.0)]
 }
 
-// The level of one type alone: the row ends with its parent's.
+// The level of one type alone: as many types as there are from it up to the root's.
 pub fn level(cat: &[u8], t: TypeCode) -> u8
     requires { ⌜ (goodCatalogue (now cat) ≡ true) × (isType (now cat) t ≡ true) ⌝ }
     ensures { λ r. ⌜ r ≡ level (now (cat .entry)) t ⌝ }
 {
-    let above = cat[8 * wide(t.0)];
-    let mut row = [0u8; 33];
-    levels_to(cat, &mut row, TypeCode(above));
-    row[wide(above)] + 1
+    let mut u = t.0;
+    let mut l: u8 = 0;
+    while 0 < u {
+        u = cat[8 * wide(u)];
+        l += 1;
+    }
+    l
 }
 
 // Whether x is t or a type above it.

@@ -27,7 +27,7 @@ fn get(
 {
     match form {
         1 => gets::get_unique(cat, tab, size, pos, list, area, hold),
-        2 => gets::get_next(cat, tab, size, pos, list, &list[..0], area, hold),
+        2 => gets::get_next(cat, tab, size, pos, list, &list[..0], area, hold, false),
         _ => gets::get_next_within(cat, tab, size, pos, list, &list[..0], area, hold),
     }
 }

@@ -6,35 +6,34 @@ use Prim.Native.Nat.{ℕ, suc, _-_, _<_, _≤_}
 use native.Mathlib.Omega.{arith}
 use lib.Dec.{ltb}
 use lib.ListN.{length, drop}
-use borrow.Author.Tests.{lt-ltb, le-ltb, eq-eqb, ne-eqb, ltb-true, ltb-false}
+use borrow.Author.Tests.{ltb-true, ltb-false}
 use Rattle.terms.specs.declared.TypeCode.{TypeCode}
 use Rattle.terms.specs.declared.CellNumber.{CellNumber}
 use Rattle.terms.specs.declared.Place.{Place}
-use Rattle.terms.specs.declared.Place.the-variants.{On, Before}
 use Rattle.terms.specs.declared.Parentage.{Parentage}
 use Rattle.terms.specs.declared.Parentage.the-variants.{Absent, Of}
 use Rattle.terms.specs.declared.Position.{Position}
 use Rattle.terms.specs.declared.Status.{Status}
-use Rattle.terms.specs.declared.Status.the-variants.{Blank, GA, GK, GB, GE}
+use Rattle.terms.specs.declared.Status.the-variants.{Blank, GB, GE}
 use Rattle.terms.specs.declared.Answer.{Answer}
 use Rattle.terms.specs.declared.Found.{Found}
 use Rattle.terms.specs.declared.Found.the-variants.{At, Nothing}
 use Rattle.terms.specs.Choice.{pick}
-use Rattle.terms.specs.Names.{code, cell, sameType}
+use Rattle.terms.specs.Names.{cell}
 use Rattle.terms.specs.Moves.{afterPlace, isAbsent, movedOnto}
 use Rattle.rules.specs.Block.{Bytes, part}
-use Rattle.rules.specs.Catalogue.{types, parentOf, lengthOf, level}
-use Rattle.rules.specs.Cells.{Segment, segment, shownBytes, long as segmentLong, levelAt, endAt}
+use Rattle.rules.specs.Catalogue.{lengthOf}
+use Rattle.rules.specs.Cells.{Segment, segment, shownBytes, long as segmentLong, endAt}
 use Rattle.rules.specs.Table.{count, listing}
 use Rattle.rules.specs.Arguments.{Level, ListRead, listRead, lastArgument, complete, getLevels}
 use Rattle.rules.specs.Matching.{firstMatch, along}
-use Rattle.rules.specs.Calls.{bare, afterMiss, answerOf, missStatus, levelStatus, getUnique, getNext, getNextWithin}
+use Rattle.rules.specs.Calls.{over, bare, afterMiss, answerOf, missStatus, levelStatus, getUnique, getNext, getNextWithin}
 use Rattle.rules.proofs.Cells.{listing-length}
-use Rattle.catalogue.proofs.Hierarchy.{type-range, cell-holds, level-child, level-least}
+use Rattle.catalogue.proofs.Hierarchy.{type-range, cell-holds, level-least}
 use Rattle.cells.specs.Sound.{Sound}
 use Rattle.cells.proofs.Located.{end-within}
 use Rattle.cells.proofs.Data.{data-long}
-use Rattle.cells.proofs.Ancestry.{sound-listing, own-type, sound-known, sound-data, sound-part}
+use Rattle.cells.proofs.Ancestry.{sound-known, sound-data, sound-part}
 use Rattle.arguments.specs.Sound.{SoundList}
 use Rattle.arguments.proofs.Sound.{list-empty, last-asks}
 use Rattle.arguments.proofs.Complete.{complete-length}
@@ -51,17 +50,22 @@ data-fits {cat} {tab} {size} s i l =
     let r = type-range cat (segment (listing cat tab) i .code) (sound-known s i l) in
     omega (arith, cell-holds cat (s .catalogue) (segment (listing cat tab) i .code) (r .0) (r .1), s .sized .is)
 
--- what a get writes and answers, once cell i is found: `from` are the bytes that are put over the front of the area
+-- what a get writes, once cell i is found: `from` are the bytes that are put over the front of the area
 module _ {cat tab : Bytes} {size i : ℕ} (snd : Sound cat tab size) (l : i < count tab) {t : TypeCode} (g : t ≡ segment (listing cat tab) i .code)
     {long : ℕ} (f : long ≡ lengthOf cat t) {from : Bytes} (b : from ≡ part (segment (listing cat tab) i .bytes) (1 - 1) long) (area : Bytes) where
   pub got-fits : size ≤ suc (length area) → length from ≤ length area
   got-fits m = omega (arith, ap length b, data-long (sound-data snd l g f), f ∙ ap (lengthOf cat) g, data-fits snd i l)
 
-  pub got-is : (s : Status) (parentage : Parentage) (hold : Bool) {out : Bytes} {r : Answer} {p : Position}
-      → p ≡ movedOnto i parentage hold → r ≡ told cat s p t 0 → out ≡ from ++ drop (length from) area
-      → left r out ≡ gotAt cat (listing cat tab) s parentage hold i area
-  unfolding told answerOf segmentLong shownBytes
-  got-is s parentage hold h k o = rw (o, b ∙ sound-part snd l g f, k, h, g)
+  pub shown-is : {out : Bytes} → out ≡ from ++ drop (length from) area → out ≡ over (shownBytes cat (segment (listing cat tab) i)) area
+  unfolding shownBytes
+  shown-is o = rw (o, b ∙ sound-part snd l g f)
+
+-- what a get answers, once cell i is found and shown
+pub got-is : (cat tab : Bytes) (i : ℕ) (s : Status) (parentage : Parentage) (hold : Bool) (area : Bytes)
+    {t : TypeCode} {out : Bytes} {r : Answer} {p : Position} → t ≡ segment (listing cat tab) i .code → out ≡ over (shownBytes cat (segment (listing cat tab) i)) area
+    → p ≡ movedOnto i parentage hold → r ≡ told cat s p t 0 → left r out ≡ gotAt cat (listing cat tab) s parentage hold i area
+unfolding told answerOf segmentLong
+got-is cat tab i s parentage hold area g o h k = rw (o, k, h, g)
 
 module _ {cat tab : Bytes} {size : ℕ} {pos : Position} {list : Bytes} (r : Ready cat tab size pos list) where
   abbrev cs : List Segment
@@ -146,78 +150,6 @@ module _ {cat tab : Bytes} {size : ℕ} {pos : Position} {list : Bytes} (r : Rea
   module _ (i : ℕ) where
     pub status-named : (length list ≡ 0 → ⊥) → Blank ≡ levelStatus cat cs ls (pos .place) i
     status-named n = sym (status-filled ls (pos .place) i (levels-some n))
-
-    pub status-gap : (q : CellNumber) → length list ≡ 0 → pos .place ≡ Before q → Blank ≡ levelStatus cat cs ls (pos .place) i
-    status-gap q e f = rw (levels-none e, f)
-
-    module _ (q : CellNumber) (was here : ℕ) (e : length list ≡ 0) (f : pos .place ≡ On q) (w : was ≡ levelAt cat cs (q .0)) (h : here ≡ levelAt cat cs i) where
-      pub status-less : here < was → GA ≡ levelStatus cat cs ls (pos .place) i
-      status-less l = rw (levels-none e, f, lt-ltb (levelAt cat cs i) (levelAt cat cs (q .0)) (omega arith))
-
-      pub status-more : was < here → Blank ≡ levelStatus cat cs ls (pos .place) i
-      status-more l = rw (levels-none e, f, le-ltb (levelAt cat cs i) (levelAt cat cs (q .0)) (omega arith), ne-eqb (levelAt cat cs i) (levelAt cat cs (q .0)) (λ z. omega arith))
-
-      module _ (s : here ≡ was) (t u : TypeCode) (x : t ≡ segment cs i .code) (y : u ≡ segment cs (q .0) .code) where
-        level-same : levelStatus cat cs ls (pos .place) i ≡ pick (not (sameType t u)) GK Blank
-        level-same =
-            rw (
-              levels-none e,
-              f,
-              le-ltb (levelAt cat cs i) (levelAt cat cs (q .0)) (omega arith),
-              eq-eqb (levelAt cat cs i) (levelAt cat cs (q .0)) (omega arith),
-              x,
-              y,
-            )
-
-        pub status-twin : t .0 ≡ u .0 → Blank ≡ levelStatus cat cs ls (pos .place) i
-        status-twin z = rw (level-same, eq-eqb (t .0) (u .0) z)
-
-        pub status-other : (t .0 ≡ u .0 → ⊥) → GK ≡ levelStatus cat cs ls (pos .place) i
-        status-other z = rw (level-same, ne-eqb (t .0) (u .0) z)
-
-    -- the same from the codes: t is the type of cell i, which was found, and u that of the place
-    module _ (q : CellNumber) (t u : TypeCode) (e : length list ≡ 0) (f : pos .place ≡ On q) (l : i < count tab) (m : q .0 < count tab) (x : t ≡ segment cs i .code) (y : u ≡ segment cs (q .0) .code) where
-      found-type : (1 ≤ t .0) × (t .0 ≤ types cat)
-      found-type = rw x (own-type cat cs (r .sound .catalogue) (sound-listing (r .sound)) i (omega (arith, listing-length cat tab)))
-
-      place-type : (1 ≤ u .0) × (u .0 ≤ types cat)
-      place-type = rw y (own-type cat cs (r .sound .catalogue) (sound-listing (r .sound)) (q .0) (omega (arith, listing-length cat tab)))
-
-      found-level : level cat t ≡ levelAt cat cs i
-      unfolding levelAt
-      found-level = ap (level cat) x
-
-      place-level : level cat u ≡ levelAt cat cs (q .0)
-      unfolding levelAt
-      place-level = ap (level cat) y
-
-      pub codes-same : t .0 ≡ u .0 → Blank ≡ levelStatus cat cs ls (pos .place) i
-      codes-same z = status-twin q (level cat u) (level cat t) e f place-level found-level (ap (λ (v : ℕ). level cat (code v)) z) t u x y z
-
-      module _ (p : TypeCode) (g : p ≡ parentOf cat t) where
-        above-found : level cat t ≡ suc (level cat p)
-        above-found = level-child cat (r .sound .catalogue) t (found-type .0) (found-type .1) ∙ ap (λ (v : TypeCode). suc (level cat v)) (sym g)
-
-        pub codes-child : p .0 ≡ u .0 → Blank ≡ levelStatus cat cs ls (pos .place) i
-        codes-child z =
-            let h : level cat p ≡ level cat u = ap (λ (v : ℕ). level cat (code v)) z in
-            status-more q (level cat u) (level cat t) e f place-level found-level (omega (arith, above-found))
-
-        pub codes-sibling : (o : TypeCode) → o ≡ parentOf cat u → (t .0 ≡ u .0 → ⊥) → p .0 ≡ o .0 → GK ≡ levelStatus cat cs ls (pos .place) i
-        codes-sibling o k n z =
-            let a : level cat u ≡ suc (level cat o) = level-child cat (r .sound .catalogue) u (place-type .0) (place-type .1) ∙ ap (λ (v : TypeCode). suc (level cat v)) (sym k) in
-            let b : level cat p ≡ level cat o = ap (λ (v : ℕ). level cat (code v)) z in
-            status-other q (level cat u) (level cat t) e f place-level found-level (omega (arith, above-found)) t u x y n
-
-      module _ (was here : ℕ) (v : was ≡ level cat u) (w : here ≡ level cat t) where
-        pub levels-less : here < was → GA ≡ levelStatus cat cs ls (pos .place) i
-        levels-less h = status-less q was here e f (v ∙ place-level) (w ∙ found-level) h
-
-        pub levels-more : was < here → Blank ≡ levelStatus cat cs ls (pos .place) i
-        levels-more h = status-more q was here e f (v ∙ place-level) (w ∙ found-level) h
-
-        pub levels-same : (t .0 ≡ u .0 → ⊥) → was ≤ here → here ≤ was → GK ≡ levelStatus cat cs ls (pos .place) i
-        levels-same n a b = status-other q was here e f (v ∙ place-level) (w ∙ found-level) (omega arith) t u x y n
 
   module _ (area : Bytes) (hold : Bool) (t : TypeCode) (found : Found) (te : t ≡ last) where
     module _ (e : found ≡ along cat cs (complete cat list (listRead cat list .arguments) t) (pos .place)) where

@@ -1,3 +1,5 @@
+pub mod Codes
 pub mod Found
 pub mod Gotten
 pub mod OneList
+pub mod Again

@@ -1,1 +1,1 @@
--- Nothing beyond what `rules` says of the gets.
+pub mod Status

@@ -24,19 +24,35 @@ use terms::Parentage;
 use terms::Place;
 use terms::Position;
 use terms::Status;
+use terms::TypeCode;
 ghost use mathlib.Core.Path.{_≡_};
-ghost use mathlib.Core.Bool.{false};
+ghost use mathlib.Core.Bool.{true, false};
 ghost use mathlib.Core.List.{[], _++_};
 ghost use Prim.Native.Nat.{suc, _<_, _≤_};
 ghost use lib.ListN.{length};
 ghost use Rattle.terms.specs.declared.Parentage.the-variants.{Of};
-ghost use Rattle.terms.specs.Moves.{afterPlace, isAbsent};
+ghost use Rattle.terms.specs.Moves.{afterPlace, isOn, isAbsent};
+ghost use Rattle.rules.specs.Catalogue.{isType, goodCatalogue};
+ghost use Rattle.rules.specs.Cells.{segment, shownBytes};
 ghost use Rattle.rules.specs.Table.{count, listing};
 ghost use Rattle.rules.specs.Arguments.{listRead, getLevels};
-ghost use Rattle.rules.specs.Calls.{levelStatus, getUnique, getNext, getNextWithin};
+ghost use Rattle.rules.specs.Calls.{over, getUnique, getNext, getNextWithin};
 ghost use Rattle.cells.specs.Sound.{Sound};
 ghost use Rattle.arguments.specs.Asked.{Pair};
-ghost use Rattle.answers.specs.Ready.{Ready, gotAt, left};
+ghost use Rattle.answers.specs.Ready.{Ready, Again, gotAt, left};
+ghost use Rattle.gets.specs.Status.{changeStatus, nextStatus};
+
+// Writes a cell's L bytes to the front of the area, and tells its type.
+pub fn show(cat: &[u8], tab: &[u8], size: usize, c: CellNumber, area: &mut [u8]) -> TypeCode
+    requires { ⌜ Sound (now cat) (now tab) size × (c .0 < count (now tab)) × (size ≤ suc (length (now area))) ⌝ }
+    ensures { λ r. ⌜ (r ≡ segment (listing (now (cat .entry)) (now (tab .entry))) (c .0) .code)
+        × (now (area .exit) ≡ over (shownBytes (now (cat .entry)) (segment (listing (now (cat .entry)) (now (tab .entry))) (c .0))) (now (area .entry))) ⌝ }
+{
+    let t = code_at(cat, tab, size, c);
+    let long = wide(data_length(cat, t));
+    put(area, data_part(cat, tab, size, c, 1, long));
+    t
+}
 
 // "A get moves onto it and writes its L bytes to the front of the area".
 fn got(
@@ -54,9 +70,7 @@ fn got(
     ensures { λ r. ⌜ left r (now (area .exit))
         ≡ gotAt (now (cat .entry)) (listing (now (cat .entry)) (now (tab .entry))) s parentage hold (c .0) (now (area .entry)) ⌝ }
 {
-    let t = code_at(cat, tab, size, c);
-    let long = wide(data_length(cat, t));
-    put(area, data_part(cat, tab, size, c, 1, long));
+    let t = show(cat, tab, size, c, area);
     told(cat, s, pos.moved_onto(c, parentage, hold), t, 0)
 }
 
@@ -71,18 +85,22 @@ fn after_place(q: Place) -> usize
     }
 }
 
-// GA, GK or blank, of the cell that a get-next with an empty list found. Twins, a first child and a child of the same parent are seen from the
-// codes; only else are levels asked for.
-fn level_status(cat: &[u8], tab: &[u8], size: usize, pos: Position, c: CellNumber) -> Status
-    requires { ⌜ Ready (now cat) (now tab) size pos [] × (c .0 < count (now tab)) ⌝ }
-    ensures { λ r. ⌜ r ≡ levelStatus (now (cat .entry)) (listing (now (cat .entry)) (now (tab .entry))) [] (pos .place) (c .0) ⌝ }
+// Whether the place is on a cell.
+fn is_on(q: Place) -> bool
+    ensures { λ r. ⌜ r ≡ isOn q ⌝ }
 {
-    let place = pos.place;
-    let Place::On(q) = place else {
-        return Status::Blank;
-    };
-    let u = code_at(cat, tab, size, q);
-    let t = code_at(cat, tab, size, c);
+    match q {
+        Place::On(c) => true,
+        Place::Before(c) => false,
+    }
+}
+
+// GA, GK or blank, of a segment of type t that is got behind one of type u, with an empty list. Twins, a first child and a child of the same parent
+// are seen from the codes; only else are levels asked for.
+fn change_status(cat: &[u8], u: TypeCode, t: TypeCode) -> Status
+    requires { ⌜ (goodCatalogue (now cat) ≡ true) × (isType (now cat) u ≡ true) × (isType (now cat) t ≡ true) ⌝ }
+    ensures { λ r. ⌜ r ≡ changeStatus (now (cat .entry)) u t ⌝ }
+{
     if t.0 == u.0 {
         return Status::Blank;
     }
@@ -104,6 +122,18 @@ fn level_status(cat: &[u8], tab: &[u8], size: usize, pos: Position, c: CellNumbe
         return Status::Blank;
     }
     Status::GK
+}
+
+// The status of cell c, which a get-next with an empty list found: the place was on the cell before it, or in the gap.
+pub fn next_status(cat: &[u8], tab: &[u8], size: usize, on: bool, c: CellNumber) -> Status
+    requires { ⌜ Sound (now cat) (now tab) size × (c .0 < count (now tab)) × (on ≡ true → 0 < c .0) ⌝ }
+    ensures { λ r. ⌜ r ≡ nextStatus (now (cat .entry)) (listing (now (cat .entry)) (now (tab .entry))) on (c .0) ⌝ }
+{
+    if !on {
+        return Status::Blank;
+    }
+    let u = code_at(cat, tab, size, CellNumber(c.0 - 1));
+    change_status(cat, u, code_at(cat, tab, size, c))
 }
 
 // "GU: first match in cell order, along the position."
@@ -141,7 +171,7 @@ pub fn get_unique(
 
 // GN with an empty list, which matches every cell: there is nothing to search. GB: "GN or GHN, empty list, no cell left". It is the call that a
 // reading of the whole table makes.
-pub fn get_next_cell(
+fn get_next_cell(
     cat: &[u8],
     tab: &[u8],
     size: usize,
@@ -159,11 +189,12 @@ pub fn get_next_cell(
         return missed(Status::GB, pos);
     }
     let c = CellNumber(i);
-    let s = level_status(cat, tab, size, pos, c);
+    let s = next_status(cat, tab, size, is_on(place), c);
     got(cat, tab, size, c, s, Parentage::Of(c), hold, pos, area)
 }
 
-// "GN: first match after the place". GB, GA and GK come with an empty list only, where the next cell is the match.
+// "GN: first match after the place". GB, GA and GK come with an empty list only, where the next cell is the match. `again` tells that the place is on
+// a cell that the same lists match, or before the first.
 pub fn get_next(
     cat: &[u8],
     tab: &[u8],
@@ -173,9 +204,10 @@ pub fn get_next(
     two: &[u8],
     area: &mut [u8],
     hold: bool,
+    again: bool,
 ) -> Answer
     requires { ⌜ Ready (now cat) (now tab) size pos (now one ++ now two) × Pair (now cat) (now one) (now two)
-        × (size ≤ suc (length (now area))) ⌝ }
+        × (size ≤ suc (length (now area))) × (again ≡ true → Again (now cat) (now tab) (now one ++ now two) pos) ⌝ }
     ensures { λ r. ⌜ left r (now (area .exit))
         ≡ getNext (now (cat .entry)) (listing (now (cat .entry)) (now (tab .entry))) pos (now (area .entry)) hold
         (getLevels (now (cat .entry)) (now (one .entry) ++ now (two .entry))
@@ -187,7 +219,7 @@ pub fn get_next(
     let place = pos.place;
     let t = last_type(cat, one, two);
     let from = after_place(place);
-    let Found::At(c) = first_match(cat, tab, size, one, two, t, from, count(tab)) else {
+    let Found::At(c) = first_match(cat, tab, size, one, two, t, again, from, count(tab)) else {
         return missed(Status::GE, pos);
     };
     let s = Status::Blank;
@@ -214,7 +246,7 @@ fn get_next_cell_within(
         return missed(Status::GE, pos);
     }
     let c = CellNumber(i);
-    let s = level_status(cat, tab, size, pos, c);
+    let s = next_status(cat, tab, size, is_on(place), c);
     got(cat, tab, size, c, s, Parentage::Of(p), hold, pos, area)
 }
 

@@ -1,12 +1,12 @@
 -- The position's block, read and written part by part. Assumes nothing.
 use mathlib.Core.Path.{_≡_, refl, ap, sym, _∙_}
-use mathlib.Core.Bool.{true, false}
+use mathlib.Core.Bool.{true, false, true≢false}
 use mathlib.Core.List.{[], _∷_, _++_}
-use Prim.Native.Nat.{ℕ, _/_, _%_}
+use Prim.Native.Nat.{ℕ, _+_, _*_, _/_, _%_, _≤_}
 use native.Mathlib.Omega.{arith}
-use lib.Dec.{eqb}
+use lib.Dec.{eqb, leb}
 use lib.ListN.{length, set}
-use borrow.Author.Tests.{eq-eqb, ne-eqb}
+use borrow.Author.Tests.{eq-eqb, ne-eqb, eqb-true, eqb-false, leb-true}
 use Rattle.terms.specs.declared.CellNumber.{CellNumber}
 use Rattle.terms.specs.declared.Place.{Place}
 use Rattle.terms.specs.declared.Place.the-variants.{On, Before}
@@ -15,7 +15,8 @@ use Rattle.terms.specs.declared.Parentage.the-variants.{Absent, Of}
 use Rattle.terms.specs.declared.Position.{Position}
 use Rattle.terms.specs.Choice.{pick}
 use Rattle.terms.specs.Names.{cell}
-use Rattle.terms.specs.Moves.{placeCell, placeNumber}
+use Rattle.terms.specs.Moves.{placeCell, placeNumber, afterPlace, isOn}
+use Rattle.forest.specs.Good.{on, off, is}
 use Rattle.rules.specs.Block.{Bytes, byte, word}
 use Rattle.rules.specs.Position.{placeBytes, parentageBytes, positionBytes, nowhere, goodBlock, positionOf}
 use Rattle.position.specs.Block.{blockPlace, blockParentage, placeKind, parentageKind, parentageNumber, Writable}
@@ -42,6 +43,36 @@ module _ (b : Bytes) where
       → record { place = p; parentage = q; hold = eqb x 1 } ≡ positionOf b
   unfolding positionOf
   position-good p q x e f g h = rw (e, f, g, h)
+
+-- of a good block: its place alone
+module _ (b : Bytes) (e : goodBlock b ≡ true) where
+  pub good-long : length b ≡ 8
+  unfolding goodBlock
+  good-long = elim (is (eqb (length b) 8)) [
+    | on h ↦ eqb-true (length b) 8 h
+    | off h ↦ absurd (true≢false (sym e ∙ rw h))
+  ]
+
+  kind-most : byte b 0 ≤ 1
+  unfolding goodBlock
+  kind-most = elim (is (leb (byte b 0) 1)) [
+    | on h ↦ leb-true (byte b 0) 1 h
+    | off h ↦ absurd (true≢false (sym e ∙ rw (eq-eqb (length b) 8 good-long, h)))
+  ]
+
+  pub kind-is : eqb (byte b 0) 1 ≡ isOn (positionOf b .place)
+  unfolding positionOf
+  kind-is = elim (is (eqb (byte b 0) 1)) [
+    | on h ↦ rw (e, h)
+    | off h ↦ rw (e, h)
+  ]
+
+  pub after-is : 256 * byte b 1 + (byte b 2 + byte b 0) ≡ afterPlace (positionOf b .place)
+  unfolding positionOf
+  after-is = elim (is (eqb (byte b 0) 1)) [
+    | on h ↦ (let z : byte b 0 ≡ 1 = eqb-true (byte b 0) 1 h in rw (e, h) (omega arith))
+    | off h ↦ (let z : byte b 0 ≡ 1 → ⊥ = eqb-false (byte b 0) 1 h in let y = kind-most in rw (e, h) (omega arith))
+  ]
 
 -- written: eight bytes, one after the other
 abbrev pub eightSet : Bytes → ℕ → ℕ → ℕ → ℕ → ℕ → ℕ → ℕ → ℕ → Bytes

@@ -1,12 +1,15 @@
 // The position in its block of 8 bytes.
 use blocks::byte_at;
+use blocks::wide;
 use blocks::word_at;
 use terms::CellNumber;
 use terms::Parentage;
 use terms::Place;
 use terms::Position;
 ghost use mathlib.Core.Path.{_≡_};
+ghost use mathlib.Core.Bool.{true};
 ghost use Rattle.terms.specs.Choice.{pick};
+ghost use Rattle.terms.specs.Moves.{afterPlace, isOn};
 ghost use Rattle.rules.specs.Position.{goodBlock, positionOf, positionBytes};
 ghost use Rattle.position.specs.Block.{blockPlace, blockParentage, placeKind, parentageKind, parentageNumber, Writable};
 
@@ -73,6 +76,24 @@ pub fn position_of(block: &[u8]) -> Position
         parentage: parentage,
         hold: byte_at(block, 6) == 1,
     }
+}
+
+// Whether a good block has its place on a cell.
+pub fn is_on(block: &[u8]) -> bool
+    requires { ⌜ goodBlock (now block) ≡ true ⌝ }
+    ensures { λ r. ⌜ r ≡ isOn (positionOf (now (block .entry)) .place) ⌝ }
+{
+    block[0] == 1
+}
+
+// The first cell after the place of a good block. The kind, which is 1 on a cell, goes to the low byte first: a compiler that makes one load of both
+// bytes of the number has it wait for the two stores that the step before made of them.
+pub fn cell_after(block: &[u8]) -> usize
+    requires { ⌜ goodBlock (now block) ≡ true ⌝ }
+    ensures { λ r. ⌜ r ≡ afterPlace (positionOf (now (block .entry)) .place) ⌝ }
+{
+    let low = wide(block[2]) + wide(block[0]);
+    256 * wide(block[1]) + low
 }
 
 fn place_kind(place: Place) -> u8

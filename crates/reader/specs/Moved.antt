@@ -11,12 +11,17 @@ use Rattle.rules.specs.Table.{listing}
 use Rattle.rules.specs.Arguments.{listRead, getLevels}
 use Rattle.rules.specs.Calls.{After, getNext, getNextWithin}
 use Rattle.arguments.specs.Asked.{Pair}
-use Rattle.answers.specs.Ready.{Ready}
+use Rattle.answers.specs.Ready.{Ready, Again}
 use Rattle.reader.specs.declared.Reader.{Reader}
 
 -- sound blocks, position and lists, and an area that holds the data of any cell; byte 5 of the table is the cell size
 abbrev pub Asking : Bytes → Bytes → Bytes → Bytes → Position → Bytes → Type 0
 Asking cat tab one two pos area = Ready cat tab (byte tab 5) pos (one ++ two) × Pair cat one two × (byte tab 5 ≤ suc (length area))
+
+-- and a place that such a GN has moved onto, or that none has
+abbrev pub AskingAgain : Bytes → Bytes → Bytes → Bytes → Position → Bytes → Type 0
+AskingAgain cat tab one two pos area =
+    Ready cat tab (byte tab 5) pos (one ++ two) × Pair cat one two × (byte tab 5 ≤ suc (length area)) × Again cat tab (one ++ two) pos
 
 -- and a parentage, which GNP asks for
 abbrev pub AskingWithin : Bytes → Bytes → Bytes → Bytes → Position → Bytes → Type 0

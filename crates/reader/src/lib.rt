@@ -14,8 +14,8 @@ ghost use Rattle.rules.specs.Table.{listing};
 ghost use Rattle.rules.specs.Arguments.{listRead, getLevels};
 ghost use Rattle.rules.specs.Calls.{getNext, getNextWithin};
 ghost use Rattle.arguments.specs.Asked.{Pair};
-ghost use Rattle.answers.specs.Ready.{Ready, left};
-ghost use Rattle.reader.specs.Moved.{Asking, AskingWithin, gotNext, gotWithin, moved};
+ghost use Rattle.answers.specs.Ready.{Ready, left, Again};
+ghost use Rattle.reader.specs.Moved.{Asking, AskingAgain, AskingWithin, gotNext, gotWithin, moved};
 
 // The slices it reads, the two lists that it asks with as one, and where it stands. A reader with one list has an empty one behind it.
 pub struct Reader<'a, 'b, 'c, 'd> {
@@ -46,7 +46,24 @@ fn call_next(
         ≡ gotNext (now (cat .entry)) (now (tab .entry)) (now (one .entry) ++ now (two .entry)) pos (now (area .entry)) ⌝ }
 {
     let size = wide(tab[5]);
-    gets::get_next(cat, tab, size, pos, one, two, area, false)
+    gets::get_next(cat, tab, size, pos, one, two, area, false, false)
+}
+
+// The same where the place is on a cell that the lists match, or before the first: so where a loop of GN with these lists stands.
+fn call_again(
+    cat: &[u8],
+    tab: &[u8],
+    one: &[u8],
+    two: &[u8],
+    pos: Position,
+    area: &mut [u8],
+) -> Answer
+    requires { ⌜ AskingAgain (now cat) (now tab) (now one) (now two) pos (now area) ⌝ }
+    ensures { λ r. ⌜ left r (now (area .exit))
+        ≡ gotNext (now (cat .entry)) (now (tab .entry)) (now (one .entry) ++ now (two .entry)) pos (now (area .entry)) ⌝ }
+{
+    let size = wide(tab[5]);
+    gets::get_next(cat, tab, size, pos, one, two, area, false, true)
 }
 
 // The same of GNP.
@@ -103,6 +120,24 @@ pub fn next<'a, 'b, 'c, 'd>(r: Reader<'a, 'b, 'c, 'd>, area: &mut [u8]) -> Step<
     Step { answer, reader }
 }
 
+// GN once more, where it has found the last cell or begins: nothing that the lists ask above that cell is tested again.
+pub fn again<'a, 'b, 'c, 'd>(r: Reader<'a, 'b, 'c, 'd>, area: &mut [u8]) -> Step<'a, 'b, 'c, 'd>
+    requires { ⌜ AskingAgain (now (r .cat)) (now (r .tab)) (now (r .one)) (now (r .two)) (r .position) (now area) ⌝ }
+    ensures { λ s. ⌜ (left (s .answer) (now (area .exit)) ≡ gotNext (now (r .entry .cat)) (now (r .entry .tab))
+        (now (r .entry .one) ++ now (r .entry .two)) (r .entry .position) (now (area .entry)))
+        × (s .reader ≡ moved (r .entry) (s .answer .position)) ⌝ }
+{
+    let answer = call_again(r.cat, r.tab, r.one, r.two, r.position, area);
+    let reader = Reader {
+        cat: r.cat,
+        tab: r.tab,
+        one: r.one,
+        two: r.two,
+        position: answer.position,
+    };
+    Step { answer, reader }
+}
+
 // GNP likewise: the next cell beneath the parentage.
 pub fn within<'a, 'b, 'c, 'd>(r: Reader<'a, 'b, 'c, 'd>, area: &mut [u8]) -> Step<'a, 'b, 'c, 'd>
     requires { ⌜ AskingWithin (now (r .cat)) (now (r .tab)) (now (r .one)) (now (r .two)) (r .position) (now area) ⌝ }
@@ -138,6 +173,26 @@ pub fn read_next(
         (listRead (now (cat .entry)) (now (one .entry) ++ now (two .entry)) .arguments)) ⌝ }
 {
     let s = next(new(cat, tab, one, two, pos), area);
+    s.answer
+}
+
+// The same in a loop of GN with these lists.
+pub fn read_again(
+    cat: &[u8],
+    tab: &[u8],
+    one: &[u8],
+    two: &[u8],
+    pos: Position,
+    area: &mut [u8],
+) -> Answer
+    requires { ⌜ Ready (now cat) (now tab) (byte (now tab) 5) pos (now one ++ now two) × Pair (now cat) (now one) (now two)
+        × (byte (now tab) 5 ≤ suc (length (now area))) × Again (now cat) (now tab) (now one ++ now two) pos ⌝ }
+    ensures { λ r. ⌜ left r (now (area .exit))
+        ≡ getNext (now (cat .entry)) (listing (now (cat .entry)) (now (tab .entry))) pos (now (area .entry)) false
+        (getLevels (now (cat .entry)) (now (one .entry) ++ now (two .entry))
+        (listRead (now (cat .entry)) (now (one .entry) ++ now (two .entry)) .arguments)) ⌝ }
+{
+    let s = again(new(cat, tab, one, two, pos), area);
     s.answer
 }
 

@@ -83,7 +83,7 @@ miss-late (l ∷ ls) = refl
 
 module _ (cat : Bytes) (cs : List Segment) where
   -- a get that moved onto a cell in the run of its parentage leaves a good position
-  moved-good : (p j : ℕ) → p ≤ j → j < endAt cat cs p → j < length cs → goodPosition cat cs (movedOnto j (Of (cell p)) false) ≡ true
+  pub moved-good : (p j : ℕ) → p ≤ j → j < endAt cat cs p → j < length cs → goodPosition cat cs (movedOnto j (Of (cell p)) false) ≡ true
   unfolding goodPosition
   moved-good p j a b l = rw (lt-ltb j (length cs) l, row-run cat cs p j l, le-leb p j a, lt-ltb j (endAt cat cs p) b)
 

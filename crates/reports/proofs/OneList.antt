@@ -1,16 +1,13 @@
 -- A loop of gets over one list, as a whole: what is shown and what is left to be found are together what there is to find. Assumes nothing.
 use mathlib.Core.Path.{_≡_, refl, ap, sym, _∙_}
-use mathlib.Core.Bool.{true}
 use mathlib.Core.List.{List, [], _∷_}
-use Prim.Native.Nat.{ℕ, _+_, _≤_}
+use Prim.Native.Nat.{ℕ, suc, _+_, _≤_}
 use native.Mathlib.Omega.{arith}
 use lib.ListN.{length, replicate, length-replicate}
-use Rattle.terms.specs.declared.Position.{Position}
-use Rattle.terms.specs.Moves.{afterPlace}
+use Rattle.terms.specs.declared.CellNumber.{CellNumber}
 use Rattle.rules.specs.Block.{Bytes}
+use Rattle.rules.specs.Cells.{endAt}
 use Rattle.rules.specs.Table.{listing}
-use Rattle.rules.specs.Position.{goodPosition}
-use Rattle.rules.specs.Calls.{parentEnd}
 use Rattle.catalogue.proofs.Hierarchy.{cell-most}
 use Rattle.report_loops.specs.Plain.{picked}
 use Rattle.report_loops.specs.Demand3.{Accepted}
@@ -60,18 +57,18 @@ module _ {cat tab list : Bytes} {from to k : ℕ} {before : Bytes} where
         let y = ap length z in
         (omega (arith, w .left), sym (show-none hits out) ∙ ap (λ (xs : List ℕ). shownFrom hits xs out) (sym z) ∙ w .shown)
 
-    pub way-next : {c next : ℕ} → Turn (test cat tab list) at to c next → (after : Bytes) → after ≡ putHit hits c out
-        → Way cat tab list from to k before (hits + 1) next after
-    way-next {c} {next} t after p =
-        let z : between cat tab list at to ≡ c ∷ between cat tab list next to =
-        rw (t .moves) (hits-first (test cat tab list) at c to (t .later) (t .inside) (t .passes) (t .before)) in
+    pub way-next : {c : ℕ} → Turn (test cat tab list) at to c → (after : Bytes) → after ≡ putHit hits c out
+        → Way cat tab list from to k before (hits + 1) (suc c) after
+    way-next {c} t after p =
+        let z : between cat tab list at to ≡ c ∷ between cat tab list (suc c) to =
+        hits-first (test cat tab list) at c to (t .later) (t .inside) (t .passes) (t .before) in
         let y = ap length z in
         record {
-          later = omega (arith, t .later, t .moves, w .later);
-          inside = omega (arith, t .inside, t .moves);
-          fewer = omega (arith, t .later, t .moves, w .fewer);
+          later = omega (arith, t .later, w .later);
+          inside = t .inside;
+          fewer = omega (arith, t .later, w .fewer);
           left = omega (arith, w .left);
-          shown = rw p (show-next hits c (between cat tab list next to) out) ∙ ap (λ (xs : List ℕ). shownFrom hits xs out) (sym z) ∙ w .shown;
+          shown = rw p (show-next hits c (between cat tab list (suc c) to) out) ∙ ap (λ (xs : List ℕ). shownFrom hits xs out) (sym z) ∙ w .shown;
           room = rw p (put-length hits c out) ∙ w .room;
         }
 
@@ -84,19 +81,10 @@ way-picked {cat} {tab} {list} g {before} w h =
     let y = ap length (picked-between g) in
     (omega (arith, z .0), z .1 ∙ ap (λ (xs : List ℕ). shownFrom 0 xs before) (picked-between g))
 
--- LAW: beneath the parentage, as far as it goes
-pub way-went : {cat tab list : Bytes} {pos next : Position} {k : ℕ} {before : Bytes} {hits at : ℕ} {out : Bytes}
-    → Way cat tab list (afterPlace (pos .place)) (parentEnd cat (listing cat tab) (pos .parentage)) k before hits at out
-    → Without (test cat tab list) at (parentEnd cat (listing cat tab) (pos .parentage))
-    × (afterPlace (next .place) ≡ at) × (goodPosition cat (listing cat tab) next ≡ true)
-    → Went cat tab list pos k before (record { hits = hits; position = next }) out
+-- LAW: beneath cell p, as far as its run goes
+pub way-went : {cat tab list : Bytes} {p k : ℕ} {before : Bytes} {hits : ℕ} {c : CellNumber} {out : Bytes}
+    → Way cat tab list (suc p) (endAt cat (listing cat tab) p) k before hits (suc (c .0)) out
+    → Without (test cat tab list) (suc (c .0)) (endAt cat (listing cat tab) p) → Went cat tab list p k before (record { hits = hits; cell = c }) out
 way-went w n =
-    let z = way-none w (n .0) in
-    record {
-      hits = z .0;
-      out = z .1;
-      good = n .2;
-      later = omega (arith, w .later, n .1);
-      inside = omega (arith, w .inside, n .1);
-      fewer = omega (arith, w .fewer, n .1);
-    }
+    let z = way-none w n in
+    record { hits = z .0; out = z .1; later = omega (arith, w .later); inside = w .inside; fewer = w .fewer }

@@ -6,15 +6,10 @@ use mathlib.Core.List.{List, [], _++_}
 use Prim.Native.Nat.{ℕ, suc, _+_, _<_, _≤_}
 use native.Mathlib.Omega.{arith}
 use lib.ListN.{length, length-append}
-use Rattle.terms.specs.declared.Parentage.the-variants.{Of}
-use Rattle.terms.specs.declared.Position.{Position}
-use Rattle.terms.specs.Names.{cell}
-use Rattle.terms.specs.Moves.{afterPlace}
 use Rattle.forest.specs.Forest.{inside, outside, side}
 use Rattle.rules.specs.Block.{Bytes}
 use Rattle.rules.specs.Cells.{endAt}
 use Rattle.rules.specs.Table.{listing}
-use Rattle.rules.specs.Calls.{parentEnd}
 use Rattle.report_loops.specs.Plain.{picked}
 use Rattle.report_loops.proofs.Hits.{clash, Without, hits, hits-none, hits-same}
 use Rattle.report_loops.proofs.Nest.{Nests, none-joined, none-under, closed-next, joined-run}
@@ -83,8 +78,8 @@ module _ {cat tab one two : Bytes} {size : ℕ} (g : GivenBoth cat tab one two s
         let y = ap length z in
         (omega (arith, o .left), sym (show-none k out) ∙ ap (λ (xs : List ℕ). shownFrom k xs out) (sym z) ∙ o .shown)
 
-    -- under cell p, which GN found and moved onto
-    module _ {p : ℕ} (pos : Position) (t : Turn outer at n p (afterPlace (pos .place))) (b : pos .parentage ≡ Of (cell p)) where
+    -- under cell p, which GN found
+    module _ {p : ℕ} (t : Turn outer at n p) where
       from-outer : o .e ≤ p
       from-outer = elim (side p (o .e)) [
         | inside h ↦ absurd (clash (outer p) (t .passes) (o .none p (t .later) h))
@@ -94,27 +89,23 @@ module _ {cat tab one two : Bytes} {size : ℕ} (g : GivenBoth cat tab one two s
       free : Without outer (o .e) p
       free j x y = t .before j (omega (arith, o .later)) y
 
-      end-is : parentEnd cat (listing cat tab) (pos .parentage) ≡ end p
-      end-is = ap (parentEnd cat (listing cat tab)) b
+      under-is : foundBeneath cat tab two p ≡ hits both (suc p) (end p)
+      under-is = hits-same inner both (suc p) (end p) (λ j x y. nest .below p j (omega (arith, nest .among p (t .inside))) (t .passes) x y)
 
-      under-is : foundBeneath cat tab two pos ≡ hits both (suc p) (end p)
-      under-is = rw (t .moves, b) (hits-same inner both (suc p) (end p) (λ j x y. nest .below p j (omega (arith, nest .among p (t .inside))) (t .passes) x y))
-
-      pub outer-next : (u : Onward) (next : Bytes) → Went cat tab two pos k out u next
-          → Outer cat tab one two before (u .hits) (afterPlace (u .position .place)) next
+      pub outer-next : (u : Onward) (next : Bytes) → Went cat tab two p k out u next → Outer cat tab one two before (u .hits) (suc (u .cell .0)) next
       outer-next u next w =
           let run = joined-run n end outer inner both nest (o .e) p (o .closed) from-outer (t .inside) free in
           let x = ap length under-is in
           let y = ap length run ∙ length-append (hits both (suc p) (end p)) (hits both (end p) n) in
           record {
             e = end p;
-            later = omega (arith, w .inside, end-is);
+            later = w .inside;
             inside = nest .among p (t .inside);
-            none = λ j a c. none-under n end outer inner both nest p j (t .inside) (t .passes) (omega (arith, w .later, t .moves)) c;
+            none = λ j a c. none-under n end outer inner both nest p j (t .inside) (t .passes) (omega (arith, w .later)) c;
             closed = closed-next n end outer inner both nest (o .e) p (o .closed) from-outer (t .inside) (t .passes) free;
             fewer = w .fewer;
             left = omega (arith, w .hits, o .left);
             shown = rw (w .out, w .hits, under-is) (show-append k (hits both (suc p) (end p)) (hits both (end p) n) out)
                 ∙ ap (λ (xs : List ℕ). shownFrom k xs out) (sym run) ∙ o .shown;
-            room = ap length (w .out) ∙ show-length k (foundBeneath cat tab two pos) out ∙ o .room;
+            room = ap length (w .out) ∙ show-length k (foundBeneath cat tab two p) out ∙ o .room;
           }

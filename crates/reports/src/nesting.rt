@@ -2,55 +2,65 @@
 use crate::shown::put_hit;
 use reader::read_next;
 use reader::read_within;
+use terms::CellNumber;
+use terms::Parentage;
 use terms::Position;
 use terms::statuses::number;
 ghost use mathlib.Core.Path.{_≡_};
-ghost use mathlib.Core.Bool.{true, false};
+ghost use mathlib.Core.Bool.{false};
 ghost use mathlib.Core.List.{_++_};
-ghost use Prim.Native.Nat.{_≤_};
+ghost use Prim.Native.Nat.{suc, _<_, _≤_};
 ghost use lib.ListN.{length};
-ghost use Rattle.terms.specs.Moves.{afterPlace, isAbsent};
+ghost use Rattle.terms.specs.declared.Parentage.the-variants.{Of};
+ghost use Rattle.terms.specs.Moves.{movedOnto};
 ghost use Rattle.rules.specs.Block.{byte};
-ghost use Rattle.rules.specs.Table.{listing};
-ghost use Rattle.rules.specs.Position.{goodPosition};
+ghost use Rattle.rules.specs.Table.{count};
 ghost use Rattle.report_loops.specs.Plain.{picked};
 ghost use Rattle.reports.specs.Shown.{shownFrom};
 ghost use Rattle.reports.specs.Onward.{Went};
 ghost use Rattle.reports.specs.Given.{Given, GivenBoth};
 
-// How many cells are shown so far, and the position now.
+// How many cells are shown so far, and the cell that the place is on now.
 pub struct Onward {
     pub hits: usize,
-    pub position: Position,
+    pub cell: CellNumber,
 }
 
-// GNP on the list from this position on until a status ends it; k cells are shown before it. The area is lent, and what a get leaves in it is not read.
+// The position of a loop of GNP under cell p that has come to cell c. It is made anew for each call: one that is copied out of an answer has to wait
+// until the answer is written.
+pub(crate) fn under(p: CellNumber, c: CellNumber) -> Position
+    ensures { λ r. ⌜ r ≡ movedOnto (c .0) (Of p) false ⌝ }
+{
+    Position::fresh().moved_onto(c, Parentage::Of(p), false)
+}
+
+// GNP on the list under cell p until a status ends it; k cells are shown before it. The area is lent, and what a get leaves in it is not read.
 fn read_under(
     cat: &[u8],
     tab: &[u8],
     list: &[u8],
-    pos: Position,
+    p: CellNumber,
     k: usize,
     area: &mut [u8],
     out: &mut [u8],
 ) -> Onward
-    requires { ⌜ Given (now cat) (now tab) (now list) (byte (now tab) 5) × (goodPosition (now cat) (listing (now cat) (now tab)) pos ≡ true)
-        × (isAbsent (pos .parentage) ≡ false) × (k ≤ afterPlace (pos .place)) × (length (now area) ≡ 120) ⌝ }
-    ensures { λ r. ⌜ Went (now (cat .entry)) (now (tab .entry)) (now (list .entry)) pos k (now (out .entry)) r (now (out .exit)) ⌝ }
+    requires { ⌜ Given (now cat) (now tab) (now list) (byte (now tab) 5) × (p .0 < count (now tab)) × (k ≤ suc (p .0)) × (length (now area) ≡ 120) ⌝ }
+    ensures { λ r. ⌜ Went (now (cat .entry)) (now (tab .entry)) (now (list .entry)) (p .0) k (now (out .entry)) r (now (out .exit)) ⌝ }
 {
     let mut hits = k;
-    let mut at = pos;
+    let mut at = p;
     loop {
-        let a = read_within(cat, tab, list, &list[..0], at, area);
+        let a = read_within(cat, tab, list, &list[..0], under(p, at), area);
         let s = a.status;
-        at = a.position;
         if 10 <= number(s) {
             return Onward {
                 hits: hits,
-                position: at,
+                cell: at,
             };
         }
-        put_hit(out, hits, at.cell());
+        let q = a.position;
+        at = q.cell();
+        put_hit(out, hits, at);
         hits += 1;
     }
 }
@@ -71,8 +81,10 @@ pub(crate) fn nested_sound(cat: &[u8], tab: &[u8], one: &[u8], two: &[u8], out: 
         if 10 <= number(s) {
             return hits;
         }
-        let under = read_under(cat, tab, two, a.position, hits, &mut area, out);
-        hits = under.hits;
-        at = under.position;
+        let q = a.position;
+        let p = q.cell();
+        let w = read_under(cat, tab, two, p, hits, &mut area, out);
+        hits = w.hits;
+        at = under(p, w.cell);
     }
 }

@@ -1,6 +1,7 @@
 // Get-next alone, on the two lists as one.
+use crate::nesting::under;
 use crate::shown::put_hit;
-use reader::read_next;
+use reader::read_again;
 use terms::Position;
 use terms::statuses::number;
 ghost use mathlib.Core.Path.{_≡_};
@@ -21,13 +22,15 @@ pub(crate) fn joined_sound(cat: &[u8], tab: &[u8], one: &[u8], two: &[u8], out: 
     let mut hits = 0;
     let mut at = Position::fresh();
     loop {
-        let a = read_next(cat, tab, one, two, at, &mut area);
+        let a = read_again(cat, tab, one, two, at, &mut area);
         let s = a.status;
-        at = a.position;
         if 10 <= number(s) {
             return hits;
         }
-        put_hit(out, hits, at.cell());
+        let q = a.position;
+        let c = q.cell();
+        put_hit(out, hits, c);
         hits += 1;
+        at = under(c, c);
     }
 }

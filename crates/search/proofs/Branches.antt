@@ -17,7 +17,7 @@ use Rattle.terms.specs.declared.Found.the-variants.{At, Nothing}
 use Rattle.terms.specs.Choice.{pick}
 use Rattle.terms.specs.Names.{cell}
 use Rattle.forest.specs.Forest.{inside, outside, side}
-use Rattle.forest.specs.Good.{on, off, is}
+use Rattle.forest.specs.Good.{on, off, is, both-right}
 use Rattle.forest.specs.Numbers.{ancestors, isIn}
 use Rattle.forest.specs.Types as Types
 use Rattle.rules.specs.Block.{Bytes}
@@ -36,7 +36,7 @@ use Rattle.cells.proofs.Located.{end-after, end-within}
 use Rattle.cells.proofs.Ancestry.{own-type, sound-listing}
 use Rattle.search.specs.declared.Reached.{Reached}
 use Rattle.search.specs.Stretch.{levels, agreesAlone, stretch, stretchBefore, Carried}
-use Rattle.search.specs.Good.{Good, NextRoot, Beneath, Upcoming, reached}
+use Rattle.search.specs.Good.{Good, NextRoot, Beneath, Upcoming, Continued, reached}
 use Rattle.search.proofs.Rows.{Regular, back-parts}
 use Rattle.search.proofs.Carry.{headAgrees, headImplied, stretch-within, stretch-le, carried-before, next-short, next-on, next-off, match-yes, match-not}
 use Rattle.search.proofs.Carry.{kept-none, keptTried, kept-row, kept-short, kept-full}
@@ -203,6 +203,19 @@ module _ {cat tab list : Bytes} {size : ℕ} {t : TypeCode} (g : Good cat tab li
     ])
     | off a ↦ rw a (match-not cat cs ls (count tab) steps i h (some-level s) (λ x y. eqb-false (lev i) (length ls) a x))
   ]
+
+  -- LAW: a cell that matches agrees down to the last type
+  matched-stretch : (i : ℕ) → i < count tab → 0 < t .0 → matches cat cs ls i ≡ true → stretch cat cs ls i ≡ level cat t
+  matched-stretch i h s m =
+      let b : (eqb (lev i) (length ls) && eqb (stretch cat cs ls i) (length ls)) ≡ true = sym (match-stretch i h s) ∙ m in
+      eqb-true (stretch cat cs ls i) (length ls) (both-right (eqb (lev i) (length ls)) (eqb (stretch cat cs ls i) (length ls)) b) ∙ last-level
+
+  -- so that nothing has to be climbed behind one
+  pub before-matched : (i l : ℕ) → i ≤ count tab → 0 < t .0 → (i ≡ 0 → ⊥) → Continued cat tab list t i → l ≡ level cat t → l ≡ stretchBefore cat cs ls i
+  before-matched zero l h s n c e = absurd (n refl)
+  before-matched (suc i) l h s n c e =
+      let z : suc i - 1 ≡ i = omega arith in
+      e ∙ sym (matched-stretch i (omega arith) s (rw z at (c (omega arith))))
 
   -- "The empty list matches every segment."
   pub all-match : (i to : ℕ) → t .0 ≡ 0 → i < to → At (cell i) ≡ firstMatch cat cs ls i to

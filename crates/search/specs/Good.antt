@@ -1,9 +1,9 @@
 -- What a search asks of the lent blocks, and what a path gives it. Assumes nothing: these are definitions.
 use mathlib.Core.Path.{_≡_}
-use mathlib.Core.Bool.{true}
+use mathlib.Core.Bool.{Bool, true, _&&_, not}
 use mathlib.Core.List.{List, _∷_, _++_, reverse}
-use Prim.Native.Nat.{ℕ, _≤_, _<_}
-use lib.Dec.{ltb}
+use Prim.Native.Nat.{ℕ, _-_, _≤_, _<_}
+use lib.Dec.{ltb, leb, eqb}
 use lib.ListN.{length}
 use Rattle.terms.specs.declared.TypeCode.{TypeCode}
 use Rattle.terms.specs.declared.Status.the-variants.{Blank}
@@ -11,12 +11,12 @@ use Rattle.terms.specs.declared.Found.{Found}
 use Rattle.terms.specs.declared.Found.the-variants.{At, Nothing}
 use Rattle.terms.specs.Choice.{pick}
 use Rattle.forest.specs.Numbers.{ancestors}
-use Rattle.rules.specs.Block.{Bytes}
+use Rattle.rules.specs.Block.{Bytes, byte}
 use Rattle.rules.specs.Catalogue.{types, goodCatalogue}
 use Rattle.rules.specs.Cells.{Segment, segment, levelAt, endAt}
 use Rattle.rules.specs.Table.{count, listing, goodTable}
 use Rattle.rules.specs.Arguments.{Level, listRead}
-use Rattle.rules.specs.Matching.{pathTo, firstMatch, keptOn}
+use Rattle.rules.specs.Matching.{pathTo, matches, firstMatch, keptOn}
 use Rattle.rules.specs.Tree.{tryPath}
 use Rattle.cells.specs.Lent.{Sized}
 use Rattle.arguments.specs.Sound.{GoodQualification, wantedOf}
@@ -75,6 +75,14 @@ pub record Beneath (cat tab : Bytes) (t : TypeCode) (p from : ℕ) : Type 0 wher
   pub cell : p < count tab
   pub later : p < from
   pub most : from ≤ endAt cat (listing cat tab) p
+
+-- the cell before `from`, if there is one, matches the list itself
+abbrev pub Continued : Bytes → Bytes → Bytes → TypeCode → ℕ → Type 0
+Continued cat tab list t from = 0 < from → matches cat (listing cat tab) (levels cat list t) (from - 1) ≡ true
+
+-- the first argument tests another type than t
+unfoldable pub beginsAbove : Bytes → TypeCode → Bool
+beginsAbove list t = leb 2 (length list) && not (eqb (byte list 1) 0) && not (eqb (byte list 0) (t .0))
 
 -- the lower of what two stretches keep, p below q
 abbrev pub lower : Found → Found → Found

@@ -69,7 +69,7 @@ fn first_of_all(
     if let Tests::Own(e) = alone(cat, one, two, t) {
         return forward_alone(cat, tab, size, one, two, t, e, 0, n);
     }
-    forward(cat, tab, size, one, two, asked, t, 0, 0, n)
+    forward(cat, tab, size, one, two, asked, t, false, 0, 0, n)
 }
 
 // "The rest of the list is sought only beneath what was kept; if no list is left, the kept segment is the answer."

@@ -13,12 +13,15 @@ use terms::CellNumber;
 use terms::Found;
 use terms::TypeCode;
 ghost use mathlib.Core.Path.{_≡_};
+ghost use mathlib.Core.Bool.{true};
 ghost use mathlib.Core.List.{_++_};
 ghost use Prim.Native.Nat.{_≤_, _<_};
+ghost use Rattle.terms.specs.Choice.{pick};
+ghost use Rattle.rules.specs.Catalogue.{level};
 ghost use Rattle.rules.specs.Matching.{firstMatch};
 ghost use Rattle.rules.specs.Table.{count, listing};
 ghost use Rattle.cells.specs.Lent.{Sized};
-ghost use Rattle.search.specs.Good.{Good, Asking, Told, NextRoot, Upcoming};
+ghost use Rattle.search.specs.Good.{Good, Asking, Told, NextRoot, Upcoming, Continued, beginsAbove};
 ghost use Rattle.search.specs.Stretch.{levels, stretchBefore};
 
 // The first cell of the root's type from `from` on and before `to`; or `to`.
@@ -58,7 +61,17 @@ fn upcoming(
     next_root(cat, tab, size, from, to)
 }
 
-// The first match from cell `from` on and before cell `to`; k is the stretch of the cell before.
+// The stretch that a pass begins with: a cell that the lists match agrees down to their last level.
+fn begun(again: bool, last: u8, k: u8) -> u8
+    ensures { λ r. ⌜ r ≡ pick again last k ⌝ }
+{
+    if !again {
+        return k;
+    }
+    last
+}
+
+// The first match from cell `from` on and before cell `to`. `again` tells that the lists match the cell before; else k is its stretch.
 pub(crate) fn forward(
     cat: &[u8],
     tab: &[u8],
@@ -67,19 +80,20 @@ pub(crate) fn forward(
     two: &[u8],
     asked: &[u16; 33],
     t: TypeCode,
+    again: bool,
     k: u8,
     from: usize,
     to: usize,
 ) -> Found
     requires { ⌜ Told (now cat) (now tab) (now one) (now two) (now asked) size t × (0 < t .0) × (to ≤ count (now tab))
-        × (k ≡ stretchBefore (now cat) (listing (now cat) (now tab)) (levels (now cat) (now one ++ now two) t) from) ⌝ }
+        × (pick again (level (now cat) t) k ≡ stretchBefore (now cat) (listing (now cat) (now tab)) (levels (now cat) (now one ++ now two) t) from) ⌝ }
     ensures { λ r. ⌜ r ≡ firstMatch (now (cat .entry)) (listing (now (cat .entry)) (now (tab .entry)))
         (levels (now (cat .entry)) (now (one .entry) ++ now (two .entry)) t) from to ⌝ }
 {
     let mut row = [0u8; 33];
     levels(cat, &mut row);
     let last = level_by(&row, cat, t);
-    let mut long = k;
+    let mut long = begun(again, last, k);
     let mut i = from;
     while i < to {
         i = upcoming(cat, tab, size, one, two, t, long, i, to);
@@ -99,7 +113,21 @@ pub(crate) fn forward(
     Found::Nothing
 }
 
-// The same from any cell. Where the lists test a type above their last it climbs once, for the cell before. "The empty list matches every segment."
+// Whether the first argument of a list tests another type than t. Then the lists do not test t alone, and the walk that would tell is spared.
+fn begins_above(list: &[u8], t: TypeCode) -> bool
+    ensures { λ r. ⌜ r ≡ beginsAbove (now (list .entry)) t ⌝ }
+{
+    if list.len() < 2 {
+        return false;
+    }
+    if list[1] == 0 {
+        return false;
+    }
+    list[0] != t.0
+}
+
+// The same from any cell. Where the lists test a type above their last it climbs once, for the cell before; `again` tells that they match that cell.
+// "The empty list matches every segment."
 pub fn first_match(
     cat: &[u8],
     tab: &[u8],
@@ -107,10 +135,12 @@ pub fn first_match(
     one: &[u8],
     two: &[u8],
     t: TypeCode,
+    again: bool,
     from: usize,
     to: usize,
 ) -> Found
-    requires { ⌜ Asking (now cat) (now tab) (now one) (now two) size t × (to ≤ count (now tab)) ⌝ }
+    requires { ⌜ Asking (now cat) (now tab) (now one) (now two) size t × (to ≤ count (now tab))
+        × (again ≡ true → Continued (now cat) (now tab) (now one ++ now two) t from) ⌝ }
     ensures { λ r. ⌜ r ≡ firstMatch (now (cat .entry)) (listing (now (cat .entry)) (now (tab .entry)))
         (levels (now (cat .entry)) (now (one .entry) ++ now (two .entry)) t) from to ⌝ }
 {
@@ -120,14 +150,20 @@ pub fn first_match(
     if t.0 == 0 {
         return Found::At(CellNumber(from));
     }
-    if let Tests::Own(e) = alone(cat, one, two, t) {
-        return forward_alone(cat, tab, size, one, two, t, e, from, to);
+    if !begins_above(one, t) {
+        if let Tests::Own(e) = alone(cat, one, two, t) {
+            return forward_alone(cat, tab, size, one, two, t, e, from, to);
+        }
     }
     let mut asked = [0u16; 33];
     ask(cat, one, two, t, &mut asked);
     if from == 0 {
-        return forward(cat, tab, size, one, two, &asked, t, 0, from, to);
+        return forward(cat, tab, size, one, two, &asked, t, false, 0, from, to);
+    }
+    if again {
+        return forward(cat, tab, size, one, two, &asked, t, true, 0, from, to);
     }
     let before = path_to(cat, tab, size, one, two, &asked, t, CellNumber(from - 1));
-    forward(cat, tab, size, one, two, &asked, t, before.long, from, to)
+    let k = before.long;
+    forward(cat, tab, size, one, two, &asked, t, false, k, from, to)
 }

@@ -24,6 +24,10 @@ abbrev pub afterPlace : Place → ℕ
 afterPlace (On c) = suc (c .0)
 afterPlace (Before c) = c .0
 
+abbrev pub isOn : Place → Bool
+isOn (On c) = true
+isOn (Before c) = false
+
 abbrev pub isAbsent : Parentage → Bool
 isAbsent Absent = true
 isAbsent (Of p) = false

@@ -33,9 +33,14 @@ impl Position {
     pub fn hold_dropped(self) -> Self
         ensures { λ r. ⌜ r ≡ holdDropped self ⌝ }
     {
-        let mut p = self;
-        p.hold = false;
-        p
+        let here = self.place;
+        let above = self.parentage;
+        let held = false;
+        Position {
+            place: here,
+            parentage: above,
+            hold: held,
+        }
     }
 
     // Shifted by its own insert of cell c: "the parentage stays if the new cell is beneath it, else is absent".

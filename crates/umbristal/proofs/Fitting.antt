@@ -1,12 +1,11 @@
 -- What a call leaves fits the block and the number that it comes back in. Assumes nothing.
 use mathlib.Core.Path.{_≡_, refl, ap, sym, _∙_, subst}
-use mathlib.Core.Bool.{Bool, true, false, true≢false, _&&_}
+use mathlib.Core.Bool.{Bool, true, false, _&&_}
 use mathlib.Core.List.{List}
 use Prim.Native.Nat.{ℕ, _≤_}
 use native.Mathlib.Omega.{arith}
-use lib.Dec.{eqb}
 use lib.ListN.{length}
-use borrow.Author.Tests.{eqb-true, ltb-true, leb-true}
+use borrow.Author.Tests.{ltb-true, leb-true}
 use Rattle.terms.specs.declared.Place.{Place}
 use Rattle.terms.specs.declared.Place.the-variants.{On, Before}
 use Rattle.terms.specs.declared.Parentage.{Parentage}
@@ -16,11 +15,10 @@ use Rattle.terms.specs.declared.Answer.{Answer}
 use Rattle.terms.specs.Choice.{pick}
 use Rattle.terms.specs.Statuses.{number}
 use Rattle.terms.specs.Moves.{placeNumber}
-use Rattle.forest.specs.Good.{on, off, is}
 use Rattle.rules.specs.Block.{Bytes}
 use Rattle.rules.specs.Cells.{Segment}
 use Rattle.rules.specs.Table.{listing}
-use Rattle.rules.specs.Position.{goodPlace, goodParentage, goodBlock, positionOf}
+use Rattle.rules.specs.Position.{goodPlace, goodParentage, positionOf}
 use Rattle.rules.specs.Outcome.{Outcome, isBlank, isIsrt, unsound, outcome, soundOutcome, blockAfter}
 use Rattle.rules.proofs.Cells.{listing-length}
 use Rattle.rules.proofs.Block.{canonical}
@@ -30,6 +28,7 @@ use Rattle.model.specs.Kept.{Kept}
 use Rattle.model.proofs.Asked.{good-place, good-parentage, parent-before}
 use Rattle.model.proofs.Kept.{tables-stay-good}
 use Rattle.position.specs.Block.{parentageNumber}
+use Rattle.position.proofs.Parts.{good-long}
 use Rattle.answers.specs.Ready.{SoundFor, made}
 use Rattle.dli.proofs.Calls.{call-on}
 use Rattle.umbristal.specs.Face.{handedBack, handedBackOf, soundFace, packed, Fitting}
@@ -43,13 +42,6 @@ module _ (cat : Bytes) (cs : List Segment) where
   parent-near : (q : Place) (r : Parentage) → goodPlace cat cs q ≡ true → goodParentage cat cs q r ≡ true → parentageNumber r ≤ length cs
   parent-near q Absent g e = omega arith
   parent-near q (Of p) g e = omega (arith, parent-before cat cs q p g e .0)
-
-block-long : (b : Bytes) → goodBlock b ≡ true → length b ≡ 8
-unfolding goodBlock
-block-long b e = elim (is (eqb (length b) 8)) [
-  | on h ↦ eqb-true (length b) 8 h
-  | off h ↦ absurd (true≢false (sym e ∙ rw h))
-]
 
 one-at-most : (b : Bool) → pick b 1 0 ≤ 1
 one-at-most true = omega arith
@@ -72,7 +64,7 @@ module _ (cat tab block : Bytes) (c : ℕ) (list area : Bytes) where
         removed = omega
             (arith, k .counted, table-count cat tab (f .table), table-room cat tab (f .table), one-at-most (isIsrt c && isBlank (o .answer .status)));
         position = λ l. record {
-          long = block-long block (canonical .only cat (listing cat tab) block (f .position));
+          long = good-long block (canonical .only cat (listing cat tab) block (f .position));
           place = omega (arith, m, place-near cat cs (p .place) q);
           parent = omega (arith, m, parent-near cat cs (p .place) (p .parentage) q (good-parentage cat cs p (k .position)));
         };

@@ -4,3 +4,4 @@ pub mod Refused
 pub mod Reports
 pub mod EmptyList
 pub mod Session
+pub mod OneStep

@@ -17,7 +17,7 @@ fn long(b: u8) -> u64
 }
 
 // Status, type, level and length are a byte each; removed stands above them.
-fn packed(a: Answer) -> u64
+pub(crate) fn packed(a: Answer) -> u64
     requires { ⌜ a .removed < 65536 ⌝ }
     ensures { λ r. ⌜ r ≡ packed a ⌝ }
 {

@@ -3,7 +3,14 @@ mod lent;
 
 use crate::lent::packed_report;
 use blocks::wide;
+use cells::lookup::count;
+use position::block::cell_after;
+use position::block::is_on;
 use position::block::position_of;
+use position::block::put_position;
+use terms::CellNumber;
+use terms::Parentage;
+use terms::Position;
 use terms::Status;
 ghost use mathlib.Core.Path.{_≡_};
 ghost use mathlib.Core.Bool.{true};
@@ -107,16 +114,25 @@ fn is_step(tab: &[u8], number: u8, list: &[u8], area: &[u8]) -> bool
     wide(tab[5]) - 1 <= area.len()
 }
 
-// One step of a reading of the whole table. The calls would answer the same; here no block is handed on, and that is most of what a step costs.
+// One step of a reading of the whole table. The calls would answer the same; here neither position nor answer is handed on, which is most of what a step
+// costs, and the position is written before the data, so that the next step need not wait for it.
 fn step(cat: &[u8], tab: &[u8], pos: &mut [u8], list: &[u8], area: &mut [u8]) -> u64
     requires { ⌜ SoundFor (now cat) (now tab) (positionOf (now pos)) × (isStep (now tab) 2 (now list) (now area) ≡ true) ⌝ }
     ensures { λ r. ⌜ handedBack r (now (tab .entry)) (now (pos .exit)) (now (area .exit))
         ≡ soundFace (now (cat .entry)) (now (tab .entry)) (now (pos .entry)) 2 (now (list .entry)) (now (area .entry)) ⌝ }
 {
     let size = wide(tab[5]);
-    let p = position_of(pos);
-    let a = gets::get_next_cell(cat, tab, size, p, area, false);
-    lent::leave(pos, a)
+    let i = cell_after(pos);
+    if count(tab) <= i {
+        put_position(pos, Position::fresh());
+        return lent::refused(Status::GB);
+    }
+    let c = CellNumber(i);
+    let s = gets::next_status(cat, tab, size, is_on(pos), c);
+    let p = Position::fresh().moved_onto(c, Parentage::Of(c), false);
+    put_position(pos, p);
+    let t = gets::show(cat, tab, size, c, area);
+    lent::packed(answers::told(cat, s, p, t, 0))
 }
 
 // The same on blocks and a position that a check has accepted and only calls have changed since: nothing of them is tested again.

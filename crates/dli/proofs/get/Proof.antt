@@ -1,3 +1,4 @@
+use mathlib.Core.Bool.{false≢true}
 use mathlib.Core.Path.{_∙_}
 use Rattle.dli.proofs.Calls.{of-unique, of-next, of-within}
 use Rattle.gets.proofs.OneList.{ready-alone, next-alone, within-alone}
@@ -10,14 +11,14 @@ get-unique-requires : tie.Need-get-unique-requires
 get-unique-requires c κs = let ·pre = c .before .before .before .before .before .before .pre in
     (·pre .ready, ·pre .long)
 
--- src/lib.rt: 2 => gets::get_next(cat, tab, size, pos, list, &list[..0], area, hold),
+-- src/lib.rt: 2 => gets::get_next(cat, tab, size, pos, list, &list[..0], area, hold, false),
 slice-aggregate-get-next : tie.Need-slice-aggregate-get-next
 slice-aggregate-get-next c = search needs
 
--- src/lib.rt: 2 => gets::get_next(cat, tab, size, pos, list, &list[..0], area, hold),
+-- src/lib.rt: 2 => gets::get_next(cat, tab, size, pos, list, &list[..0], area, hold, false),
 get-next-requires : tie.Need-get-next-requires
 get-next-requires c κs = let ·pre = c .before .before .before .before .before .before .before .pre in
-    let r = ready-alone (·pre .ready) in (r .0, r .1, ·pre .long)
+    let r = ready-alone (·pre .ready) in (r .0, r .1, ·pre .long, λ e. absurd (false≢true e))
 
 -- src/lib.rt: _ => gets::get_next_within(cat, tab, size, pos, list, &list[..0], area, hold),
 slice-aggregate-get-next-within : tie.Need-slice-aggregate-get-next-within

@@ -8,6 +8,7 @@ use Rattle.rules.specs.Arguments.{complete, listRead}
 use Rattle.rules.proofs.Cells.{listing-length}
 use Rattle.gets.proofs.Found.{after-in, first-in}
 use Rattle.gets.proofs.Gotten.{search-good, ready-none, next-empty, next-found, next-missed, miss-named, status-named}
+use Rattle.gets.proofs.Again.{again-continued}
 use borrow.Author.Needs.{needs}
 use borrow.Author.Tests.{eqb-true, eqb-false}
 use mathlib.Core.List.{_++_}
@@ -51,25 +52,29 @@ after-place-requires c κs = let ·args = c .before .before .before .before .bef
       c .before .before .before .before .before .before .before .before .pre .0 .sound .sized .few,
     )
 
--- src/lib.rt: let Found::At(c) = first_match(cat, tab, size, one, two, t, from, count(tab)) else {
+-- src/lib.rt: let Found::At(c) = first_match(cat, tab, size, one, two, t, again, from, count(tab)) else {
 count-requires : tie.Need-count-requires
 count-requires c κs = search needs
 
--- src/lib.rt: let Found::At(c) = first_match(cat, tab, size, one, two, t, from, count(tab)) else {
+-- src/lib.rt: let Found::At(c) = first_match(cat, tab, size, one, two, t, again, from, count(tab)) else {
 first-match-requires : tie.Need-first-match-requires
-first-match-requires c κs = (
-  record {
-    good = search-good
-        (c .before .before .before .before .before .before .before .before .before .before .pre .0)
-        (c .before .before .last-type .result) (c .before .before .last-type .ensures);
-    pair =
-        c .before .before .before .before .before .before .before .before .before .before .pre .1;
-  },
-  omega
-      (arith, c .count .ensures .0),
-)
+first-match-requires c κs =
+    let ·args = c .before .before .before .before .before .before .before .before .before .before .args in (
+      record {
+        good = search-good (c .before .before .before .before .before .before .before .before .before .before .pre
+            .0) (c .before .before .last-type .result) (c .before .before .last-type .ensures);
+        pair =
+            c .before .before .before .before .before .before .before .before .before .before .pre .1;
+      },
+      omega
+          (arith, c .count .ensures .0),
+      λ e. again-continued (·args .cat .now) (·args .tab .now)
+          (·args .one .now ++ ·args .two .now) (·args .pos) (c .before .before .last-type .result)
+          (c .before .before .last-type .ensures) (c .before .after-place .result) (c .before .after-place .ensures)
+          (c .before .before .before .before .before .before .before .before .before .before .pre .3 e),
+    )
 
--- src/lib.rt: let Found::At(c) = first_match(cat, tab, size, one, two, t, from, count(tab)) else {
+-- src/lib.rt: let Found::At(c) = first_match(cat, tab, size, one, two, t, again, from, count(tab)) else {
 enum-known-c : tie.Need-enum-known-c
 enum-known-c c = search needs
 

@@ -7,6 +7,7 @@ use Rattle.rules.specs.Table.{listing}
 use Rattle.rules.proofs.Cells.{listing-length}
 use Rattle.cells.proofs.Located.{end-within}
 use Rattle.gets.proofs.Found.{after-in, parent-in, around}
+use Rattle.gets.proofs.Codes.{status-is, on-least}
 use Rattle.gets.proofs.Gotten.{cell-in-run, cell-within, cell-outside}
 use borrow.Author.Needs.{needs}
 use Rattle.gets.proofs.get_next_cell_within.Statement.{statement}
@@ -48,20 +49,27 @@ returns c = let ·args = c .before .before .before .before .before .before .befo
     (·args .hold) (·after-place .result) (·after-place .ensures) (·args .p) (·pre .2) (·is-within .result)
     (·is-within .ensures) (not-true _ (c .before .if1 .taken))
 
--- src/lib.rt: let s = level_status(cat, tab, size, pos, c);
-level-status-requires : tie.Need-level-status-requires
-level-status-requires c κs = let ·pre = c .before .before .before .before .before .before .pre in
-    let ·args = c .before .before .before .before .before .before .args in (
-      ·pre .0,
+-- src/lib.rt: let s = next_status(cat, tab, size, is_on(place), c);
+is-on-requires : tie.Need-is-on-requires
+is-on-requires c κs = search needs
+
+-- src/lib.rt: let s = next_status(cat, tab, size, is_on(place), c);
+next-status-requires : tie.Need-next-status-requires
+next-status-requires c κs = let ·pre = c .before .before .before .before .before .before .before .pre in
+    let ·args = c .before .before .before .before .before .before .before .args in
+    let ·is-within = c .before .before .is-within in let ·after-place = c .before .before .before .after-place in (
+      ·pre .0 .sound,
       cell-in-run _ _ _ _ (parent-in (·args .cat .now) (·args .tab .now) (·args .pos) (·pre .0 .position)
-          (·args .p) (·pre .2)) (sym (c .before .is-within .ensures) ∙ not-false _ (c .if1 .left)),
+          (·args .p) (·pre .2)) (sym (·is-within .ensures) ∙ not-false _ (c .before .if1 .left)),
+      on-least (·args .pos .place)
+          (c .is-on .result) (·after-place .result) (c .is-on .ensures) (·after-place .ensures),
     )
 
 -- src/lib.rt: got(cat, tab, size, c, s, Parentage::Of(p), hold, pos, area)
 got-requires : tie.Need-got-requires
-got-requires c κs = let ·pre = c .before .before .before .before .before .before .before .before .pre in
-    let ·args = c .before .before .before .before .before .before .before .before .args in
-    let ·is-within = c .before .before .before .is-within in let ·if1 = c .before .before .if1 in (
+got-requires c κs = let ·pre = c .before .before .before .before .before .before .before .before .before .pre in
+    let ·args = c .before .before .before .before .before .before .before .before .before .args in
+    let ·is-within = c .before .before .before .before .is-within in let ·if1 = c .before .before .before .if1 in (
       ·pre .0 .sound,
       cell-in-run _ _ _ _ (parent-in (·args .cat .now) (·args .tab .now) (·args .pos) (·pre .0 .position)
           (·args .p) (·pre .2)) (sym (·is-within .ensures) ∙ not-false _ (·if1 .left)),
@@ -75,15 +83,18 @@ same-length c = search needs
 -- src/lib.rt: fn get_next_cell_within(
 returns-2 : tie.Need-returns-2
 returns-2 c = let ·got = c .before .before .got in
-    let ·pre = c .before .before .before .before .before .before .before .before .before .before .before .pre in
-    let ·args = c .before .before .before .before .before .before .before .before .before .before .before .args in
-    let ·after-place = c .before .before .before .before .before .before .before .after-place in
-    let ·is-within = c .before .before .before .before .before .before .is-within in
-    let ·level-status = c .before .before .before .before .level-status in
-    let ·if1 = c .before .before .before .before .before .if1 in
+    let ·pre = c .before .before .before .before .before .before .before .before .before .before .before .before .pre in
+    let ·args = c .before .before .before .before .before .before .before .before .before .before .before .before .args
+    in let ·after-place = c .before .before .before .before .before .before .before .before .after-place in
+    let ·is-within = c .before .before .before .before .before .before .before .is-within in
+    let ·next-status = c .before .before .before .before .next-status in
+    let ·if1 = c .before .before .before .before .before .before .if1 in
+    let ·is-on = c .before .before .before .before .before .is-on in
     ·got .ensures ∙ cell-within (·pre .0) (·args .area .now) (·args .hold) (·after-place .result)
-    (·after-place .ensures) (·args .p) (·pre .2) (·is-within .result) (·is-within .ensures) (·level-status .result)
-    (not-false _ (·if1 .left)) (·level-status .ensures)
+    (·after-place .ensures) (·args .p) (·pre .2) (·is-within .result) (·is-within .ensures) (·next-status .result)
+    (not-false _ (·if1 .left)) (·next-status .ensures ∙ status-is (·args .cat .now)
+    (listing (·args .cat .now) (·args .tab .now)) (·after-place .result) (·is-on .result) (·args .pos .place)
+    (·is-on .ensures) (·after-place .ensures))
 
 pub get-next-cell-within-spec : {M : Type 1} → statement M
 get-next-cell-within-spec =
@@ -93,7 +104,8 @@ get-next-cell-within-spec =
     is-within-requires
     missed-requires
     returns
-    level-status-requires
+    is-on-requires
+    next-status-requires
     got-requires
     same-length
     returns-2)

@@ -1,36 +1,13 @@
 use mathlib.Core.Path.{_∙_}
-use Rattle.cells.proofs.Ancestry.{sound-known, sound-data}
-use Rattle.gets.proofs.Gotten.{got-fits, got-is}
+use Rattle.cells.proofs.Ancestry.{sound-known}
+use Rattle.gets.proofs.Gotten.{got-is}
 use borrow.Author.Needs.{needs}
 use Rattle.gets.proofs.got.Statement.{statement}
 use Rattle.gets.proofs.got.Tie as tie
 
--- src/lib.rt: let t = code_at(cat, tab, size, c);
-code-at-requires : tie.Need-code-at-requires
-code-at-requires c κs = search needs
-
--- src/lib.rt: let long = wide(data_length(cat, t));
-data-length-requires : tie.Need-data-length-requires
-data-length-requires c κs = search needs
-
--- src/lib.rt: let long = wide(data_length(cat, t));
-wide-requires : tie.Need-wide-requires
-wide-requires c κs = search needs
-
--- src/lib.rt: put(area, data_part(cat, tab, size, c, 1, long));
-data-part-requires : tie.Need-data-part-requires
-data-part-requires c κs = let ·pre = c .before .before .before .before .before .before .before .pre in
-    let ·code-at = c .before .before .before .code-at in let ·data-length = c .before .before .data-length in
-    sound-data (·pre .0) (·pre .1) (·code-at .ensures) (c .before .wide .ensures .0 ∙ ·data-length .ensures)
-
--- src/lib.rt: put(area, data_part(cat, tab, size, c, 1, long));
-put-requires : tie.Need-put-requires
-put-requires c κs = let ·pre = c .before .before .before .before .before .before .before .before .pre in
-    let ·code-at = c .before .before .before .before .code-at in let ·wide = c .before .before .wide in
-    let ·data-length = c .before .before .before .data-length in
-    let ·args = c .before .before .before .before .before .before .before .before .args in
-    got-fits (·pre .0) (·pre .1) (·code-at .ensures) (·wide .ensures .0 ∙ ·data-length .ensures) (c .data-part .ensures)
-    (·args .area .now) (·pre .2)
+-- src/lib.rt: let t = show(cat, tab, size, c, area);
+show-requires : tie.Need-show-requires
+show-requires c κs = search needs
 
 -- src/lib.rt: told(cat, s, pos.moved_onto(c, parentage, hold), t, 0)
 moved-onto-requires : tie.Need-moved-onto-requires
@@ -38,12 +15,10 @@ moved-onto-requires c κs = search needs
 
 -- src/lib.rt: told(cat, s, pos.moved_onto(c, parentage, hold), t, 0)
 told-requires : tie.Need-told-requires
-told-requires c κs =
-    let ·pre = c .before .before .before .before .before .before .before .before .before .before .before .before .pre in
-    let ·code-at = c .before .before .before .before .before .before .before .before .code-at in
-    let ·args = c .before .before .before .before .before .before .before .before .before .before .before .before .args
-    in
-    (·pre .0 .catalogue, rw (·code-at .ensures) (sound-known (·pre .0) (·args .c .0) (·pre .1)))
+told-requires c κs = let ·pre = c .before .before .before .before .before .before .before .before .pre in
+    let ·show = c .before .before .before .show in
+    let ·args = c .before .before .before .before .before .before .before .before .args in
+    (·pre .0 .catalogue, rw (·show .ensures .0) (sound-known (·pre .0) (·args .c .0) (·pre .1)))
 
 -- src/lib.rt: fn got(
 same-length : tie.Need-same-length
@@ -51,27 +26,16 @@ same-length c = search needs
 
 -- src/lib.rt: fn got(
 returns : tie.Need-returns
-returns c =
-    let ·pre = c .before .before .before .before .before .before .before .before .before .before .before .before .before
-    .pre in let ·code-at = c .before .before .before .before .before .before .before .before .before .code-at in
-    let ·wide = c .before .before .before .before .before .before .before .wide in
-    let ·data-length = c .before .before .before .before .before .before .before .before .data-length in
-    let ·data-part = c .before .before .before .before .before .data-part in
-    let ·args = c .before .before .before .before .before .before .before .before .before .before .before .before
-    .before .args in let ·put = c .before .before .before .before .put in
-    got-is (·pre .0) (·pre .1) (·code-at .ensures) (·wide .ensures .0 ∙ ·data-length .ensures) (·data-part .ensures)
-    (·args .area .now) (·args .s) (·args .parentage) (·args .hold) (c .before .moved-onto .ensures) (c .told .ensures)
-    (·put .ensures)
+returns c = let ·args = c .before .before .before .before .before .before .before .before .before .args in
+    let ·show = c .before .before .before .before .show in
+    got-is (·args .cat .now) (·args .tab .now) (·args .c .0) (·args .s) (·args .parentage) (·args .hold)
+    (·args .area .now) (·show .ensures .0) (·show .ensures .1) (c .before .moved-onto .ensures) (c .told .ensures)
 
 pub got-spec : {M : Type 1} → statement M
 got-spec =
     tie.close
     (tie.spec
-    code-at-requires
-    data-length-requires
-    wide-requires
-    data-part-requires
-    put-requires
+    show-requires
     moved-onto-requires
     told-requires
     same-length

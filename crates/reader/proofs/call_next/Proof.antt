@@ -1,3 +1,4 @@
+use mathlib.Core.Bool.{false≢true}
 use borrow.Author.Needs.{needs}
 use Rattle.reader.proofs.call_next.Statement.{statement}
 use Rattle.reader.proofs.call_next.Tie as tie
@@ -10,10 +11,10 @@ shared-slice-read-wide c = search needs
 wide-requires : tie.Need-wide-requires
 wide-requires c κs = search needs
 
--- src/lib.rt: gets::get_next(cat, tab, size, pos, one, two, area, false)
+-- src/lib.rt: gets::get_next(cat, tab, size, pos, one, two, area, false, false)
 get-next-requires : tie.Need-get-next-requires
 get-next-requires c κs = let ·pre = c .before .before .before .before .before .before .before .before .pre in
-    rw (c .before .wide .ensures .0) (·pre)
+    rw (c .before .wide .ensures .0) (·pre .0, ·pre .1, ·pre .2, λ e. absurd (false≢true e))
 
 -- src/lib.rt: fn call_next(
 same-length : tie.Need-same-length

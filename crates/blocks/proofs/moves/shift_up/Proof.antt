@@ -2,7 +2,8 @@ use borrow.Author.Needs.{needs}
 use native.Mathlib.Omega.{arith}
 use mathlib.Core.Path.{_≡_, refl, ap, _∙_}
 use Prim.Native.Nat.{_≤_, _+_, _-_}
-use lib.ListN.{length, length-set, set, getD}
+use lib.ListN.{length, drop}
+use lib.Seq.{paste}
 use Rattle.blocks.proofs.Moved.{upAt, up-more, up-start, up-end}
 use Rattle.blocks.proofs.moves.shift_up.Statement.{statement}
 use Rattle.blocks.proofs.moves.shift_up.Tie as tie
@@ -18,46 +19,43 @@ abbrev μ-loop : tie.MeasureT-loop
 sub-i : tie.Need-sub-i Inv-loop μ-loop
 sub-i c = search needs
 
--- src/moves.rt: while 0 < i {
+-- src/moves.rt: while 1024 <= i {
 loop-holds : tie.Need-loop-holds Inv-loop μ-loop
 loop-holds c = (
   search needs,
   omega arith,
   refl,
-  up-start (c .args .gap)
-      (length (c .args .tail .now) - c .args .gap) (c .args .tail .now) (omega arith),
+  up-start (c .before .args .gap)
+      (length (c .before .args .tail .now) - c .before .args .gap) (c .before .args .tail .now),
 )
 
--- src/moves.rt: i -= 1;
-sub-i-2 : tie.Need-sub-i-2 Inv-loop μ-loop
-sub-i-2 c = search needs
+-- src/moves.rt: carry(tail, i, gap + i);
+add-carry : tie.Need-add-carry Inv-loop μ-loop
+add-carry c = search needs
 
--- src/moves.rt: tail[gap + i] = tail[i];
-slice-read-tail : tie.Need-slice-read-tail Inv-loop μ-loop
-slice-read-tail c = search needs
+-- src/moves.rt: carry(tail, i, gap + i);
+carry-requires : tie.Need-carry-requires Inv-loop μ-loop
+carry-requires c κs = search needs
 
--- src/moves.rt: tail[gap + i] = tail[i];
-add-tail : tie.Need-add-tail Inv-loop μ-loop
-add-tail c = search needs
-
--- src/moves.rt: tail[gap + i] = tail[i];
-slice-write-tail : tie.Need-slice-write-tail Inv-loop μ-loop
-slice-write-tail c = search needs
-
--- src/moves.rt: while 0 < i {
+-- src/moves.rt: while 1024 <= i {
 loop-less : tie.Need-loop-less Inv-loop μ-loop
 loop-less c = search needs
 
--- src/moves.rt: while 0 < i {
+-- src/moves.rt: while 1024 <= i {
 loop-again : tie.Need-loop-again Inv-loop μ-loop
-loop-again c = let ·args = c .before .before .before .args in
-    let l = c .before .before .loop in let a = ·args .tail .now in let n = length a - ·args .gap in let k = l .i - 1 in (
+loop-again c = let ·args = c .before .before .before .before .before .before .before .args in
+    let l = c .before .before .before .before .before .loop in let a = ·args .tail .now in let j = l .i - 1024 in (
       omega arith,
       omega arith,
-      simp length-set (l .inv .2),
-      ap (λ t. set t (·args .gap + k) (getD t k 0)) (l .inv .3) ∙
-          up-more (·args .gap) n (l .i) a (omega arith) (omega arith) (omega arith),
+      omega arith,
+      c .before .before .carry .ensures ∙ ap
+          (λ t. paste t (·args .gap + j) (drop j t) 1024) (l .inv .3) ∙ up-more (·args .gap) (length a - ·args .gap) (l .i) j
+          1024 a (omega arith) (omega arith) (omega arith),
     )
+
+-- src/moves.rt: lift(tail, gap, i);
+lift-requires : tie.Need-lift-requires Inv-loop μ-loop
+lift-requires c κs = search needs
 
 -- src/moves.rt: pub fn shift_up(tail: &mut [u8], gap: usize)
 same-length : tie.Need-same-length Inv-loop μ-loop
@@ -65,9 +63,10 @@ same-length c = search needs
 
 -- src/moves.rt: pub fn shift_up(tail: &mut [u8], gap: usize)
 returns : tie.Need-returns Inv-loop μ-loop
-returns c = let ·args = c .before .before .args in
-    c .before .loop .inv .3 ∙ up-end (·args .gap) (length (·args .tail .now) - ·args .gap) (c .before .loop .i)
-    (·args .tail .now) (omega arith)
+returns c = let ·args = c .before .before .before .before .before .before .before .args in
+    let l = c .before .before .before .before .before .loop in let a = ·args .tail .now in
+    c .before .before .lift .ensures ∙ ap (λ t. paste t (·args .gap) t (l .i)) (l .inv .3) ∙ up-end (·args .gap)
+    (length a - ·args .gap) (l .i) a (omega arith) (omega arith)
 
 pub shift-up-spec : {M : Type 1} → statement M
 shift-up-spec =
@@ -77,11 +76,10 @@ shift-up-spec =
     μ-loop
     sub-i
     loop-holds
-    sub-i-2
-    slice-read-tail
-    add-tail
-    slice-write-tail
+    add-carry
+    carry-requires
     loop-less
     loop-again
+    lift-requires
     same-length
     returns)

@@ -1,13 +1,14 @@
-use mathlib.Core.Path.{_≡_, refl, ap}
+use borrow.Author.Needs.{needs}
+use mathlib.Core.Path.{_≡_, refl}
 use Prim.Native.Nat.{_-_}
 use native.Mathlib.Omega.{arith}
 use lib.ListN.{length}
-use Rattle.terms.specs.Moves.{afterPlace, isAbsent}
+use Rattle.terms.specs.Moves.{afterPlace}
 use Rattle.rules.specs.Table.{listing}
-use Rattle.reports.proofs.Steps.{Stands, stands-long, stands-fresh, get-ready, next-none, next-one}
+use Rattle.rules.proofs.Cells.{listing-length}
+use Rattle.reports.proofs.Steps.{Stands, stands-fresh, stands-under, get-ready, next-none, next-one}
 use Rattle.reports.proofs.Outer.{Outer, outer-start, outer-done, outer-next}
 use Rattle.gets.proofs.OneList.{ready-alone, next-alone}
-use borrow.Author.Needs.{needs}
 use Rattle.reports.proofs.nesting.nested_sound.Statement.{statement}
 use Rattle.reports.proofs.nesting.nested_sound.Tie as tie
 
@@ -61,67 +62,84 @@ returns c =
     (c .before .number .result) (c .before .number .ensures) (next-alone _ _ _ _ _ _ (·read-next .ensures))
     (c .if1 .taken))
 
--- src/nesting.rt: let under = read_under(cat, tab, two, a.position, hits, &mut area, out);
+-- src/nesting.rt: let p = q.cell();
+cell-requires : tie.Need-cell-requires Inv-loop μ-loop
+cell-requires c κs = search needs
+
+-- src/nesting.rt: let w = read_under(cat, tab, two, p, hits, &mut area, out);
 slice-aggregate-read-under : tie.Need-slice-aggregate-read-under Inv-loop μ-loop
 slice-aggregate-read-under c = search needs
 
--- src/nesting.rt: let under = read_under(cat, tab, two, a.position, hits, &mut area, out);
+-- src/nesting.rt: let w = read_under(cat, tab, two, p, hits, &mut area, out);
 read-under-requires : tie.Need-read-under-requires Inv-loop μ-loop
-read-under-requires c κs = let m = next-one
-    (c .before .before .before .before .before .before .before .before .before .before .before .before .before .before
-    .before .pre .first) (c .before .before .before .before .before .before .before .before .loop .inv .1)
-    (c .before .before .before .before .before .read-next .result) _ (c .before .before .before .number .result)
-    (c .before .before .before .number .ensures)
-    (next-alone _ _ _ _ _ _ (c .before .before .before .before .before .read-next .ensures))
-    (c .before .before .if1 .left) in (
-      c .before .before .before .before .before .before .before .before .before .before
-          .before .before .before .before .before .pre .second,
-      m .stands .good,
-      ap isAbsent (m .parentage),
+read-under-requires c κs =
+    let ·args = c .before .before .before .before .before .before .before .before .before .before .before .before
+    .before .before .before .before .before .args in
+    let m = next-one (c .before .before .before .before .before .before .before .before .before .before .before .before
+    .before .before .before .before .before .pre .first)
+    (c .before .before .before .before .before .before .before .before .before .before .loop .inv .1)
+    (c .before .before .before .before .before .before .before .read-next .result) _
+    (c .before .before .before .before .before .number .result)
+    (c .before .before .before .before .before .number .ensures)
+    (next-alone _ _ _ _ _ _ (c .before .before .before .before .before .before .before .read-next .ensures))
+    (c .before .before .before .before .if1 .left) _ (c .before .before .cell .ensures) in (
+      c .before .before .before .before .before .before .before .before .before .before .before .before .before .before
+          .before .before .before .pre .second,
+      omega
+          (arith, m .turn .inside, listing-length (·args .cat .now) (·args .tab .now)),
       omega (
         arith,
         m .turn .later,
-        m .turn .moves,
-        c .before .before .before .before .before .before .before .before .loop .inv
+        c .before .before .before .before .before .before .before .before .before .before .loop .inv
             .0 .fewer,
       ),
-      c .before .before .before .before .area2 .given,
+      c .before .before .before .before .before .before .area2 .given,
     )
+
+-- src/nesting.rt: at = under(p, w.cell);
+under-requires : tie.Need-under-requires Inv-loop μ-loop
+under-requires c κs = search needs
 
 -- src/nesting.rt: loop {
 loop-less : tie.Need-loop-less Inv-loop μ-loop
 loop-less c = let m = next-one (c .before .before .before .before .before .before .before .before .before .before
-    .before .before .before .before .before .before .before .before .before .before .pre .first)
-    (c .before .before .before .before .before .before .before .before .before .before .before .before .before .loop
-    .inv .1) (c .before .before .before .before .before .before .before .before .before .before .read-next .result) _
-    (c .before .before .before .before .before .before .before .before .number .result)
-    (c .before .before .before .before .before .before .before .before .number .ensures)
-    (next-alone _ _ _ _ _ _ (c .before .before .before .before .before .before .before .before .before .before
-    .read-next .ensures)) (c .before .before .before .before .before .before .before .if1 .left) in omega (
-      arith,
-      m .turn .later,
-      m .turn .inside,
-      m .turn .moves,
-      c .before .before .before .before .read-under .ensures .later,
-    )
+    .before .before .before .before .before .before .before .before .before .before .before .before .pre .first)
+    (c .before .before .before .before .before .before .before .before .before .before .before .before .before .before
+    .before .loop .inv .1) (c .before .before .before .before .before .before .before .before .before .before .before
+    .before .read-next .result) _ (c .before .before .before .before .before .before .before .before .before .before
+    .number .result) (c .before .before .before .before .before .before .before .before .before .before .number
+    .ensures) (next-alone _ _ _ _ _ _ (c .before .before .before .before .before .before .before .before .before .before
+    .before .before .read-next .ensures)) (c .before .before .before .before .before .before .before .before .before
+    .if1 .left) _ (c .before .before .before .before .before .before .before .cell .ensures) in rw (c .under .ensures)
+    (omega (arith, m .turn .later, m .turn .inside, c .before .before .before .before .read-under .ensures .later))
 
 -- src/nesting.rt: loop {
 loop-again : tie.Need-loop-again Inv-loop μ-loop
 loop-again c =
-    let ·pre = c .before .before .before .before .before .before .before .before .before .before .before .before .before
-    .before .before .before .before .before .before .before .pre in
-    let ·loop = c .before .before .before .before .before .before .before .before .before .before .before .before
-    .before .loop in
-    let ·read-next = c .before .before .before .before .before .before .before .before .before .before .read-next in
-    let ·number = c .before .before .before .before .before .before .before .before .number in
-    let ·if1 = c .before .before .before .before .before .before .before .if1 in
-    let ·read-under = c .before .before .before .before .read-under in let ·area4 = c .before .before .before .area4 in
-    let m = next-one (·pre .first) (·loop .inv .1) (·read-next .result) _ (·number .result) (·number .ensures)
-    (next-alone _ _ _ _ _ _ (·read-next .ensures)) (·if1 .left) in (
-      outer-next (·pre) (·loop .inv .0) (·read-next .result .position) (m .turn) (m .parentage) _ _
-          (·read-under .ensures),
-      stands-long (·pre .first) _ _ (·read-under .ensures .good) (·area4 .given),
-      ·area4 .given,
+    let ·args = c .before .before .before .before .before .before .before .before .before .before .before .before
+    .before .before .before .before .before .before .before .before .before .before .args in
+    let m = next-one (c .before .before .before .before .before .before .before .before .before .before .before .before
+    .before .before .before .before .before .before .before .before .before .before .pre .first)
+    (c .before .before .before .before .before .before .before .before .before .before .before .before .before .before
+    .before .loop .inv .1) (c .before .before .before .before .before .before .before .before .before .before .before
+    .before .read-next .result) _ (c .before .before .before .before .before .before .before .before .before .before
+    .number .result) (c .before .before .before .before .before .before .before .before .before .before .number
+    .ensures) (next-alone _ _ _ _ _ _ (c .before .before .before .before .before .before .before .before .before .before
+    .before .before .read-next .ensures)) (c .before .before .before .before .before .before .before .before .before
+    .if1 .left) _ (c .before .before .before .before .before .before .before .cell .ensures) in rw (c .under .ensures) (
+      outer-next (c .before .before .before .before .before .before .before .before .before .before .before .before
+          .before .before .before .before .before .before .before .before .before .before .pre)
+          (c .before .before .before .before .before .before .before .before .before .before .before .before .before .before
+          .before .loop .inv .0) (m .turn) _ _ (c .before .before .before .before .read-under .ensures),
+      stands-under
+          (c .before .before .before .before .before .before .before .before .before .before .before .before .before .before
+          .before .before .before .before .before .before .before .before .pre .first)
+          (c .before .before .before .before .before .before .before .cell .result)
+          (c .before .before .before .before .read-under .result .cell) _
+          (omega (arith, m .turn .inside, listing-length (·args .cat .now) (·args .tab .now)))
+          (c .before .before .before .before .read-under .ensures .later)
+          (c .before .before .before .before .read-under .ensures .inside) (c .before .before .before .area4 .given),
+      c .before .before .before .area4 .given,
     )
 
 pub nested-sound-spec : {M : Type 1} → statement M
@@ -138,7 +156,9 @@ nested-sound-spec =
     number-requires
     same-length
     returns
+    cell-requires
     slice-aggregate-read-under
     read-under-requires
+    under-requires
     loop-less
     loop-again)

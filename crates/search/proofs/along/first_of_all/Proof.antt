@@ -53,7 +53,7 @@ returns-3 c = let ·count = c .before .before .before .before .before .before .b
 enum-told : tie.Need-enum-told
 enum-told c = search needs
 
--- src/along.rt: forward(cat, tab, size, one, two, asked, t, 0, 0, n)
+-- src/along.rt: forward(cat, tab, size, one, two, asked, t, false, 0, 0, n)
 forward-requires : tie.Need-forward-requires
 forward-requires c κs = (
   c .before .before .before .before .before .before .before .before .before .before .before

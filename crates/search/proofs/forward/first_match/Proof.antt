@@ -1,6 +1,6 @@
 use mathlib.Core.Path.{refl}
 use native.Mathlib.Omega.{arith}
-use Rattle.search.proofs.Branches.{first-none, all-match, before-cell}
+use Rattle.search.proofs.Branches.{first-none, all-match, before-cell, before-matched}
 use Rattle.search.proofs.Plain.{lone-own}
 use Rattle.search.proofs.Heeded.{filled-told}
 use borrow.Author.Needs.{needs}
@@ -17,9 +17,12 @@ returns-2 c = let ·pre = c .before .before .before .before .before .before .bef
     let ·args = c .before .before .before .before .before .before .before .args in let ·if1 = c .before .before .if1 in
     all-match (·pre .0 .good) (·args .from) (·args .to) (c .if2 .taken) (·if1 .left)
 
+begins-above-requires : tie.Need-begins-above-requires
+begins-above-requires c κs = search needs
+
 -- src/forward.rt: if let Tests::Own(e) = alone(cat, one, two, t) {
 alone-requires : tie.Need-alone-requires
-alone-requires c κs = let ·pre = c .before .before .before .before .before .before .before .pre in
+alone-requires c κs = let ·pre = c .before .before .before .before .before .before .before .before .before .pre in
     ·pre .0 .pair
 
 -- src/forward.rt: if let Tests::Own(e) = alone(cat, one, two, t) {
@@ -30,11 +33,12 @@ enum-known-e c = search needs
 forward-alone-requires : tie.Need-forward-alone-requires
 forward-alone-requires c κs = (
   c .before .before .before .before .before .before .before .before .before .before
-      .before .pre .0,
-  lone-own (c .before .before .before .before .before .before .before .before .before .before .before
-      .pre .0 .good) (omega arith) _ _ (c .before .before .before .alone .ensures) (c .before .e .given .1),
+      .before .before .before .pre .0,
+  lone-own
+      (c .before .before .before .before .before .before .before .before .before .before .before .before .before .pre .0
+      .good) (omega arith) _ _ (c .before .before .before .alone .ensures) (c .before .e .given .1),
   omega arith,
-  c .before .before .before .before .before .before .before .before .before .before .before .pre .1,
+  c .before .before .before .before .before .before .before .before .before .before .before .before .before .pre .1,
 )
 
 -- src/forward.rt: return forward_alone(cat, tab, size, one, two, t, e, from, to);
@@ -48,33 +52,59 @@ enum-told c = search needs
 -- src/forward.rt: ask(cat, one, two, t, &mut asked);
 ask-requires : tie.Need-ask-requires
 ask-requires c κs =
-    let ·pre = c .before .before .before .before .before .before .before .before .before .before .before .pre in
+    let ·pre = c .before .before .before .before .before .before .before .before .before .before .pre in
     (·pre .0 .pair, ·pre .0 .good .known, refl)
 
--- src/forward.rt: return forward(cat, tab, size, one, two, &asked, t, 0, from, to);
+-- src/forward.rt: return forward(cat, tab, size, one, two, &asked, t, false, 0, from, to);
 forward-requires : tie.Need-forward-requires
 forward-requires c κs = (
   filled-told (c .before .before .before .before .before .before .before .before .before
-      .before .before .before .before .before .pre .0) (c .before .before .ask .ensures),
+      .before .before .before .before .pre .0) (c .before .before .ask .ensures),
   omega arith,
-  c .before .before .before .before .before .before .before .before .before .before .before .before .before .before
-      .pre .1,
-  rw (c .before .if3 .taken),
+  c .before .before .before .before .before .before .before .before .before .before .before .before .before .pre .1,
+  rw (c .before .if4 .taken),
 )
 
--- src/forward.rt: return forward(cat, tab, size, one, two, &asked, t, 0, from, to);
+-- src/forward.rt: return forward(cat, tab, size, one, two, &asked, t, false, 0, from, to);
 returns-4 : tie.Need-returns-4
 returns-4 c = search needs
 
+-- src/forward.rt: return forward(cat, tab, size, one, two, &asked, t, true, 0, from, to);
+forward-requires-2 : tie.Need-forward-requires-2
+forward-requires-2 c κs =
+    let ·args = c .before .before .before .before .before .before .before .before .before .before .before .before
+    .before .before .args in (
+      filled-told (c .before .before .before .before .before .before .before .before .before .before .before .before
+          .before .before .pre .0) (c .before .before .before .ask .ensures),
+      omega arith,
+      c .before .before .before .before .before .before .before .before .before .before .before .before .before .before
+          .pre .1,
+      before-matched (c .before .before .before .before .before .before .before .before .before .before .before
+          .before .before .before .pre .0 .good) (·args .from) _
+          (omega (
+            arith,
+            c .before .before .before .before .before .before .before .before .before .before .before .before
+                .before .before .pre .1,
+            c .before .before .before .before .before .before .before .before .before .if1 .left,
+          ))
+          (omega arith) (c .before .before .if4 .left)
+          (c .before .before .before .before .before .before .before .before .before .before .before .before .before .before
+          .pre .2 (c .before .if5 .taken)) refl,
+    )
+
+-- src/forward.rt: return forward(cat, tab, size, one, two, &asked, t, true, 0, from, to);
+returns-5 : tie.Need-returns-5
+returns-5 c = search needs
+
 -- src/forward.rt: let before = path_to(cat, tab, size, one, two, &asked, t, CellNumber(from - 1));
-sub-t19 : tie.Need-sub-t19
-sub-t19 c = search needs
+sub-t23 : tie.Need-sub-t23
+sub-t23 c = search needs
 
 -- src/forward.rt: let before = path_to(cat, tab, size, one, two, &asked, t, CellNumber(from - 1));
 path-to-requires : tie.Need-path-to-requires
 path-to-requires c κs = (
   filled-told (c .before .before .before .before .before .before .before .before .before
-      .before .before .before .before .before .pre .0) (c .before .before .ask .ensures),
+      .before .before .before .before .before .pre .0) (c .before .before .before .ask .ensures),
   omega (
     arith,
     c .before .before .before .before .before .before .before .before .before .before .before .before .before
@@ -83,24 +113,24 @@ path-to-requires c κs = (
   ),
 )
 
--- src/forward.rt: forward(cat, tab, size, one, two, &asked, t, before.long, from, to)
-forward-requires-2 : tie.Need-forward-requires-2
-forward-requires-2 c κs =
+-- src/forward.rt: forward(cat, tab, size, one, two, &asked, t, false, k, from, to)
+forward-requires-3 : tie.Need-forward-requires-3
+forward-requires-3 c κs =
     let ·args = c .before .before .before .before .before .before .before .before .before .before .before .before
     .before .before .before .before .args in (
       filled-told (c .before .before .before .before .before .before .before .before .before .before .before .before
-          .before .before .before .before .pre .0) (c .before .before .before .before .ask .ensures),
+          .before .before .before .before .pre .0) (c .before .before .before .before .before .ask .ensures),
       omega arith,
       c .before .before .before .before .before .before .before .before .before .before .before .before .before .before
           .before .before .pre .1,
       before-cell (c .before .before .before .before .before .before .before .before .before
           .before .before .before .before .before .before .before .pre .0 .good) (·args .from) (c .before .path-to .result)
-          (c .before .before .before .if3 .left) (c .before .path-to .ensures),
+          (c .before .before .before .before .if4 .left) (c .before .path-to .ensures),
     )
 
 -- src/forward.rt: pub fn first_match(
-returns-5 : tie.Need-returns-5
-returns-5 c = search needs
+returns-6 : tie.Need-returns-6
+returns-6 c = search needs
 
 pub first-match-spec : {M : Type 1} → statement M
 first-match-spec =
@@ -108,6 +138,7 @@ first-match-spec =
     (tie.spec
     returns
     returns-2
+    begins-above-requires
     alone-requires
     enum-known-e
     forward-alone-requires
@@ -116,7 +147,9 @@ first-match-spec =
     ask-requires
     forward-requires
     returns-4
-    sub-t19
-    path-to-requires
     forward-requires-2
-    returns-5)
+    returns-5
+    sub-t23
+    path-to-requires
+    forward-requires-3
+    returns-6)

@@ -2,9 +2,11 @@ use Rattle.catalogue.proofs.Levels.{levels-none}
 use Rattle.catalogue.proofs.Hierarchy.{range-type}
 use mathlib.Core.Logic.{⊎-elim}
 use native.Mathlib.Omega.{arith}
-use mathlib.Core.Path.{_≡_, refl, _∙_}
+use mathlib.Core.Path.{_≡_, refl, ap, _∙_}
+use borrow.Author.Needs.{needs}
+use Rattle.terms.specs.Choice.{pick}
 use mathlib.Core.List.{_++_}
-use Prim.Native.Nat.{_-_}
+use Prim.Native.Nat.{ℕ, _-_}
 use Rattle.rules.specs.Matching.{firstMatch}
 use Rattle.rules.specs.Table.{listing}
 use Rattle.search.specs.Stretch.{levels, stretchBefore}
@@ -13,13 +15,13 @@ use Rattle.search.proofs.forward.forward.Statement.{statement}
 use Rattle.search.proofs.forward.forward.Tie as tie
 
 abbrev Inv-loop : tie.InvT-loop
-Inv-loop cat tab size one two asked t k from to row last long₀ i₀ long i =
+Inv-loop cat tab size one two asked t again k from to row last long₀ i₀ long i =
     (long ≡ stretchBefore cat (listing cat tab) (levels cat (one ++ two) t) i) ×
     (firstMatch cat (listing cat tab) (levels cat (one ++ two) t) i to ≡ firstMatch cat (listing cat tab)
     (levels cat (one ++ two) t) from to)
 
 abbrev μ-loop : tie.MeasureT-loop
-μ-loop cat tab size one two asked t k from to row last long₀ i₀ long i = to - i
+μ-loop cat tab size one two asked t again k from to row last long₀ i₀ long i = to - i
 
 -- src/forward.rt: levels(cat, &mut row);
 levels-requires : tie.Need-levels-requires Inv-loop μ-loop
@@ -36,18 +38,25 @@ level-by-requires c κs = let ·pre = c .before .before .before .before .before 
       c .before .levels .ensures,
     )
 
+-- src/forward.rt: let mut long = begun(again, last, k);
+begun-requires : tie.Need-begun-requires Inv-loop μ-loop
+begun-requires c κs = search needs
+
 -- src/forward.rt: while i < to {
 loop-holds : tie.Need-loop-holds Inv-loop μ-loop
-loop-holds c = let ·pre = c .before .before .before .before .before .before .before .before .pre in
-    (·pre .3, refl)
+loop-holds c = let ·args = c .before .before .before .before .before .before .before .before .before .args in
+    let ·pre = c .before .before .before .before .before .before .before .before .before .pre in (
+      c .begun .ensures ∙ ap (λ (l : ℕ). pick (·args .again) l (·args .k)) (c .before .level-by .ensures) ∙ ·pre .3,
+      refl,
+    )
 
 -- src/forward.rt: i = upcoming(cat, tab, size, one, two, t, long, i, to);
 upcoming-requires : tie.Need-upcoming-requires Inv-loop μ-loop
 upcoming-requires c κs = (
-  c .before .before .before .before .before .before .before .before .before .before .pre .0
-      .good,
-  c .before .before .before .before .before .before .before .before .before .before .pre .1,
-  c .before .before .before .before .before .before .before .before .before .before .pre .2,
+  c .before .before .before .before .before .before .before .before .before .before .before
+      .pre .0 .good,
+  c .before .before .before .before .before .before .before .before .before .before .before .pre .1,
+  c .before .before .before .before .before .before .before .before .before .before .before .pre .2,
   c .before .loop .inv .0,
   omega (arith, c .loop-test .taken),
 )
@@ -61,35 +70,37 @@ returns c = let ·loop = c .before .before .before .loop in
 level-at-requires : tie.Need-level-at-requires Inv-loop μ-loop
 level-at-requires c κs = (
   good-sound (c .before .before .before .before .before .before .before .before .before
-      .before .before .before .before .pre .0 .good),
+      .before .before .before .before .before .pre .0 .good),
   omega (
     arith,
     c .before .before .before .before .before .before .before .before .before .before .before .before .before
-        .pre .2,
+        .before .pre .2,
     c .before .if1 .left,
   ),
-  c .before .before .before .before .before .before .before .levels .ensures,
+  c .before .before .before .before .before .before .before .before .levels
+      .ensures,
 )
 
 -- src/forward.rt: long = stretched(cat, tab, size, one, two, asked, t, long, l, c);
 stretched-requires : tie.Need-stretched-requires Inv-loop μ-loop
 stretched-requires c κs = (
   c .before .before .before .before .before .before .before .before .before .before .before
-      .before .before .before .pre .0,
+      .before .before .before .before .pre .0,
   omega (
     arith,
-    c .before .before .before .before .before .before .before .before .before .before .before .before .before .before
-        .pre .2,
+    c .before .before .before .before .before .before .before .before .before .before .before .before .before
+        .before .before .pre .2,
     c .before .before .if1 .left,
   ),
   c .level-at .ensures,
   carried-cell
       (c .before .before .before .before .before .before .before .before .before .before .before .before .before .before
-      .pre .0 .good) (c .before .before .before .upcoming .result) (c .before .before .before .before .before .loop .long)
+      .before .pre .0 .good) (c .before .before .before .upcoming .result)
+      (c .before .before .before .before .before .loop .long)
       (omega (
         arith,
         c .before .before .before .before .before .before .before .before .before .before .before .before
-            .before .before .pre .2,
+            .before .before .before .pre .2,
         c .before .before .if1 .left,
       )) (c .before .before .before .upcoming .ensures .2),
 )
@@ -98,12 +109,13 @@ stretched-requires c κs = (
 returns-2 : tie.Need-returns-2 Inv-loop μ-loop
 returns-2 c =
     let ·pre = c .before .before .before .before .before .before .before .before .before .before .before .before .before
-    .before .before .before .before .pre in
+    .before .before .before .before .before .pre in
     let ·upcoming = c .before .before .before .before .before .before .upcoming in
     let ·level-at = c .before .before .before .level-at in let ·stretched = c .before .before .stretched in
-    let ·level-by = c .before .before .before .before .before .before .before .before .before .level-by in
+    let ·level-by = c .before .before .before .before .before .before .before .before .before .before .level-by in
     let ·args = c .before .before .before .before .before .before .before .before .before .before .before .before
-    .before .before .before .before .before .args in let ·if1 = c .before .before .before .before .before .if1 in
+    .before .before .before .before .before .before .args in
+    let ·if1 = c .before .before .before .before .before .if1 in
     let ·loop = c .before .before .before .before .before .before .before .before .loop in
     turn-found (·pre .0 .good) (·upcoming .result) (·level-at .result) (·stretched .result) (·level-by .result)
     (·args .to) (·if1 .left) (·pre .2) (·pre .1) (·level-at .ensures) (·stretched .ensures) (·level-by .ensures)
@@ -114,9 +126,9 @@ add-i : tie.Need-add-i Inv-loop μ-loop
 add-i c = omega (
   arith,
   c .before .before .before .before .before .before .before .before .before .before .before
-      .before .before .before .before .before .pre .0 .good .sized .few,
+      .before .before .before .before .before .before .pre .0 .good .sized .few,
   c .before .before .before .before .before .before .before .before .before .before .before .before .before .before
-      .before .before .pre .2,
+      .before .before .before .pre .2,
   c .before .before .before .before .if1 .left,
 )
 
@@ -132,11 +144,11 @@ loop-less c = omega (
 loop-again : tie.Need-loop-again Inv-loop μ-loop
 loop-again c =
     let ·pre = c .before .before .before .before .before .before .before .before .before .before .before .before .before
-    .before .before .before .pre in let ·upcoming = c .before .before .before .before .before .upcoming in
+    .before .before .before .before .pre in let ·upcoming = c .before .before .before .before .before .upcoming in
     let ·level-at = c .before .before .level-at in
-    let ·level-by = c .before .before .before .before .before .before .before .before .level-by in
+    let ·level-by = c .before .before .before .before .before .before .before .before .before .level-by in
     let ·args = c .before .before .before .before .before .before .before .before .before .before .before .before
-    .before .before .before .before .args in let ·if1 = c .before .before .before .before .if1 in
+    .before .before .before .before .before .args in let ·if1 = c .before .before .before .before .if1 in
     let ·loop = c .before .before .before .before .before .before .before .loop in (
       before-next (·pre .0 .good) (·upcoming .result) (c .before .stretched .result) (c .before .stretched .ensures),
       turn-next (·pre .0 .good) (·upcoming .result) (·level-at .result) (c .before .stretched .result) (·level-by .result)
@@ -157,6 +169,7 @@ forward-spec =
     μ-loop
     levels-requires
     level-by-requires
+    begun-requires
     loop-holds
     upcoming-requires
     returns

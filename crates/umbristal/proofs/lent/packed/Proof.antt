@@ -56,7 +56,7 @@ mul-result-4 c = search needs
 add-result-4 : tie.Need-add-result-4
 add-result-4 c = search needs
 
--- src/lent.rt: fn packed(a: Answer) -> u64
+-- src/lent.rt: pub(crate) fn packed(a: Answer) -> u64
 returns : tie.Need-returns
 unfolding packed
 returns c = omega (
