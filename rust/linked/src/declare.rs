@@ -1,4 +1,5 @@
-//! From a signature over slices to the symbol behind it, which takes each slice as a pointer and then its length.
+//! From a signature over slices to the symbol behind it, which takes each slice as a pointer and then its length, and
+//! each array as a pointer alone.
 
 /// A function for each line `pub fn name = symbol(parameters) -> result;`, safe or unsafe, over the symbol of the
 /// archive. So a function of the C face is one line here, which `tests/declarations` holds against the header.
@@ -39,6 +40,12 @@ macro_rules! handed_on {
     ($symbol:ident, $result:ty, [$($declared:tt)*] [$($given:tt)*] $slice:ident: &mut [u8], $($more:tt)*) => {
         handed_on!($symbol, $result, [$($declared)* _: *mut u8, _: usize,]
             [$($given)* $slice.as_mut_ptr(), $slice.len(),] $($more)*)
+    };
+    ($symbol:ident, $result:ty, [$($declared:tt)*] [$($given:tt)*] $array:ident: &[u8; $size:literal], $($more:tt)*) => {
+        handed_on!($symbol, $result, [$($declared)* _: *const [u8; $size],] [$($given)* $array,] $($more)*)
+    };
+    ($symbol:ident, $result:ty, [$($declared:tt)*] [$($given:tt)*] $array:ident: &mut [u8; $size:literal], $($more:tt)*) => {
+        handed_on!($symbol, $result, [$($declared)* _: *mut [u8; $size],] [$($given)* $array,] $($more)*)
     };
     ($symbol:ident, $result:ty, [$($declared:tt)*] [$($given:tt)*] $value:ident: $kind:ident, $($more:tt)*) => {
         handed_on!($symbol, $result, [$($declared)* _: $kind,] [$($given)* $value,] $($more)*)

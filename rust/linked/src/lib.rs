@@ -1,10 +1,12 @@
 //! The proved store behind its C face, over slices.
 //!
-//! Every function but [`call_sound`] takes any bytes. The archive behind them is the one that the environment
+//! Every function but [`call_sound`] and its twin in [`cobol`] takes any bytes. The archive behind them is the one that the environment
 //! variable UMBRISTAL_ARCHIVE named when this was built, or one that the build made by `tools/host-archive`.
 
 #[macro_use]
 mod declare;
+pub mod cobol;
+pub mod parts;
 
 use face::Functions;
 

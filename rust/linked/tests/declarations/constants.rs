@@ -37,14 +37,14 @@ fn statuses_of_the_judge() -> Numbers {
 
 #[test]
 fn the_calls() {
-    let header = enumerators(&text(HEADER), "umbristal_number");
+    let header = enumerators(&text(HEADER), "umbristal_calls");
     assert_eq!(owned(face::number::ALL), header, "face against {HEADER}");
     assert_eq!(calls_of_the_judge(), header, "judge against {HEADER}");
 }
 
 #[test]
 fn the_statuses() {
-    let header = enumerators(&text(HEADER), "umbristal_status");
+    let header = enumerators(&text(HEADER), "umbristal_statuses");
     assert_eq!(owned(face::status::ALL), header, "face against {HEADER}");
     assert_eq!(statuses_of_the_judge(), header, "judge against {HEADER}");
 }

@@ -2,9 +2,9 @@
 
 use crate::signature::{kind, Parameter, Signature};
 
-/// The functions that the archive has to have; what is written out in the header itself is left out.
+/// The functions that the archive has to have, those among them for which the header has a body too.
 pub fn functions(text: &str) -> Result<Vec<Signature>, String> {
-    let code = without_comments(text);
+    let code = with_sizes(text, &without_bodies(&without_comments(text)));
     code.split([';', '{', '}'])
         .map(str::trim)
         .filter_map(prototype)
@@ -47,6 +47,28 @@ fn without_comments(text: &str) -> String {
     })
 }
 
+/// A declaration alone, where a compiler may take in a body instead.
+fn without_bodies(code: &str) -> String {
+    let code = code.replace("UMBRISTAL_HELPER ", "");
+    let mut parts = code.split("UMBRISTAL_BODY(");
+    let first = parts.next().unwrap_or("").to_string();
+    parts.fold(first, |code, part| {
+        code + ";" + part.split_once("})").map_or("", |(_, behind)| behind)
+    })
+}
+
+/// The numbers for the names that stand as the size of an array.
+fn with_sizes(text: &str, code: &str) -> String {
+    ["UMBRISTAL_TOLD_SIZE", "UMBRISTAL_LIST_SIZE"]
+        .iter()
+        .fold(code.to_string(), |code, name| {
+            match code.contains(&format!("[{name}]")) {
+                true => code.replace(name, &defined(text, name)),
+                false => code,
+            }
+        })
+}
+
 /// Type and name, and the parameters, if the statement declares a function and does not define one here.
 fn prototype(statement: &str) -> Option<(&str, &str)> {
     let (head, parameters) = statement.split_once('(')?;
@@ -76,6 +98,12 @@ fn slices(inner: &str) -> Result<Vec<Parameter>, String> {
     let mut rest = inner.split(',').map(str::trim);
     while let Some(word) = rest.next() {
         let (left, name) = word.rsplit_once([' ', '*']).unwrap_or(("", word));
+        if let Some((name, size)) = name.split_once('[') {
+            let kind = array(left, size.trim_end_matches(']'))?;
+            let name = name.to_string();
+            all.push(Parameter { name, kind });
+            continue;
+        }
         let kind = match word.contains('*') {
             true => {
                 let length = format!("size_t {name}_len");
@@ -94,8 +122,16 @@ fn slices(inner: &str) -> Result<Vec<Parameter>, String> {
 
 fn pointer(written: &str) -> Result<&'static str, String> {
     match written.trim_end_matches([' ', '*']) {
-        "const uint8_t" => kind("&[u8]"),
+        "const uint8_t" | "const void" => kind("&[u8]"),
         "uint8_t" => kind("&mut [u8]"),
+        other => kind(other),
+    }
+}
+
+fn array(written: &str, size: &str) -> Result<&'static str, String> {
+    match written {
+        "const uint8_t" => kind(&format!("&[u8; {size}]")),
+        "uint8_t" | "char" => kind(&format!("&mut [u8; {size}]")),
         other => kind(other),
     }
 }
@@ -107,6 +143,7 @@ fn integer(written: &str) -> Result<&'static str, String> {
         "uint32_t" => kind("u32"),
         "uint64_t" => kind("u64"),
         "size_t" => kind("usize"),
+        "void" => kind("()"),
         other => kind(other),
     }
 }

@@ -12,7 +12,10 @@ use std::fs;
 use std::path::{Path, PathBuf};
 
 const HEADER: &str = "include/umbristal.h";
-const DECLARED: &str = "rust/linked/src/lib.rs";
+const DECLARED: &str = "rust/linked/src";
+/// What the comparison compares; the helpers and the functions for COBOL have tests of their own beside this one.
+const COMPARED: &str = "rust/linked/src/lib.rs";
+const BESIDE: [&str; 2] = ["rust/linked/src/parts.rs", "rust/linked/src/cobol.rs"];
 const TABLE: &str = "rust/face/src/lib.rs";
 const CRATES: &str = "crates";
 
@@ -50,6 +53,14 @@ fn entries(folder: &Path) -> Vec<PathBuf> {
         .collect()
 }
 
+fn declared() -> Result<Vec<Signature>, String> {
+    let mut all = source::declared(&text(COMPARED))?;
+    for file in BESIDE {
+        all.extend(source::declared(&text(file))?);
+    }
+    Ok(all)
+}
+
 fn exported() -> Result<Vec<Signature>, String> {
     let mut all = Vec::new();
     for file in sources() {
@@ -68,7 +79,7 @@ fn read(place: &'static str, read: Result<Vec<Signature>, String>) -> Stated {
 #[test]
 fn header_declarations_and_exports_agree() {
     let header = read(HEADER, header::functions(&text(HEADER)));
-    let declared = read(DECLARED, source::declared(&text(DECLARED)));
+    let declared = read(DECLARED, declared());
     let exported = read(CRATES, exported());
     let mut found = differences(&header, &declared);
     found.extend(differences(&header, &exported));
@@ -77,7 +88,7 @@ fn header_declarations_and_exports_agree() {
 
 #[test]
 fn every_function_is_in_the_table() {
-    let declared = read(DECLARED, source::declared(&text(DECLARED)));
+    let declared = read(COMPARED, source::declared(&text(COMPARED)));
     let table = text(TABLE);
     for function in declared.functions {
         let name = function.name.trim_start_matches("umbristal_");

@@ -23,7 +23,20 @@ pub struct Stated {
 }
 
 /// The kinds there are, as Rust writes them.
-const KINDS: [&str; 7] = ["&[u8]", "&mut [u8]", "u8", "u16", "u32", "u64", "usize"];
+const KINDS: [&str; 12] = [
+    "&[u8]",
+    "&mut [u8]",
+    "&[u8; 8]",
+    "&mut [u8; 8]",
+    "&mut [u8; 3]",
+    "&mut [u8; 1845]",
+    "u8",
+    "u16",
+    "u32",
+    "u64",
+    "usize",
+    "()",
+];
 
 pub fn kind(written: &str) -> Result<&'static str, String> {
     let found = KINDS.into_iter().find(|kind| *kind == written);

@@ -3,7 +3,11 @@
 use crate::signature::{kind, Parameter, Signature};
 
 /// Parameters that a crate calls otherwise than the header.
-const OTHER_NAMES: [(&str, &str); 2] = [("one", "list1"), ("two", "list2")];
+const OTHER_NAMES: [(&str, &str); 3] = [
+    ("one", "list1"),
+    ("two", "list2"),
+    ("operator", "operation"),
+];
 
 /// The lines `pub fn name = umbristal_name(..) -> ..;`.
 pub fn declared(text: &str) -> Result<Vec<Signature>, String> {
@@ -12,6 +16,7 @@ pub fn declared(text: &str) -> Result<Vec<Signature>, String> {
     for (place, _) in code.match_indices(" = umbristal_") {
         let own = code[..place].split(' ').next_back().unwrap_or("");
         let function = function(&code[place + 3..])?;
+        let own = own.trim_start_matches("r#");
         if function.name != format!("umbristal_{own}") {
             return Err(format!("{}: it is called {own} here", function.name));
         }
@@ -59,9 +64,12 @@ fn function(code: &str) -> Result<Signature, String> {
     let (name, rest) = code.split_once('(').ok_or("a function has parameters")?;
     let fault = |what: String| format!("{name}: {what}");
     let (inner, rest) = rest
-        .split_once(") -> ")
-        .ok_or_else(|| fault("nothing comes back".into()))?;
-    let result = rest.split([' ', ';', '{']).next().unwrap_or("");
+        .split_once(')')
+        .ok_or_else(|| fault("its parameters do not end".into()))?;
+    let result = match rest.strip_prefix(" -> ") {
+        Some(behind) => behind.split([' ', ';', '{']).next().unwrap_or(""),
+        None => "()",
+    };
     Ok(Signature {
         name: name.to_string(),
         parameters: parameters(inner).map_err(fault)?,

@@ -1,0 +1,3 @@
+pub mod Result
+pub mod Blocks
+pub mod Lists
