@@ -1,0 +1,206 @@
+/* console CAT.HDC TAB.HDT: DL/I calls on two files, a line each, from standard input. The files are read and never written.
+ *
+ *   GU 1/1=07 2/2=14      a call with a list: type, or type/field, an operator (= <> < <= > >=) and a value
+ *   ISRT 1/1=07 2 : 15A   data behind a colon
+ *   report 1/1=07 | 3     the segments that match two lists as one, by their cells
+ *   tree, fresh           all segments; a fresh position
+ *
+ * A value or data may be written in hex: X'3037'. Each answer has the status, the segment, and behind a semicolon the position. */
+#include "umbristal.h"
+#include <ctype.h>
+#include <stdio.h>
+#include <stdlib.h>
+#include <string.h>
+
+struct store {
+    uint8_t cat[UMBRISTAL_CATALOGUE_MOST + 1], tab[UMBRISTAL_TABLE_MOST + 1];
+    size_t cat_len, tab_len;
+    uint8_t pos[UMBRISTAL_POSITION_SIZE];
+};
+
+struct list {
+    uint8_t bytes[UMBRISTAL_LIST_SIZE];
+    size_t used;
+};
+
+static const char *const CALLS[] = { "", "GU", "GN", "GNP", "GHU", "GHN", "GHNP", "ISRT", "REPL", "DLET" };
+static const char *const OPERATORS[] = { "", "=", "<>", "<", "<=", ">", ">=" };
+
+static size_t file_read(const char *name, uint8_t *to, size_t most) {
+    FILE *file = fopen(name, "rb");
+    size_t read;
+    if (!file) {
+        perror(name);
+        exit(2);
+    }
+    read = fread(to, 1, most, file);
+    if (ferror(file)) {
+        perror(name);
+        exit(2);
+    }
+    fclose(file);
+    return read;
+}
+
+/* Text, or the bytes of X'..'; the number of bytes. */
+static size_t bytes_of(const char *text, uint8_t *to, size_t most) {
+    size_t n = 0;
+    unsigned byte;
+    if (strncmp(text, "X'", 2) == 0) {
+        for (text += 2; n < most && sscanf(text, "%2x", &byte) == 1; text += 2)
+            to[n++] = (uint8_t)byte;
+        return n;
+    }
+    while (n < most && text[n]) {
+        to[n] = (uint8_t)text[n];
+        n++;
+    }
+    return n;
+}
+
+/* The number of the longest operator that stands here, and what follows it. */
+static uint8_t operator_at(const char **at) {
+    uint8_t best = 0;
+    for (uint8_t i = 1; i <= UMBRISTAL_OP_GE; i++)
+        if (strncmp(*at, OPERATORS[i], strlen(OPERATORS[i])) == 0 && strlen(OPERATORS[i]) > strlen(OPERATORS[best]))
+            best = i;
+    *at += strlen(OPERATORS[best]);
+    return best;
+}
+
+/* One word of a list: 2 or 2/2=14. */
+static void argument_add(const struct store *s, struct list *list, const char *word) {
+    char *rest;
+    uint8_t code = (uint8_t)strtoul(word, &rest, 10), value[UMBRISTAL_DATA_MOST + 1];
+    if (*rest != '/') {
+        list->used = umbristal_list_all(list->bytes, list->used, code);
+        return;
+    }
+    uint8_t field = (uint8_t)strtoul(rest + 1, &rest, 10);
+    const char *at = rest;
+    uint8_t operation = operator_at(&at);
+    size_t n = bytes_of(at, value, sizeof value);
+    list->used = umbristal_list_test(s->cat, s->cat_len, list->bytes, list->used, code, operation, field, value, n);
+}
+
+static void list_read(const struct store *s, struct list *list, char *text) {
+    list->used = 0;
+    for (char *word = strtok(text, " "); word; word = strtok(NULL, " "))
+        argument_add(s, list, word);
+}
+
+static void data_print(const uint8_t *data, size_t n) {
+    int plain = 1;
+    for (size_t i = 0; i < n; i++)
+        plain = plain && isgraph(data[i]);
+    if (!plain)
+        printf("X'");
+    for (size_t i = 0; i < n; i++)
+        printf(plain ? "%c" : "%02X", data[i]);
+    if (!plain)
+        printf("'");
+}
+
+static void position_print(const uint8_t *pos) {
+    printf("; %s %u, ", umbristal_on_cell(pos) ? "on" : "before", umbristal_cell(pos));
+    if (umbristal_has_parentage(pos))
+        printf("parentage %u", umbristal_parentage(pos));
+    else
+        printf("no parentage");
+    puts(umbristal_hold(pos) ? ", held" : "");
+}
+
+static void call(struct store *s, uint8_t number, char *text) {
+    struct list list;
+    uint8_t area[UMBRISTAL_DATA_MOST] = { 0 };
+    char letters[3], *colon = strstr(text, ": ");
+    if (colon) {
+        *colon = 0;
+        bytes_of(colon + 2, area, sizeof area);
+    }
+    list_read(s, &list, text);
+    uint64_t r = umbristal_call_sound(s->cat, s->cat_len, s->tab, s->tab_len, s->pos, sizeof s->pos, number, list.bytes, list.used, area,
+                                      sizeof area);
+    umbristal_letters(umbristal_status(r), letters);
+    printf("%s", letters);
+    if (umbristal_status(r) < UMBRISTAL_GB && number == UMBRISTAL_DLET)
+        printf(" type %u, level %u, removed %u", umbristal_type(r), umbristal_level(r), (unsigned)umbristal_removed(r));
+    else if (umbristal_status(r) < UMBRISTAL_GB) {
+        printf(" cell %u, type %u, level %u, ", umbristal_cell(s->pos), umbristal_type(r), umbristal_level(r));
+        data_print(area, umbristal_length(r));
+    }
+    position_print(s->pos);
+}
+
+static void report(const struct store *s, char *text) {
+    struct list one, two;
+    static uint8_t out[2 * UMBRISTAL_CELLS_MOST];
+    char letters[3], *bar = strchr(text, '|');
+    two.used = 0;
+    if (bar) {
+        *bar = 0;
+        list_read(s, &two, bar + 1);
+    }
+    list_read(s, &one, text);
+    uint64_t r = umbristal_report_nested(s->cat, s->cat_len, s->tab, s->tab_len, one.bytes, one.used, two.bytes, two.used, out, sizeof out);
+    umbristal_letters(umbristal_status(r), letters);
+    printf("%s %u shown:", letters, (unsigned)umbristal_hits(r));
+    for (size_t i = 0; i < umbristal_hits(r); i++)
+        printf(" %u", (unsigned)out[2 * i] << 8 | out[2 * i + 1]);
+    putchar('\n');
+}
+
+/* Every segment by get-next through a position of its own, indented by its level. */
+static void tree(struct store *s) {
+    uint8_t pos[UMBRISTAL_POSITION_SIZE] = UMBRISTAL_POSITION_FRESH, area[UMBRISTAL_DATA_MOST];
+    for (;;) {
+        uint64_t r = umbristal_call_sound(s->cat, s->cat_len, s->tab, s->tab_len, pos, sizeof pos, UMBRISTAL_GN, UMBRISTAL_NO_LIST, 0, area,
+                                          sizeof area);
+        if (umbristal_status(r) >= UMBRISTAL_GB)
+            return;
+        printf("%4u %*s%u ", umbristal_cell(pos), 2 * (umbristal_level(r) - 1), "", umbristal_type(r));
+        data_print(area, umbristal_length(r));
+        putchar('\n');
+    }
+}
+
+static void obey(struct store *s, char *line) {
+    size_t n = strcspn(line, " ");
+    char *rest = line[n] ? line + n + 1 : line + n;
+    line[n] = 0;
+    for (uint8_t i = UMBRISTAL_GU; i <= UMBRISTAL_DLET; i++)
+        if (strcmp(line, CALLS[i]) == 0) {
+            call(s, i, rest);
+            return;
+        }
+    if (strcmp(line, "report") == 0)
+        report(s, rest);
+    else if (strcmp(line, "tree") == 0)
+        tree(s);
+    else if (strcmp(line, "fresh") == 0)
+        memset(s->pos, 0, sizeof s->pos);
+    else if (n)
+        printf("%s: no such command\n", line);
+}
+
+int main(int argc, char **argv) {
+    static struct store s;
+    char line[4096], letters[3];
+    if (argc != 3) {
+        fprintf(stderr, "console CAT.HDC TAB.HDT\n");
+        return 2;
+    }
+    s.cat_len = file_read(argv[1], s.cat, sizeof s.cat);
+    s.tab_len = file_read(argv[2], s.tab, sizeof s.tab);
+    umbristal_letters(umbristal_table_check(s.cat, s.cat_len, s.tab, s.tab_len), letters);
+    if (strcmp(letters, "--") != 0) {
+        fprintf(stderr, "refused: %s\n", letters);
+        return 1;
+    }
+    while (fgets(line, sizeof line, stdin)) {
+        line[strcspn(line, "\n")] = 0;
+        printf("> %s\n", line);
+        obey(&s, line);
+    }
+    return fflush(stdout) == 0 ? 0 : 2;
+}
