@@ -1,149 +1,165 @@
-/* walk CAT.HDC TAB.HDT: checks the two blocks, walks the segments with GN and an empty list, shows two reports of tries, inserts a try
- * under the step that the position is on, and deletes that step. The files are read, never written: the insert happens in memory.
+/* walk CAT.HDC TAB.HDT: checks the two blocks once and lists the segments; then, on the bench table, reports, an insert, refusals, a hold and a delete. The
+ * files are read and never written: what the calls change, they change in memory. With an installed library:
  *
- *   tools/host-archive umbristal libumbristal.a
- *   gcc -Wall -Wextra -Werror -Iinclude -o walk examples/c/walk.c libumbristal.a
+ *   gcc -o walk walk.c $(pkg-config --cflags --libs umbristal)
  */
 #include <stdio.h>
 #include <stdlib.h>
+#include <umbristal.h>
 
-#include "umbristal.h"
+/* The types and fields of the bench catalogue: units, beneath them steps, beneath these tries. */
+enum { UNIT = 1, STEP = 2, TRY = 3, UNIT_KEY = 1, STEP_KEY = 2, TRY_KIND = 3 };
 
-enum { LONGEST_CATALOGUE = 520, LONGEST_TABLE = 65536, MOST_CELLS = 4096, AREA = 120 };
+/* What a program holds of a store: catalogue, table, a position in it, and the area that data come and go by. Both blocks have room for the longest
+ * and a byte more, by which a file that is too long shows. */
+struct store {
+    uint8_t cat[UMBRISTAL_CATALOGUE_MOST + 1], tab[UMBRISTAL_TABLE_MOST + 1];
+    size_t cat_len, tab_len;
+    uint8_t pos[UMBRISTAL_POSITION_SIZE];
+    uint8_t area[UMBRISTAL_DATA_MOST];
+};
 
-static const char *letters(uint8_t status)
+struct list {
+    uint8_t bytes[UMBRISTAL_LIST_SIZE];
+    size_t used;
+};
+
+/* [call] */
+/* The sound call will do: the blocks were checked, the position was fresh then, and nothing but calls has changed them since. */
+static uint64_t call(struct store *s, uint8_t number, const struct list *l)
 {
-    switch (status) {
-    case UMBRISTAL_BLANK: return "--";
-    case UMBRISTAL_GA: return "GA";
-    case UMBRISTAL_GK: return "GK";
-    case UMBRISTAL_GB: return "GB";
-    case UMBRISTAL_GE: return "GE";
-    case UMBRISTAL_GP: return "GP";
-    case UMBRISTAL_CX: return "CX";
-    case UMBRISTAL_TX: return "TX";
-    case UMBRISTAL_PX: return "PX";
-    case UMBRISTAL_AD: return "AD";
-    case UMBRISTAL_AC: return "AC";
-    case UMBRISTAL_AJ: return "AJ";
-    case UMBRISTAL_AK: return "AK";
-    case UMBRISTAL_AH: return "AH";
-    case UMBRISTAL_AB: return "AB";
-    case UMBRISTAL_DJ: return "DJ";
-    case UMBRISTAL_DA: return "DA";
-    case UMBRISTAL_II: return "II";
-    case UMBRISTAL_FX: return "FX";
-    default: return "??";
-    }
+    return umbristal_call_sound(s->cat, s->cat_len, s->tab, s->tab_len, s->pos, sizeof s->pos, number, l->bytes, l->used, s->area, sizeof s->area);
 }
+/* [end] */
 
-/* The whole file, or a message and out. One byte more than `most` is asked for, so that a file that is too long shows. */
+/* [list] */
+static void all(struct list *l, uint8_t type) { l->used = umbristal_list_all(l->bytes, l->used, type); }
+
+static void equal(const struct store *s, struct list *l, uint8_t type, uint8_t field, const char *value, size_t value_len)
+{
+    l->used = umbristal_list_test(s->cat, s->cat_len, l->bytes, l->used, type, UMBRISTAL_OP_EQ, field, value, value_len);
+}
+/* [end] */
+
 static size_t read_file(const char *path, uint8_t *to, size_t most)
 {
     FILE *f = fopen(path, "rb");
-    if (f == NULL) {
+    size_t n = f == NULL ? 0 : fread(to, 1, most + 1, f);
+    if (f == NULL || ferror(f)) {
         perror(path);
         exit(2);
     }
-    size_t n = fread(to, 1, most + 1, f);
     fclose(f);
     if (n > most) {
-        fprintf(stderr, "%s: longer than %zu bytes\n", path, most);
+        fprintf(stderr, "%s: has more than %lu bytes\n", path, (unsigned long)most);
         exit(2);
     }
     return n;
 }
 
-/* One line for a segment: cell, type, level, status, data. */
-static void show(uint64_t result, const uint8_t *pos, const uint8_t *area)
+static void show_data(const uint8_t *data, size_t length)
 {
-    printf("%u %u %u %s ", umbristal_cell(pos), umbristal_type(result), umbristal_level(result), letters(umbristal_status(result)));
-    for (unsigned i = 0; i < umbristal_length(result); i++)
-        printf("%02X", area[i]);
+    for (size_t i = 0; i < length; i++)
+        printf("%02X", data[i]);
     printf("\n");
 }
 
-/* GN with an empty list from a position to the first GB or refusal. After GB the position is fresh again. */
-static uint8_t walk(const uint8_t *cat, size_t cat_len, uint8_t *tab, size_t tab_len, uint8_t *pos)
+/* What a call answered: the letters of its status and, if it was done, the segment's cell, type, level and data. */
+static void show(const char *what, uint64_t r, const struct store *s)
 {
-    uint8_t area[AREA];
-    const uint8_t none[1] = { 0 };
-    for (;;) {
-        uint64_t r = umbristal_call(cat, cat_len, tab, tab_len, pos, UMBRISTAL_POSITION_SIZE, UMBRISTAL_GN, none, 0, area, sizeof area);
-        if (umbristal_status(r) >= UMBRISTAL_GB) {
-            printf("%s\n", letters(umbristal_status(r)));
-            return umbristal_status(r);
-        }
-        show(r, pos, area);
+    char letters[3];
+    umbristal_letters(umbristal_status(r), letters);
+    printf("%s%s", what, letters);
+    if (umbristal_status(r) >= UMBRISTAL_GB) {
+        printf("\n");
+        return;
+    }
+    printf(" %u %u %u ", umbristal_cell(s->pos), umbristal_type(r), umbristal_level(r));
+    show_data(s->area, umbristal_length(r));
+}
+
+/* [walk] */
+static void walk(struct store *s)
+{
+    const struct list none = { { 0 }, 0 };
+    uint64_t r;
+    do { /* get-next with an empty list, until GB; after GB the position is fresh again */
+        r = call(s, UMBRISTAL_GN, &none);
+        show("", r, s);
+    } while (umbristal_status(r) < UMBRISTAL_GB);
+}
+/* [end] */
+
+/* [report] */
+typedef uint64_t way(const uint8_t *cat, size_t cat_len, const uint8_t *tab, size_t tab_len, const uint8_t *list1, size_t list1_len,
+                     const uint8_t *list2, size_t list2_len, uint8_t *out, size_t out_len);
+
+/* The tries of kind P of unit 07. All three ways show the same. */
+static void report(const char *name, way *made, const struct store *s)
+{
+    static uint8_t out[2 * UMBRISTAL_CELLS_MOST];
+    struct list unit = { { 0 }, 0 }, tries = { { 0 }, 0 };
+    equal(s, &unit, UNIT, UNIT_KEY, "07", 2);
+    equal(s, &tries, TRY, TRY_KIND, "P", 1);
+    uint64_t r = made(s->cat, s->cat_len, s->tab, s->tab_len, unit.bytes, unit.used, tries.bytes, tries.used, out, sizeof out);
+    char letters[3];
+    umbristal_letters(umbristal_status(r), letters);
+    printf("%s report: %s, %u tries\n", name, letters, (unsigned)umbristal_hits(r));
+    for (size_t i = 0; i < umbristal_hits(r); i++) {
+        size_t cell = (size_t)out[2 * i] << 8 | out[2 * i + 1];
+        printf("cell %lu: ", (unsigned long)cell);
+        show_data(s->tab + umbristal_data_start(s->tab, s->tab_len, cell), umbristal_data_length(s->cat, s->cat_len, s->tab, s->tab_len, cell));
     }
 }
+/* [end] */
 
-typedef uint64_t report(const uint8_t *cat, size_t cat_len, const uint8_t *tab, size_t tab_len, const uint8_t *list1, size_t list1_len,
-                        const uint8_t *list2, size_t list2_len, uint8_t *out, size_t out_len);
-
-/* The tries "P.." (type 3, field 3) of unit "07" (type 1, field 1), by one of the reports: status and cell numbers. */
-static void show_report(const char *name, report *way, const uint8_t *cat, size_t cat_len, const uint8_t *tab, size_t tab_len)
+/* [change] */
+static void change(struct store *s)
 {
-    static uint8_t out[2 * MOST_CELLS];
-    const uint8_t unit_07[] = { 1, 1, 1, '0', '7' };
-    const uint8_t try_p[] = { 3, 1, 3, 'P' };
-    uint64_t r = way(cat, cat_len, tab, tab_len, unit_07, sizeof unit_07, try_p, sizeof try_p, out, sizeof out);
-    printf("%s: %s", name, letters(umbristal_status(r)));
-    for (unsigned i = 0; i < umbristal_hits(r); i++)
-        printf(" %u", (unsigned)out[2 * i] << 8 | out[2 * i + 1]);
-    printf("\n");
+    struct list none = { { 0 }, 0 }, step = { { 0 }, 0 }, unit = { { 0 }, 0 }, tries = { { 0 }, 0 };
+    equal(s, &step, UNIT, UNIT_KEY, "07", 2);
+    equal(s, &step, STEP, STEP_KEY, "14", 2);
+    all(&unit, UNIT);
+    all(&tries, TRY);
+
+    show("GU step 14 of unit 07: ", call(s, UMBRISTAL_GU, &step), s);
+    s->area[0] = 'S';
+    s->area[1] = '3';
+    show("ISRT a try S3 beneath it: ", call(s, UMBRISTAL_ISRT, &tries), s);
+    s->area[0] = '0';
+    s->area[1] = '7';
+    show("ISRT a second unit 07: ", call(s, UMBRISTAL_ISRT, &unit), s); /* II, and nothing has changed */
+    show("DLET without hold: ", call(s, UMBRISTAL_DLET, &none), s);     /* DJ */
+    show("GHU step 14 of unit 07: ", call(s, UMBRISTAL_GHU, &step), s);
+    uint64_t r = call(s, UMBRISTAL_DLET, &none);
+    show("DLET: ", r, s);
+    printf("removed %u, %lu are left\n", (unsigned)umbristal_removed(r), (unsigned long)umbristal_count(s->tab, s->tab_len));
 }
+/* [end] */
 
 int main(int argc, char **argv)
 {
-    static uint8_t cat[LONGEST_CATALOGUE + 1], tab[LONGEST_TABLE + 1];
+    static struct store s; /* all zeros, so its position is the fresh one */
     if (argc != 3) {
         fprintf(stderr, "usage: %s CAT.HDC TAB.HDT\n", argv[0]);
         return 2;
     }
-    size_t cat_len = read_file(argv[1], cat, LONGEST_CATALOGUE);
-    size_t tab_len = read_file(argv[2], tab, LONGEST_TABLE);
-
-    printf("catalogue %s\n", letters(umbristal_catalogue_check(cat, cat_len)));
-    uint8_t checked = umbristal_table_check(cat, cat_len, tab, tab_len);
-    printf("table %s\n", letters(checked));
-    if (checked != UMBRISTAL_BLANK)
+    s.cat_len = read_file(argv[1], s.cat, UMBRISTAL_CATALOGUE_MOST);
+    s.tab_len = read_file(argv[2], s.tab, UMBRISTAL_TABLE_MOST);
+    /* [check] */
+    uint8_t checked = umbristal_table_check(s.cat, s.cat_len, s.tab, s.tab_len);
+    if (checked != UMBRISTAL_BLANK) {
+        char letters[3];
+        umbristal_letters(checked, letters);
+        fprintf(stderr, "the blocks are refused: %s\n", letters);
         return 1;
-    uint8_t pos[UMBRISTAL_POSITION_SIZE] = UMBRISTAL_POSITION_FRESH;
-    walk(cat, cat_len, tab, tab_len, pos);
-    show_report("nested", umbristal_report_nested, cat, cat_len, tab, tab_len);
-    show_report("joined", umbristal_report_joined, cat, cat_len, tab, tab_len);
-
-    /* The walk ended in GB, which left the position fresh. From there: the step with key "14" (type 2, operator =, field 2), then a try "S3"
-     * (type 3) beneath it. From here on the sound call will do: the table was checked, the position is fresh, and only calls change them. */
-    uint8_t area[AREA] = { 0 };
-    const uint8_t step_14[] = { 2, 1, 2, '1', '4' };
-    const uint8_t try_alone[] = { 3, 0 };
-    uint64_t r = umbristal_call_sound(cat, cat_len, tab, tab_len, pos, sizeof pos, UMBRISTAL_GU, step_14, sizeof step_14, area, sizeof area);
-    printf("GU step 14: ");
-    show(r, pos, area);
-
-    area[0] = 'S';
-    area[1] = '3';
-    r = umbristal_call_sound(cat, cat_len, tab, tab_len, pos, sizeof pos, UMBRISTAL_ISRT, try_alone, sizeof try_alone, area, sizeof area);
-    printf("ISRT try S3: ");
-    show(r, pos, area);
-    if (umbristal_table_check(cat, cat_len, tab, tab_len) != UMBRISTAL_BLANK)
-        return 1;
-    uint8_t again[UMBRISTAL_POSITION_SIZE] = UMBRISTAL_POSITION_FRESH;
-    walk(cat, cat_len, tab, tab_len, again);
-
-    /* GB was the end of one pass; the next get-next begins the second. */
-    const uint8_t none[1] = { 0 };
-    r = umbristal_call_sound(cat, cat_len, tab, tab_len, again, sizeof again, UMBRISTAL_GN, none, 0, area, sizeof area);
-    printf("GN after GB: ");
-    show(r, again, area);
-
-    /* Held and deleted again, the step takes its tries with it. */
-    r = umbristal_call_sound(cat, cat_len, tab, tab_len, pos, sizeof pos, UMBRISTAL_GHU, step_14, sizeof step_14, area, sizeof area);
-    printf("GHU step 14: ");
-    show(r, pos, area);
-    r = umbristal_call_sound(cat, cat_len, tab, tab_len, pos, sizeof pos, UMBRISTAL_DLET, none, 0, area, sizeof area);
-    printf("DLET: %s, removed %u\n", letters(umbristal_status(r)), umbristal_removed(r));
-    return 0;
+    }
+    /* [end] */
+    walk(&s);
+    report("nested", umbristal_report_nested, &s);
+    report("joined", umbristal_report_joined, &s);
+    report("plain", umbristal_report_plain, &s);
+    change(&s);
+    walk(&s); /* from where the delete has left the position */
+    return fflush(stdout) == 0 ? 0 : 2;
 }
