@@ -6,7 +6,7 @@
  *   tree, fresh           all segments; a fresh position
  *
  * A value or data may be written in hex: X'3037'. Each answer has the status, the segment, and behind a semicolon the position. */
-#include "umbristal.h"
+#include <umbristal.h>
 #include <ctype.h>
 #include <stdio.h>
 #include <stdlib.h>
