@@ -72,19 +72,18 @@ impl<'v> Argument<'v> {
     }
 }
 
-/// Writes the bytes of a list over what was there. A value of the wrong length would shift what stands behind it: the list
+/// Writes the bytes of a list. A value of the wrong length would shift what stands behind it: the list
 /// then ends one byte short of that value, so that the store itself finds the first fault. The error handed back is the
 /// reason if that is AJ, which no other fault of such a list can be.
-#[inline]
 pub(crate) fn encode(catalogue: &[u8], list: &[Argument], bytes: &mut Vec<u8>) -> Option<Error> {
-    bytes.clear();
     for argument in list {
         bytes.push(argument.type_code.0);
         let Some(Test { field, op, value }) = argument.test else {
             bytes.push(0);
             continue;
         };
-        bytes.extend([op as u8, field.0]);
+        bytes.push(op as u8);
+        bytes.push(field.0);
         match catalogue::field_length(catalogue, field) {
             Some(needed) if needed != value.len() => {
                 bytes.resize(bytes.len() + needed - 1, 0);

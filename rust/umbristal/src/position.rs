@@ -35,10 +35,12 @@ impl Position {
     }
 
     /// The cell that the place is on, or in the gap before.
+    #[inline]
     pub(crate) fn cell(&self) -> CellNumber {
         self.cell_at(1)
     }
 
+    #[inline]
     fn cell_at(&self, byte: usize) -> CellNumber {
         CellNumber(u16::from_be_bytes([self.0[byte], self.0[byte + 1]]))
     }
