@@ -18,7 +18,7 @@ fn b1_the_listing() {
     assert_eq!(statuses, (0..).zip(expected).collect::<Vec<_>>());
 }
 
-/// Request K2.
+/// R63.
 #[test]
 fn get_next_after_gb_starts_over() {
     let mut store = store();
