@@ -81,7 +81,7 @@ fn heading(words: &str, below: &str) -> String {
 fn everybody() -> String {
     let entries = ALL.iter().enumerate();
     entries
-        .map(|(index, name)| entry(20.0 + 132.0 * index as f64, 68.0, STYLES[index], name))
+        .map(|(index, name)| entry(20.0 + 116.0 * index as f64, 68.0, STYLES[index], name))
         .collect()
 }
 

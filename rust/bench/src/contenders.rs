@@ -7,18 +7,20 @@ use crate::figures::Figures;
 use crate::measure::{agreed, timed, Anybody};
 use crate::sample::Sample;
 use crate::shapes::{Blocks, Shape};
+use crate::users::Users;
 use crate::work::Operation;
 use crate::worst::Row;
 
 /// Everybody who can be compared, by the name of the column.
 pub const STORE: &str = "store";
+pub const CRATE: &str = "Rust crate";
 pub const BY_HAND: &str = "Rust by hand";
 pub const LMDB: &str = "LMDB";
 pub const LMDB_COPIED: &str = "LMDB, copied";
 pub const SQLITE: &str = "SQLite";
 pub const FLOOR: &str = "memmove";
 
-pub const ALL: [&str; 6] = [STORE, BY_HAND, LMDB, LMDB_COPIED, SQLITE, FLOOR];
+pub const ALL: [&str; 7] = [STORE, CRATE, BY_HAND, LMDB, LMDB_COPIED, SQLITE, FLOOR];
 
 /// The peers that were not installed when this was built, with the Debian package that brings each.
 pub const MISSING: &[(&str, &str)] = &[
@@ -31,6 +33,7 @@ pub const MISSING: &[(&str, &str)] = &[
 fn contenders(sample: &Sample) -> Vec<Anybody<'_, Operation>> {
     vec![
         Box::new(Session::<Proved>::new(sample)),
+        Box::new(Users::new(sample)),
         Box::new(Session::<ByHand>::new(sample)),
         #[cfg(lmdb)]
         Box::new(crate::lmdb::Lmdb::new(sample)),

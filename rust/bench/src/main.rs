@@ -21,6 +21,7 @@ mod shapes;
 #[cfg(sqlite)]
 mod sqlite;
 mod targets;
+mod users;
 mod work;
 mod worst;
 

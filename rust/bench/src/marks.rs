@@ -9,11 +9,13 @@ pub enum Mark {
     Hanging,
     Diamond,
     Cross,
+    Plus,
 }
 
 /// A colour and a mark of its own for each line of a panel.
-pub const STYLES: [(&str, Mark); 6] = [
+pub const STYLES: [(&str, Mark); 7] = [
     ("#1b6ca8", Mark::Circle),
+    ("#128a83", Mark::Plus),
     ("#4d8f3f", Mark::Square),
     ("#c0661a", Mark::Triangle),
     ("#b3261e", Mark::Hanging),
@@ -31,9 +33,10 @@ impl Mark {
             Mark::Hanging => "m0 5l5 -8.5h-10z",
             Mark::Diamond => "m0 -5.5l5.5 5.5l-5.5 5.5l-5.5 -5.5z",
             Mark::Cross => "m-4 -4l8 8m0 -8l-8 8",
+            Mark::Plus => "m-5 0h10m-5 -5v10",
         };
         let fill = match self {
-            Mark::Cross => "none",
+            Mark::Cross | Mark::Plus => "none",
             _ => colour,
         };
         let style = format!("fill=\"{fill}\" stroke=\"{colour}\" stroke-width=\"1.5\"");

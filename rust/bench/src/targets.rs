@@ -1,15 +1,15 @@
 //! What the store is to reach, and what it has.
 
-use crate::contenders::{BY_HAND, FLOOR, LMDB, LMDB_COPIED, SQLITE, STORE};
+use crate::contenders::{BY_HAND, CRATE, FLOOR, LMDB, LMDB_COPIED, SQLITE, STORE};
 use crate::figures::Run;
 use crate::markdown::{aligned, precise};
 use crate::shapes;
 use crate::work::Operation::{
-    self, Checked, InTurns, InsertDelete, Joined, Listing, Nested, Plain,
+    self, Checked, InTurns, InsertDelete, Joined, Listing, Nested, Plain, Unique,
 };
 use crate::worst::Row;
 use crate::SIZES;
-use Measure::{Fastest, Ratio, Time};
+use Measure::{Crate, Fastest, Ratio, Time};
 
 /// What is held against the target.
 enum Measure {
@@ -17,6 +17,8 @@ enum Measure {
     Ratio(Operation, usize, Operation, &'static str),
     /// The cheapest of the reports, in parts of what an operation costs somebody.
     Fastest(Operation, &'static str),
+    /// An operation of the crate for Rust programs, in parts of what it costs through the C face.
+    Crate(Operation),
     /// Nanoseconds of the store on the largest of the worst tables.
     Time(Row),
 }
@@ -37,6 +39,10 @@ impl Measure {
             Fastest(other, peer) => {
                 let ratios = REPORTS.map(|own| Ratio(own, LARGE, other, peer).of(run));
                 ratios.into_iter().flatten().reduce(f64::min)
+            }
+            Crate(own) => {
+                let store = run.sample.of(own, LARGE, STORE)?;
+                Some(run.sample.of(own, LARGE, CRATE)? / store)
             }
             Time(row) => run.worst.of(row, LARGEST, STORE),
         }
@@ -63,7 +69,7 @@ impl Measure {
 struct Target(&'static str, Measure, f64);
 
 #[rustfmt::skip]
-const TARGETS: [Target; 13] = [
+const TARGETS: [Target; 15] = [
     Target("GN step through umbristal_call_sound / LMDB's cursor", Ratio(Listing, LARGE, Listing, LMDB), 1.1),
     Target("fastest of the three reports / SQLite's joined select", Fastest(Joined, SQLITE), 0.15),
     Target("nested report / SQLite's joined select", Ratio(Nested, LARGE, Joined, SQLITE), 0.25),
@@ -77,6 +83,8 @@ const TARGETS: [Target; 13] = [
     Target("plain report, level 15", Time(Row::PathsPlain), 100_000.0),
     Target("GU of the last cell, 15 arguments", Time(Row::PathsUnique), 40_000.0),
     Target("checked call / Rust by hand", Ratio(Checked, LARGE, Checked, BY_HAND), 1.2),
+    Target("GN step, Rust crate / C face", Crate(Listing), 1.2),
+    Target("GU by key, Rust crate / C face", Crate(Unique), 1.2),
 ];
 
 /// The targets, each met or not.

@@ -1,22 +1,34 @@
 //! Argument lists.
 
 use crate::catalogue;
+use crate::error::Error;
 use crate::numbers::{FieldNumber, TypeCode};
 
-/// The comparison of a test; the segment's field stands left of it. Bytes compare unsigned, first byte heaviest.
+/// How many bytes a list has at most that is right: fifteen levels, each with a value of 120 bytes.
+pub(crate) const LONGEST_LIST: usize = 15 * (3 + 120);
+
+/// The comparison of a test; the segment's field stands left of it. Bytes compare unsigned, and the first that differs
+/// decides (R16, R25).
+#[non_exhaustive]
 #[derive(Clone, Copy, PartialEq, Eq, Hash, Debug)]
 #[repr(u8)]
 pub enum Op {
+    /// The field is the value.
     Eq = 1,
+    /// It is another.
     Ne = 2,
+    /// It is less.
     Lt = 3,
+    /// It is less, or the value.
     Le = 4,
+    /// It is greater.
     Gt = 5,
+    /// It is greater, or the value.
     Ge = 6,
 }
 
 /// One argument of a list: a type, and perhaps a test of one of its fields. In a list each type lies beneath the
-/// one before it; levels left out are implied.
+/// one before it; levels left out are implied (R29).
 #[derive(Clone, Copy, PartialEq, Eq, Hash, Debug)]
 pub struct Argument<'v> {
     type_code: TypeCode,
@@ -32,16 +44,23 @@ struct Test<'v> {
 
 impl<'v> Argument<'v> {
     /// All segments of a type.
-    pub fn all(type_code: TypeCode) -> Argument<'v> {
+    #[must_use]
+    pub const fn all(type_code: TypeCode) -> Argument<'v> {
         Argument {
             type_code,
             test: None,
         }
     }
 
-    /// The segments of a type whose field compares so with the value. A value of another length than the field
-    /// is refused with AJ by the call that is given the argument.
-    pub fn test(type_code: TypeCode, field: FieldNumber, op: Op, value: &'v [u8]) -> Argument<'v> {
+    /// The segments of a type whose field compares so with the value. A value of another length than the field is refused
+    /// by the call that is given the argument.
+    #[must_use]
+    pub const fn test(
+        type_code: TypeCode,
+        field: FieldNumber,
+        op: Op,
+        value: &'v [u8],
+    ) -> Argument<'v> {
         Argument {
             type_code,
             test: Some(Test { field, op, value }),
@@ -53,24 +72,29 @@ impl<'v> Argument<'v> {
     }
 }
 
-/// The bytes of a list. A value of the wrong length would shift what stands behind it: the list then ends one byte
-/// short of that value, so that the store itself finds the first fault, this one or one before it.
-pub(crate) fn encode(catalogue: &[u8], list: &[Argument]) -> Vec<u8> {
-    let mut bytes = Vec::new();
+/// Writes the bytes of a list. A value of the wrong length would shift what stands behind it: the list
+/// then ends one byte short of that value, so that the store itself finds the first fault. The error handed back is the
+/// reason if that is AJ, which no other fault of such a list can be.
+pub(crate) fn encode(catalogue: &[u8], list: &[Argument], bytes: &mut Vec<u8>) -> Option<Error> {
     for argument in list {
         bytes.push(argument.type_code.0);
-        let Some(test) = argument.test else {
+        let Some(Test { field, op, value }) = argument.test else {
             bytes.push(0);
             continue;
         };
-        bytes.extend([test.op as u8, test.field.0]);
-        match catalogue::field_length(catalogue, test.field) {
-            Some(length) if length != test.value.len() => {
-                bytes.resize(bytes.len() + length - 1, 0);
-                return bytes;
+        bytes.push(op as u8);
+        bytes.push(field.0);
+        match catalogue::field_length(catalogue, field) {
+            Some(needed) if needed != value.len() => {
+                bytes.resize(bytes.len() + needed - 1, 0);
+                return Some(Error::ValueLength {
+                    field,
+                    needed,
+                    given: value.len(),
+                });
             }
-            _ => bytes.extend(test.value),
+            _ => bytes.extend(value),
         }
     }
-    bytes
+    None
 }

@@ -1,9 +1,8 @@
-//! What the blocks say of lengths. Catalogue and table are sound wherever this is asked.
+//! What the blocks say of lengths, levels and cells. Catalogue and table are sound wherever this is asked.
 
 use crate::numbers::{CellNumber, FieldNumber, TypeCode};
-
-/// The most cells a table can have.
-const MOST_CELLS: usize = 4096;
+use crate::segment::Segment;
+use crate::status::Status;
 
 /// Where the cells of a table begin, and the entries of a catalogue.
 const HEADER: usize = 8;
@@ -18,6 +17,7 @@ pub(crate) fn data_length(catalogue: &[u8], type_code: TypeCode) -> Option<usize
 }
 
 /// The length of a field, if there is such a field.
+#[inline]
 pub(crate) fn field_length(catalogue: &[u8], field: FieldNumber) -> Option<usize> {
     let (types, fields) = (catalogue[5], catalogue[6]);
     let behind_types = HEADER + usize::from(types) * 8;
@@ -27,15 +27,15 @@ pub(crate) fn field_length(catalogue: &[u8], field: FieldNumber) -> Option<usize
         .then(|| usize::from(catalogue[entry + 2]))
 }
 
-/// The longest data length of all types; a cell is one byte longer.
-pub(crate) fn longest(catalogue: &[u8]) -> usize {
-    let lengths = (1..=catalogue[5]).filter_map(|code| data_length(catalogue, TypeCode(code)));
-    lengths.max().unwrap_or(0)
-}
-
-/// How long a table of so many cells is. Beyond the most cells there can be, a length that fits none.
-pub(crate) fn table_length(catalogue: &[u8], cells: usize) -> usize {
-    HEADER + cells.min(MOST_CELLS + 1) * (longest(catalogue) + 1)
+/// The level of a type: how many types there are from the root down to it.
+fn level(catalogue: &[u8], type_code: TypeCode) -> u8 {
+    let mut level = 0;
+    let mut code = type_code.0;
+    while code != 0 {
+        level += 1;
+        code = catalogue[usize::from(code) * 8];
+    }
+    level
 }
 
 /// How many segments a table has.
@@ -48,12 +48,12 @@ pub(crate) fn cells(table: &[u8]) -> usize {
     (table.len() - HEADER) / usize::from(table[5])
 }
 
-/// The type and the data of a segment; nothing for a cell that is free or none.
+/// The segment in a cell; nothing for a cell that is free or none.
 pub(crate) fn segment<'t>(
     catalogue: &[u8],
     table: &'t [u8],
     cell: CellNumber,
-) -> Option<(TypeCode, &'t [u8])> {
+) -> Option<Segment<'t>> {
     let number = usize::from(cell.0);
     if number >= count(table) {
         return None;
@@ -61,5 +61,11 @@ pub(crate) fn segment<'t>(
     let start = HEADER + number * usize::from(table[5]);
     let type_code = TypeCode(table[start]);
     let length = data_length(catalogue, type_code)?;
-    Some((type_code, &table[start + 1..=start + length]))
+    Some(Segment {
+        cell,
+        type_code,
+        level: level(catalogue, type_code),
+        data: &table[start + 1..=start + length],
+        status: Status::Blank,
+    })
 }

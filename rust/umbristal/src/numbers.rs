@@ -1,4 +1,4 @@
-//! Three kinds of number that are each counted on their own.
+//! Three kinds of number that are each counted on their own (R9).
 
 use std::fmt;
 

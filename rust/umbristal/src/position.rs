@@ -3,7 +3,7 @@
 use crate::numbers::CellNumber;
 use face::{FRESH, POSITION_SIZE};
 
-/// Where a position is.
+/// Where a position is: on a cell or in a gap, and nowhere else (R18).
 #[derive(Clone, Copy, PartialEq, Eq, Hash, Debug)]
 pub enum Place {
     /// On the segment in that cell.
@@ -13,13 +13,11 @@ pub enum Place {
 }
 
 /// A position block that is fresh or that calls have left.
-#[derive(Clone, Debug)]
+#[derive(Clone, Copy)]
 pub(crate) struct Position(pub(crate) [u8; POSITION_SIZE]);
 
 impl Position {
-    pub(crate) fn fresh() -> Position {
-        Position(FRESH)
-    }
+    pub(crate) const FRESH: Position = Position(FRESH);
 
     pub(crate) fn place(&self) -> Place {
         match self.0[0] {
@@ -37,10 +35,12 @@ impl Position {
     }
 
     /// The cell that the place is on, or in the gap before.
+    #[inline]
     pub(crate) fn cell(&self) -> CellNumber {
         self.cell_at(1)
     }
 
+    #[inline]
     fn cell_at(&self, byte: usize) -> CellNumber {
         CellNumber(u16::from_be_bytes([self.0[byte], self.0[byte + 1]]))
     }

@@ -1,6 +1,8 @@
-//! Many calls by chance: what the store keeps stays sound, which is all that its calls ask.
+//! Many calls by chance: what the store keeps stays sound, which is all that its calls ask, and what is read beside them
+//! is what they would show.
 
 use crate::bench::*;
+use crate::reading::is_read_as_got;
 use umbristal::{Argument, Op, Place, Status, Store, TypeCode};
 
 /// Numbers without a pattern.
@@ -42,6 +44,7 @@ fn step_by_chance(dice: &mut Dice, store: &mut Store) {
         7 => store.delete().is_ok(),
         _ => store.insert(list, data).is_ok(),
     };
+    is_read_as_got(store, list);
     if dice.below(50) == 0 {
         store.rewind();
     }
