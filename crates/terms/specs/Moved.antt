@@ -10,7 +10,7 @@ use Rattle.terms.specs.declared.Position.{Position}
 use Rattle.terms.specs.Names.{cell}
 use Rattle.terms.specs.Moves.{fresh, movedOnto, holdDropped, afterInsert, afterDelete}
 
--- what is made, and what the paper says
+-- what is made, and what the rules say
 pub record Move : Type 0 where
   pub made : Position
   pub said : Position
