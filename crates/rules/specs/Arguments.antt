@@ -60,7 +60,7 @@ module _ (cat : Bytes) (list : Bytes) where
       (pick (ltb (length list) (at + 3 + fieldLength cat f)) (Fault AJ)
       (Got (record { code = t; qualification = Test (operatorOf o) f (at + 3); next = at + 3 + fieldLength cat f }))))))))
 
-  -- R26: read from byte i on, at most n arguments, up to the first fault
+  -- R26: read from byte `at` on, at most n arguments, up to the first fault
   unfoldable pub argumentsFrom : ℕ → TypeCode → ℕ → ListRead
   argumentsFrom zero before at = record { fault = Blank; arguments = [] }
   argumentsFrom (suc n) before at = elim (leb (length list) at) [

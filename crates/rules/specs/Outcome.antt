@@ -44,8 +44,7 @@ isDlet c = eqb c 9
 abbrev pub isHeld : ℕ → Bool
 isHeld c = eqb c 8 || eqb c 9
 
--- The refusals in the order of R61. The first that holds answers;
--- Blank where none does. The last five are the call's own.
+-- The refusals in the order of R61. The first that holds answers; Blank where none does. The last five are the call's own.
 -- 20, 21, 22: the blocks and the position
 unfoldable pub unsound : Bytes → Bytes → Position → Status
 unsound cat tab pos =

@@ -1,5 +1,5 @@
--- R16 and R25: the six operators on both sides of equality and at it, and keys and fields that do not
--- begin at byte 1. The claim is in proofs/Cases.antt. Assumes nothing: these are definitions.
+-- R16 and R25: the six operators on both sides of equality and at it, and keys and fields that do not begin at byte 1. The claim is in proofs/Cases.antt.
+-- Assumes nothing: these are definitions.
 use mathlib.Core.Bool.{true}
 use mathlib.Core.List.{List, [], _∷_, _++_}
 use Prim.Native.Nat.{ℕ}

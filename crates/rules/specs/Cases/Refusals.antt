@@ -1,5 +1,5 @@
--- The refusals that look at what is asked (R53 to R57), and their order (R61). A case
--- of the order has two of them at once, and the earlier answers. The claims are in proofs/Cases.antt. Assumes nothing: these are definitions.
+-- The refusals that look at what is asked (R53 to R57), and their order (R61). A case of the order has two of them at once, and the earlier answers.
+-- The claims are in proofs/Cases.antt. Assumes nothing: these are definitions.
 use mathlib.Core.Bool.{true, false}
 use mathlib.Core.List.{List, [], _∷_, _++_}
 use Prim.Native.Nat.{ℕ}
