@@ -118,8 +118,8 @@ fn group(cells: &[u8], facts: &[u8; 132], v: TypeIndex, left: usize) -> usize
     }
 }
 
-// The groups of a segment of type p, whose cell is read (R14). The next cell
-// tells which group comes next, so that no type is asked for whose group is empty.
+// The groups of a segment of type p, whose cell is read (R14). The next cell tells which group comes next, so that no type is asked for whose group
+// is empty.
 fn segment(cells: &[u8], facts: &[u8; 132], p: TypeIndex, left: usize) -> usize
     requires { ⌜ Fits (now cells) (now facts) left × (1 ≤ p .0) ⌝ }
     ensures { λ r. ⌜ (r ≤ left) × SegmentLeaves (now (cells .entry)) (now (facts .entry)) (p .0) left r ⌝ }
