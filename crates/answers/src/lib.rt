@@ -12,7 +12,7 @@ ghost use Rattle.rules.specs.Catalogue.{isType, goodCatalogue};
 ghost use Rattle.rules.specs.Calls.{bare, afterMiss};
 ghost use Rattle.answers.specs.Told.{stoppedAnswer, told};
 
-// "For status 10 and above all four are 0."
+// R46: from status 10 on nothing is told but the status.
 pub fn bare(s: Status, p: Position) -> Answer
     ensures { λ r. ⌜ r ≡ bare s p ⌝ }
 {
@@ -36,7 +36,7 @@ pub fn missed(s: Status, p: Position) -> Answer
     bare(s, p.hold_dropped())
 }
 
-// "20 and above changes nothing"
+// R62: a refusal leaves the position as it was.
 pub fn stopped(s: Status, p: Position) -> Answer
     ensures { λ r. ⌜ r ≡ stoppedAnswer s p ⌝ }
 {
@@ -46,7 +46,7 @@ pub fn stopped(s: Status, p: Position) -> Answer
     missed(s, p)
 }
 
-// "Type, level and length are those of the segment got, inserted, replaced or deleted"
+// R46: what is told of the segment that the call was about.
 pub fn told(cat: &[u8], s: Status, p: Position, t: TypeCode, removed: usize) -> Answer
     requires { ⌜ (goodCatalogue (now cat) ≡ true) × (isType (now cat) t ≡ true) ⌝ }
     ensures { λ r. ⌜ r ≡ told (now (cat .entry)) s p t removed ⌝ }

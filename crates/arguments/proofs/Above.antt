@@ -24,7 +24,7 @@ or-true : (a b : Bool) → b ≡ true → (a || b) ≡ true
 or-true true b e = refl
 or-true false b e = e
 
--- "type not in 1..T" denied
+-- R7: types are numbered from 1
 pub type-first : (cat : Bytes) (t : TypeCode) → isType cat t ≡ true → 1 ≤ t .0
 unfolding isType
 type-first cat t h = leb-true 1 (t .0) (both-left (leb 1 (t .0)) (leb (t .0) (types cat)) h)

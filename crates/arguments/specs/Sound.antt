@@ -76,7 +76,7 @@ abbrev pub meaning : Bytes → Bytes → Wanted → Asked
 meaning cat list Implied = implied
 meaning cat list (Named q) = meant cat list q
 
--- "not beneath the type before it" is denied of each argument, and each one's test is good
+-- R26: each argument's type is beneath the one before, and each one's test is good
 abbrev pub Downward : Bytes → Bytes → TypeCode → List Argument → Type 0
 Downward cat list before [] = Unit {0}
 Downward cat list before (a ∷ ar) =

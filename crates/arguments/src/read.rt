@@ -1,4 +1,4 @@
-// "The list is read from the left, one argument at a time, and the first fault answers."
+// A list read argument by argument, up to its first fault (R26, R27).
 use blocks::wide;
 use catalogue::entry_bytes::fields;
 use catalogue::fields::field_length;
@@ -17,7 +17,7 @@ ghost use mathlib.Core.List.{[]};
 ghost use Rattle.rules.specs.Arguments.{operatorOf, goodNext, isFieldOf, argumentAt, listRead};
 ghost use Rattle.arguments.specs.Sound.{Room, untested, rest, statusOf};
 
-// "1 =, 2 ≠, 3 <, 4 ≤, 5 >, 6 ≥". A list with another has answered AJ before this is asked.
+// R25: the operator of a number. A list with another has answered AJ before this is asked.
 pub fn operator_of(b: u8) -> Operator
     ensures { λ r. ⌜ r ≡ operatorOf b ⌝ }
 {
@@ -53,7 +53,7 @@ pub(crate) fn argument_at(cat: &[u8], list: &[u8], at: usize) -> Argument
     }
 }
 
-// "type not in 1..T, or not beneath the type before it" is what this denies; 0 where no type is before it. Of the list it asks nothing.
+// R26: t is a type and beneath the one before it; 0 where no type is before it. Of the list it asks nothing.
 fn is_next(cat: &[u8], before: TypeCode, t: TypeCode) -> bool
     ensures { λ r. ⌜ r ≡ goodNext (now (cat .entry)) [] before t ⌝ }
 {
@@ -66,7 +66,7 @@ fn is_next(cat: &[u8], before: TypeCode, t: TypeCode) -> bool
     is_beneath(cat, t, before)
 }
 
-// "not in 1..F or of another type" is what this denies. Of the list it asks nothing.
+// R27: the field is one of this type. Of the list it asks nothing.
 fn is_field_of(cat: &[u8], t: TypeCode, f: FieldNumber) -> bool
     ensures { λ r. ⌜ r ≡ isFieldOf (now (cat .entry)) [] t f ⌝ }
 {
@@ -140,7 +140,7 @@ pub fn fault_behind(cat: &[u8], list: &[u8], last: TypeCode) -> Status
     Status::Blank
 }
 
-// "the first fault answers"; Blank, if there is none.
+// R26: the list's first fault; Blank, if there is none.
 pub fn fault(cat: &[u8], list: &[u8]) -> Status
     ensures { λ r. ⌜ r ≡ listRead (now (cat .entry)) (now (list .entry)) .fault ⌝ }
 {

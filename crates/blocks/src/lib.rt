@@ -1,4 +1,4 @@
-// Blocks of bytes: "Bytes are counted from 0." Each of these takes any slice and any number.
+// Blocks of bytes (R1). Each of these takes any slice and any number.
 pub mod moves;
 pub mod slices;
 

@@ -64,7 +64,7 @@ module _ (par : ℕ → ℕ) (top : ℕ) (low : lower par top ≡ true) where
   pub in-trans : (u x y : ℕ) → u ≤ top → isIn x (lineage par u) ≡ true → isIn y (lineage par x) ≡ true → isIn y (lineage par u) ≡ true
   in-trans u x y t e f = trans u u x y (omega arith) t e f
 
-  -- hierarchic order: the parent of type k > 1 is k - 1 or stands above it
+  -- R7, hierarchic order: the parent of type k > 1 is k - 1 or stands above it
   module _ (next : (k : ℕ) → 0 < k → suc k ≤ top → isIn (par (suc k)) (lineage par k) ≡ true) where
     after : (n p v : ℕ) → p < v → v + n ≤ top → isIn p (lineage par (par v)) ≡ false → isIn p (lineage par (par (v + n))) ≡ false
     after zero p v a t e = let z : v + 0 ≡ v = omega arith in rw z e

@@ -47,7 +47,7 @@ module _ (cat : Bytes) (g : goodCatalogue cat ≡ true) where
   unfolding lineage
   lineage-up t a b = Types.lineage-step (par cat) (types cat) (good-lower cat g) (t .0) a b
 
-  -- "The root type has level 1, a child one more"
+  -- R8: the level of a child
   pub level-child : (t : TypeCode) → 1 ≤ t .0 → t .0 ≤ types cat → level cat t ≡ suc (level cat (parentOf cat t))
   unfolding level
   level-child t a b = ap length (lineage-up t a b)

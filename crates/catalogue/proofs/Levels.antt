@@ -24,7 +24,7 @@ climbed-most par (suc n) zero = omega arith
 climbed-most par (suc n) (suc u) = omega (arith, climbed-most par n (par (suc u)))
 
 module _ (cat : Bytes) where
-  -- "no level exceeds 15" is not needed for this: none exceeds its type's code
+  -- the most that R8 allows is not needed for this: no level exceeds its type's code
   pub level-within : (t : TypeCode) → level cat t ≤ t .0
   unfolding level lineage Types.lineage
   level-within t = climbed-most (par cat) (t .0) (t .0)

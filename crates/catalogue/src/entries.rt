@@ -1,4 +1,4 @@
-// "The catalogue": what the block says of a type, for any slice.
+// What the catalogue says of a type (R4), for any slice.
 use crate::entry_bytes::type_byte;
 use terms::TypeCode;
 ghost use mathlib.Core.Path.{_≡_};

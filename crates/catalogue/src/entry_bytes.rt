@@ -1,4 +1,4 @@
-// "The catalogue": how many types and fields there are, and the bytes of their entries.
+// How many types and fields a catalogue has, and the bytes of their entries (R2, R3).
 // Every lookup takes any slice: past the end of the block there is nothing, which reads as 0.
 use blocks::byte_at;
 use blocks::wide;

@@ -1,4 +1,4 @@
-// "The catalogue": what the block says of a field, for any slice.
+// What the catalogue says of a field (R6), for any slice.
 use crate::entry_bytes::field_byte;
 use terms::FieldNumber;
 use terms::TypeCode;

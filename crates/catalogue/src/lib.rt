@@ -1,4 +1,4 @@
-// "The catalogue": what the block says of its types and fields, on any slice, and how the types lie one beneath another. Its check is in `catalogue_check`.
+// What the catalogue says of its types and fields, on any slice, and how the types lie one beneath another (R2 to R8). Its check is in `catalogue_check`.
 pub mod entries;
 pub mod entry_bytes;
 pub mod fields;

@@ -11,7 +11,7 @@ ghost use Rattle.forest.specs.Numbers.{isIn};
 ghost use Rattle.rules.specs.Catalogue.{types, lineage, level, isType, typeBeneath, goodCatalogue};
 ghost use Rattle.catalogue.specs.Levels.{Ordered, Levels};
 
-// One type more in a row of levels: "The root type has level 1, a child one more", and the parent's level is there already.
+// One type more in a row of levels (R8): the parent's level is there already.
 pub fn add_level(cat: &[u8], row: &mut [u8; 33], t: TypeCode)
     requires { ⌜ Ordered (now cat) (t .0) × (0 < t .0) × Levels (now cat) (now row) (t .0 - 1) ⌝ }
     ensures { λ _. ⌜ Levels (now (cat .entry)) (now (row .exit)) (t .0) ⌝ }

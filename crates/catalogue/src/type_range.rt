@@ -5,7 +5,7 @@ use terms::TypeCode;
 ghost use mathlib.Core.Path.{_≡_};
 ghost use Rattle.rules.specs.Catalogue.{types, isType, largest};
 
-// "type not in 1..T" is what this denies.
+// R7, R26: whether the catalogue has such a type.
 pub fn is_type(cat: &[u8], t: TypeCode) -> bool
     ensures { λ r. ⌜ r ≡ isType (now (cat .entry)) t ⌝ }
 {

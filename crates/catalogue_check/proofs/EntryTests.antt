@@ -39,7 +39,7 @@ zeros-first (x ∷ []) = simp (zeros-cons, zeros-nil, and-true)
 zeros-first (x ∷ (y ∷ [])) = simp (zeros-cons, zeros-nil, and-true)
 zeros-first (x ∷ (y ∷ (z ∷ xs))) = simp (zeros-cons, zeros-nil, and-true)
 
--- "three zero bytes", byte by byte; past the end of the block there is nothing, which reads as 0
+-- the three zeros of R4, byte by byte; past the end of the block there is nothing, which reads as 0
 pub ending-zeros : (cat : Bytes) (t : TypeCode) → zeros (part cat (8 * t .0 + 5) 3) ≡ (eqb (typeByte cat t 5) 0 && (eqb (typeByte cat t 6) 0 && eqb (typeByte cat t 7) 0))
 unfolding typeByte
 ending-zeros cat t =

@@ -17,7 +17,7 @@ ghost use Rattle.rules.specs.Block.{every};
 ghost use Rattle.rules.specs.Catalogue.{types, fields, goodType, goodField, goodHeader, goodCatalogue};
 ghost use Rattle.rules.specs.Outcome.{checkCatalogue};
 
-// "number of types T, 1 to 32", "number of fields F, 0 to 64"
+// R2: how many types and fields there may be.
 fn good_counts(top: u8, last: u8) -> bool
     ensures { λ r. ⌜ r ≡ (leb 1 top && leb top 32 && leb last 64) ⌝ }
 {
@@ -30,7 +30,7 @@ fn good_counts(top: u8, last: u8) -> bool
     last <= 64
 }
 
-// "The block is exactly 8 + 8T + 4F bytes."
+// R2 and R3: the first 8 bytes, and how long the block is.
 fn good_header(cat: &[u8]) -> bool
     ensures { λ r. ⌜ r ≡ goodHeader (now (cat .entry)) ⌝ }
 {
@@ -94,7 +94,7 @@ pub fn is_good(cat: &[u8]) -> bool
     good_fields(cat)
 }
 
-// "The check of a catalogue answers 0 or CX"
+// R65: CX, or Blank where the catalogue is good.
 pub fn check(cat: &[u8]) -> Status
     ensures { λ r. ⌜ r ≡ checkCatalogue (now (cat .entry)) ⌝ }
 {

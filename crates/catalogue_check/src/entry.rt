@@ -23,7 +23,7 @@ ghost use Rattle.rules.specs.Block.{part, zeros};
 ghost use Rattle.rules.specs.Catalogue.{lengthOf, goodSpan, goodKey, goodParent, goodType, goodField};
 ghost use Rattle.catalogue_check.specs.Levelled.{Ready, Next};
 
-// "start and length are at least 1 and start + length - 1 is at most L": the sum is taken in wide numbers, where it cannot wrap.
+// R5: a span within the data. The sum is taken in wide numbers, where it cannot wrap.
 fn good_span(start: u8, long: u8, most: u8) -> bool
     ensures { λ r. ⌜ r ≡ goodSpan start long most ⌝ }
 {
@@ -36,7 +36,7 @@ fn good_span(start: u8, long: u8, most: u8) -> bool
     wide(start) + wide(long) - 1 <= wide(most)
 }
 
-// "With kind 0, start and length are 0."
+// R4, R5: the kind of key, and its span, or zeros where the type has none.
 fn good_key(cat: &[u8], t: TypeCode) -> bool
     ensures { λ r. ⌜ r ≡ goodKey (now (cat .entry)) t ⌝ }
 {
@@ -55,7 +55,7 @@ fn good_key(cat: &[u8], t: TypeCode) -> bool
     good_span(start, long, data_length(cat, t))
 }
 
-// "Type 1 has parent 0 and no other has. The parent of type k > 1 is k - 1 or an ancestor of k - 1."
+// R7: whose child the type may be.
 fn good_parent(cat: &[u8], t: TypeCode) -> bool
     ensures { λ r. ⌜ r ≡ goodParent (now (cat .entry)) (t .0) ⌝ }
 {
@@ -69,7 +69,7 @@ fn good_parent(cat: &[u8], t: TypeCode) -> bool
     is_above(cat, above, TypeCode(t.0 - 1))
 }
 
-// "data length L, 1 to 120"
+// R4: how long the data may be.
 fn good_length(cat: &[u8], t: TypeCode) -> bool
     ensures { λ r. ⌜ r ≡ (leb 1 (lengthOf (now (cat .entry)) t) && leb (lengthOf (now (cat .entry)) t) 120) ⌝ }
 {
@@ -80,7 +80,7 @@ fn good_length(cat: &[u8], t: TypeCode) -> bool
     long <= 120
 }
 
-// "three zero bytes"
+// R4: the last bytes of a type's entry.
 fn ends_in_zeros(cat: &[u8], t: TypeCode) -> bool
     ensures { λ r. ⌜ r ≡ zeros (part (now (cat .entry)) (8 * t .0 + 5) 3) ⌝ }
 {
@@ -114,7 +114,7 @@ pub fn good_type(cat: &[u8], levels: &mut [u8; 33], t: TypeCode) -> bool
     levels[wide(t.0)] <= 15
 }
 
-// "type code from 1 to T, start, length (same rule against that type's L), zero byte"
+// R6: a field's type, its span in the data of that type, and the zero.
 pub fn good_field(cat: &[u8], f: FieldNumber) -> bool
     ensures { λ r. ⌜ r ≡ goodField (now (cat .entry)) (f .0) ⌝ }
 {

@@ -25,7 +25,7 @@ module _ (cat : Bytes) (g : goodCatalogue cat ≡ true) where
     pub length-in : lengthOf cat t ≤ largest cat (types cat)
     length-in = let r = type-range cat t h in length-largest cat t (types cat) (r .0) (r .1)
 
-    -- "start + length - 1 is at most L"; "With kind 0, start and length are 0. Otherwise start and length are at least 1"
+    -- R5: the key lies in the data, and without a key both numbers are 0
     pub key-in : (keyStart cat t + keyLength cat t ≤ suc (lengthOf cat t)) × (keyStart cat t ≡ 0 → keyLength cat t ≡ 0)
     key-in =
         let r = type-range cat t h in

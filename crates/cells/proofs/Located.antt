@@ -170,7 +170,7 @@ module _ (cat : Bytes) (cs : List Segment) (i : ℕ) where
   unfolding parentAt
   parent-before p e = nearest-before (levelAt cat cs) p (levelAt cat cs i) i e
 
--- what a good table says of its room: "the slice is exactly 8 + M·C bytes", "M from 0 to 4,096", "byte 5 the cell size C", "n is at most M"
+-- what a good table says of its room (R10 to R12)
 pub record Housed (cat tab : Bytes) : Type 0 where
   pub whole : length tab ≡ 8 + room cat tab * cellSize cat
   pub most : room cat tab ≤ 4096

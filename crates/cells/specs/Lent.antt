@@ -38,7 +38,7 @@ nearest (i ∷ above) = At (cell i)
 unfoldable pub parentAt : Bytes → List Segment → ℕ → Found
 parentAt cat cs i = nearest (ancestors (levelAt cat cs) i)
 
--- `long` data bytes from byte `start` on, "counted from 1", lie within the data of cell i; without a key both are 0
+-- `long` data bytes from byte `start` on, counted from 1 (R5), lie within the data of cell i; without a key both are 0
 pub record InData (cat tab : Bytes) (size i start long : ℕ) : Type 0 where
   pub sized : Sized cat tab size
   pub good : goodCatalogue cat ≡ true

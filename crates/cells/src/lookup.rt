@@ -17,14 +17,14 @@ ghost use Rattle.catalogue.specs.Levels.{Levels};
 ghost use Rattle.cells.specs.Sound.{Sound};
 ghost use Rattle.cells.specs.Lent.{Sized, Inside, InData, startOf};
 
-// "C is 1 plus the largest L."
+// R11: C.
 pub fn cell_size(cat: &[u8]) -> usize
     ensures { λ r. ⌜ (r ≡ cellSize (now (cat .entry))) × (r < 257) ⌝ }
 {
     1 + wide(largest(cat))
 }
 
-// "bytes 6 and 7 the count n"
+// R10: n.
 pub fn count(tab: &[u8]) -> usize
     ensures { λ r. ⌜ (r ≡ count (now (tab .entry))) × (r < 65536) ⌝ }
 {

@@ -68,7 +68,7 @@ fn last_beneath(cat: &[u8], t: u8) -> u8
     last
 }
 
-// "the run ends at the first later cell of the same or a smaller level, or at n": in a good table, at the first whose type is not beneath the cell's own.
+// R17: where a run ends; in a good table, at the first later cell whose type is not beneath the cell's own.
 pub fn run_end(cat: &[u8], tab: &[u8], size: usize, c: CellNumber) -> CellNumber
     requires { ⌜ Sound (now cat) (now tab) size × (c .0 < count (now tab)) ⌝ }
     ensures { λ r. ⌜ r .0 ≡ endAt (now (cat .entry)) (listing (now (cat .entry)) (now (tab .entry))) (c .0) ⌝ }

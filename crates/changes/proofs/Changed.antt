@@ -36,7 +36,7 @@ place-good cat cs pos h =
     both-left (goodPlace cat cs (pos .place)) (goodParentage cat cs (pos .place) (pos .parentage))
     (both-left (goodPlace cat cs (pos .place) && goodParentage cat cs (pos .place) (pos .parentage)) (goodHold cat cs (pos .place) (pos .hold)) h)
 
--- "a hold, which needs a place on a cell"
+-- R21: where there is a hold, the place is on a cell
 hold-on : (cat : Bytes) (cs : List Segment) (q : Place) (h : Bool) → goodPlace cat cs q ≡ true → goodHold cat cs q h ≡ true → h ≡ true → placeNumber q < length cs
 hold-on cat cs (On c) h a b e = ltb-true (c .0) (length cs) a
 hold-on cat cs (Before c) h a b e = absurd (clash b (ap not e))

@@ -23,7 +23,7 @@ use Rattle.twins.specs.Among.{spotAmong}
 use Rattle.changes.specs.declared.insert.Parented.{Parented}
 use Rattle.changes.specs.declared.insert.Parented.the-variants.{Nowhere, Among}
 
--- II: "unique key equal to a twin's", then FX: n = M; Blank, if it is neither
+-- II (R59), then FX (R60); Blank, if it is neither
 unfoldable pub insertStatus : Bool → ℕ → ℕ → Status
 insertStatus taken n m = pick taken II (pick (eqb n m) FX Blank)
 
@@ -33,7 +33,7 @@ module _ (cat : Bytes) (cs : List Segment) (pos : Position) where
   parentedAt Nothing = Nowhere
   parentedAt (At c) = Among (suc (c .0)) (endAt cat cs (c .0)) (isOneOf (rowAt cat cs (c .0)) (pos .parentage))
 
-  -- "For type 1 there is no parent. Otherwise the parent is the first match, along the position," of the levels
+  -- R40: the parent, or that the type needs none
   unfoldable pub parented : TypeCode → List Level → Parented
   parented t ls = pick (eqb (t .0) 1) (Among 0 (length cs) false) (parentedAt (along cat cs ls (pos .place)))
 
@@ -49,7 +49,7 @@ module _ (cat : Bytes) (cs : List Segment) (pos : Position) where
         let refusal = insertStatus (s .taken) (length cs) m in
         pick (isBlank refusal) (putIn (s .at) x beneath) (refused refusal pos area)
 
-    -- "ISRT without parent": GE
+    -- R51: GE where there is no parent
     abbrev pub insertedIn : ℕ → Segment → Parented → After
     insertedIn m x Nowhere = missed GE pos area
     insertedIn m x (Among from to beneath) = insertedAmong m x from to beneath

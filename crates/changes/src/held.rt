@@ -45,7 +45,7 @@ fn has_key(cat: &[u8], tab: &[u8], size: usize, c: CellNumber, t: TypeCode, area
     are_same(data_part(cat, tab, size, c, start, long), own)
 }
 
-// "stores the area's first L bytes in the held cell"
+// REPL (R43, R58): new data for the held segment, unless it would change the key.
 pub fn replace(cat: &[u8], tab: &mut [u8], size: usize, pos: Position, area: &[u8]) -> Answer
     requires { ⌜ Held (now cat) (now tab) size pos × (size ≤ suc (length (now area))) ⌝ }
     ensures { λ r. ⌜ made r (now (tab .exit)) (now (area .entry))
@@ -61,7 +61,7 @@ pub fn replace(cat: &[u8], tab: &mut [u8], size: usize, pos: Position, area: &[u
     told(cat, Status::Blank, pos.hold_dropped(), t, 0)
 }
 
-// "removes the held cell's run; later cells move down, freed cells become zero"
+// DLET (R44, R45): the held segment goes with all beneath it.
 pub fn delete(cat: &[u8], tab: &mut [u8], size: usize, pos: Position) -> Answer
     requires { ⌜ Held (now cat) (now tab) size pos ⌝ }
     ensures { λ r. ⌜ ((area : Bytes) → made r (now (tab .exit)) area

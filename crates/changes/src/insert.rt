@@ -52,7 +52,7 @@ fn is_one_of_row(cat: &[u8], tab: &[u8], size: usize, p: CellNumber, parentage: 
     p.0 < run_end(cat, tab, size, q).0
 }
 
-// "For type 1 there is no parent. Otherwise the parent is the first match, along the position, of the list without its last argument"
+// R40: the parent by the arguments before the last; a root needs none.
 fn found_parent(
     cat: &[u8],
     tab: &[u8],

@@ -107,7 +107,7 @@ module _ (cat tab : Bytes) (pos : Position) (list area : Bytes) where
   abbrev ls : List Level
   ls = getLevels cat list (listRead cat list .arguments)
 
-  -- "GU and GN set the parentage to the found cell"
+  -- R36: the parentage that GU and GN leave
   stood-unique : (c : ℕ) (hold : Bool) → movedOnto (foundCell (along cat cs ls (pos .place))) (Of (cell (foundCell (along cat cs ls (pos .place))))) hold ≡ done c
       → Stood c (getUnique cat cs pos area hold ls)
   unfolding getUnique
@@ -125,7 +125,7 @@ module _ (cat tab : Bytes) (pos : Position) (list area : Bytes) where
       (levelStatus cat cs ls (pos .place)) (level-low cat tab pos list area ls (pos .place)) _ hold ahead
       (λ i e. sym (ap (λ (f : Found). movedOnto (foundCell f) (Of (cell (foundCell f))) hold) e) ∙ h)
 
-  -- "The parentage stays."
+  -- R35: GNP leaves it as it was
   abbrev inside : Found
   inside = firstMatch cat cs ls (afterPlace (pos .place)) (parentEnd cat cs (pos .parentage))
 
@@ -142,7 +142,7 @@ module _ (cat tab : Bytes) (pos : Position) (list area : Bytes) where
       let i : ℕ = placeNumber (pos .place) in
       pick-by (Stood 8) (not (sameBytes (key cat (segment cs i)) (key cat (replacement cat cs pos area i)))) _ _ (λ e. stood-refused 8 DA (omega arith)) (λ e. refl)
 
-  -- DLET: "The parentage goes if it was in the run."
+  -- R45: the parentage that DLET leaves
   parentage-gone : (i : ℕ) (m : Parentage) → without i (runAt cat cs i) m ≡ keptIf (λ p. not (leb i p && ltb p (endAt cat cs i))) m
   unfolding endAt
   parentage-gone i Absent = refl

@@ -22,7 +22,7 @@ use Rattle.rules.specs.Outcome.{Outcome, Store, blockAfter}
 use Rattle.encoding.specs.Determined.{IsBytes}
 use Rattle.demands.specs.StatusTable.{numbers, firstGiven, next, within, get, isrt, repl, dlet, statusTable}
 
--- no byte of the table or the area has changed, the position is p, and "all four are 0"
+-- no byte of the table or the area has changed, the position is p, and nothing is told (R46)
 pub record Untouched (tab lent : Bytes) (p : Position) (o : Outcome) : Type 0 where
   pub table : o .table ≡ tab
   pub area : o .area ≡ lent
@@ -58,7 +58,7 @@ isGivenTo c list AK = true
 pub record Answers (cat tab : Bytes) (pos : Position) (c : ℕ) (list area : Bytes) (o : Outcome) : Type 0 where
   -- a status of the table
   pub known : isIn (number (o .answer .status)) numbers ≡ true
-  -- and it is that of the first row, in the fixed order, whose "Given exactly when" is so
+  -- and it is that of the first row, in the order of R61, that is given
   pub order : o .answer .status ≡ firstGiven (statusTable cat tab pos c list area)
   -- so GB and GE, GA and GK, GP, and 27 to 32 are each given to their own calls only
   pub only : isGivenTo c list (o .answer .status) ≡ true

@@ -1,9 +1,9 @@
 -- DEMAND 2.
 --
--- What the calls do to the table's bytes is what document 000 and document 01 say of a forest of segments. The first n cells are the parent-first listing of a
--- forest: bytes, cells and forest determine each other. Each call over the cells is the call over the forest, in every byte. A good table stays good, and so does
--- the position; no call invents what it counts, and none touches more than the count and the cells from the one concerned onward. The result tells the segment
--- got, inserted, replaced or deleted, and how many cells went; and place, parentage and hold are what 01 says of the call and of how it ended.
+-- What the calls do to the table's bytes is what document 000 says of a forest of segments, where the rules (R1 to R63) decide. The n cells list a forest
+-- (R14): bytes, cells and forest determine each other. Each call over the cells is the call over the forest, in every byte. A good table stays good, and so
+-- does the position; no call invents what it counts, and none touches more of the table than R47 lets it. The result tells the segment that the call was
+-- about, and how many cells went (R46); and place, parentage and hold are what the rules say of the call and of how it ended.
 --
 -- Assumes nothing: this is the statement; the proof is in proofs/.
 use mathlib.Core.Path.{_≡_}
@@ -28,13 +28,13 @@ use Rattle.demands.specs.PositionTable.{positionAfter}
 
 -- the outcome o of a call c with this list and area, on this catalogue and table, at this position
 module _ (cat tab : Bytes) (pos : Position) (c : ℕ) (list area : Bytes) (o : Outcome) where
-  -- "the segment got, inserted, replaced or deleted": that of the cell moved onto, the new one, the held one
+  -- R46: the segment that the call was about: that of the cell moved onto, the new one, the held one
   abbrev pub subject : Segment
   subject =
       pick (get c) (segment (listing cat tab) (placeNumber (o .answer .position .place)))
       (pick (isrt c) (new cat tab pos c list area) (held cat tab pos c list area))
 
-  -- "Type, level and length are those of the segment"; a get "writes its L bytes to the front of the area; the area's other bytes stay", and no other call
+  -- R46: what is told of that segment; R37: a get writes its data to the front of the area and leaves the rest, and no other call
   -- writes to the area
   pub record Done : Type 0 where
     pub code : o .answer .code ≡ subject .code
@@ -49,7 +49,7 @@ module _ (cat tab : Bytes) (pos : Position) (c : ℕ) (list area : Bytes) (o : O
   pub record Tells : Type 0 where
     -- done: blank, GA or GK
     pub done : number (o .answer .status) < 10 → Done
-    -- "removed is the run's size for DLET and 0 otherwise"
+    -- R46: how many cells went
     pub removed : o .answer .removed
         ≡ pick (dlet c && isBlank (o .answer .status)) (runAt cat (listing cat tab) (placeNumber (pos .place))) 0
 
@@ -59,11 +59,11 @@ pub record Demand2 (store : Store) : Type 0 where
   pub tableToForest : TableToForest
   -- every well-formed forest that fits is the forest of one good table, and of no other
   pub forestToTable : ForestToTable
-  -- on every input, good or not, the outcome by the forest (000) is the outcome by the cells (01), to the byte: answer, table, area, and the position,
+  -- on every input, good or not, the outcome by the forest (000) is the outcome by the cells, to the byte: answer, table, area, and the position,
   -- which there is said of paths
   pub model : ModelIsCells store
-  -- after every call on good blocks table and position are good, the count is the one before, with the cell inserted, without those removed, and nothing but the
-  -- count and the cells from the one concerned onward has changed
+  -- after every call on good blocks table and position are good, the count is the one before, with the cell inserted, without those removed, and nothing has
+  -- changed but what R47 names
   pub stays : TablesStayGood store
   -- so a row of calls that begins on good blocks need not check them again
   pub once : CheckedOnce store

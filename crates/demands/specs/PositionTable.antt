@@ -1,4 +1,4 @@
--- The position afterwards, row by row: for each of the nine calls and each way it can end, what document 01, with request K2, says of the place, the
+-- The position afterwards, row by row: for each of the nine calls and each way it can end, what the rules (R35 to R45, R62, R63) say of the place, the
 -- parentage and the hold.
 -- Nothing here is taken from what the calls make of a position (terms, Moves; rules, Calls and Paths). Assumes nothing: these are definitions.
 use mathlib.Core.Bool.{Bool, true, false, _&&_, not}
@@ -53,28 +53,28 @@ leaves q p h = record { place = q; parentage = p; hold = h }
 -- the call c is done: blank, GA or GK
 abbrev pub doneRow : ℕ → PositionRow
 doneRow c =
-    -- GU, GN: "GU and GN set the parentage to the found cell. A get moves onto it .. The hold forms set the hold, the plain ones clear it."
+    -- GU, GN (R36 to R38)
     pick (eqb c 1) (leaves onFound ofFound noHold)
     (pick (eqb c 2) (leaves onFound ofFound noHold)
-    -- GNP: "The parentage stays."
+    -- GNP (R35)
     (pick (eqb c 3) (leaves onFound parentageStays noHold)
     -- GHU, GHN, GHNP
     (pick (eqb c 4) (leaves onFound ofFound holdSet)
     (pick (eqb c 5) (leaves onFound ofFound holdSet)
     (pick (eqb c 6) (leaves onFound parentageStays holdSet)
-    -- ISRT: "The place is the new cell; the parentage stays if the new cell is beneath it, else is absent; no hold."
+    -- ISRT (R42)
     (pick (eqb c 7) (leaves onNew ifBeneath noHold)
-    -- REPL: "Place and parentage stay; the hold goes."
+    -- REPL (R43)
     (pick (eqb c 8) (leaves placeStays parentageStays noHold)
-    -- DLET: "The place is the gap where the run began. The parentage goes if it was in the run. No hold."
+    -- DLET (R45)
     (leaves gapOfRun unlessInRun noHold))))))))
 
 -- by the status that it ends with
 abbrev pub rowAfter : ℕ → ℕ → PositionRow
 rowAfter c s =
-    -- "20 and above changes nothing"
+    -- a refusal (R62)
     pick (leb 20 s) (leaves placeStays parentageStays holdStays)
-    -- GB makes the position fresh (K2): "A fresh position is the start, no parentage, no hold."
+    -- GB (R63): the fresh position (R19)
     (pick (eqb s 10) (leaves atStart noParentage noHold)
     -- GE and GP clear the hold only
     (pick (eqb s 11) (leaves placeStays parentageStays noHold)
@@ -98,7 +98,7 @@ keptIf t (Of p) = pick (t (p .0)) (Of p) Absent
 
 -- what the words mean, for a call c with this list and area, on this catalogue and table, at this position
 module _ (cat tab : Bytes) (pos : Position) (c : ℕ) (list area : Bytes) where
-  -- "The run of a segment is its cell and all cells beneath it": cell j lies in that of cell i
+  -- R17: cell j lies in the run of cell i
   abbrev pub inRun : ℕ → ℕ → Bool
   inRun i j = leb i j && ltb j (endAt cat (cells cat tab pos c list area) i)
 
@@ -108,7 +108,7 @@ module _ (cat tab : Bytes) (pos : Position) (c : ℕ) (list area : Bytes) where
       eqb (levelAt cat (cells cat tab pos c list area) j) (level cat (newType cat tab pos c list area))
       && goesBefore cat (new cat tab pos c list area) (segment (cells cat tab pos c list area) j)
 
-  -- "after smaller and equal keys, before greater; unkeyed, last": the first such cell in the parent's run, or the run's end
+  -- R41: the first cell in the parent's run that must come later, or the run's end
   abbrev pub newBeneath : Found → ℕ
   newBeneath Nothing = 0
   newBeneath (At p) = firstOf later (suc (p .0)) (endAt cat (cells cat tab pos c list area) (p .0) - suc (p .0))

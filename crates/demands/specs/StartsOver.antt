@@ -1,4 +1,4 @@
--- Request K2: get-next after GB starts over.
+-- R63: get-next after GB starts over.
 --
 -- Whatever call answered GB, wherever it stood: the next n + 1 get-nexts with the empty list show every cell once, in order, and then GB again.
 --

@@ -1,5 +1,5 @@
--- The status table of document 01, row by row, in the order of its last paragraph: "20, 21, 22, 23, list faults, 27, the other AJ, 28, 12, 29, then 10 and 11,
--- 30, 31, 32", then 1 and 2. What a row is given for stands beside its letters. Assumes nothing: these are definitions.
+-- The statuses, row by row (R49 to R60), in the order of R61, then GA and GK. What a row is given for stands beside its letters.
+-- Assumes nothing: these are definitions.
 use mathlib.Core.Bool.{Bool, true, false, _&&_, _||_, not}
 use mathlib.Core.List.{List, [], _∷_}
 use Prim.Native.Nat.{ℕ, suc, _-_}
@@ -28,7 +28,7 @@ use Rattle.rules.specs.Arguments.{listRead, lastArgument, isQualified, getLevel
 use Rattle.rules.specs.Matching.{firstMatch, along}
 use Rattle.rules.specs.Calls.{parentEnd, keyTaken}
 
--- the column "No."
+-- R48: the numbers of the statuses
 abbrev pub numbers : List ℕ
 numbers = 0 ∷ 1 ∷ 2 ∷ 10 ∷ 11 ∷ 12 ∷ 20 ∷ 21 ∷ 22 ∷ 23 ∷ 24 ∷ 25 ∷ 26 ∷ 27 ∷ 28 ∷ 29 ∷ 30 ∷ 31 ∷ 32 ∷ []
 
@@ -40,7 +40,7 @@ pub record Row : Type 0 where
 abbrev pub row : Status → Bool → Row
 row s b = record { status = s; given = b }
 
--- the first row that is given; "blank: done, not 1 or 2" where none is
+-- the first row that is given; blank where none is (R49)
 unfoldable pub firstGiven : List Row → Status
 firstGiven [] = Blank
 firstGiven (r ∷ rs) = pick (r .given) (r .status) (firstGiven rs)
@@ -99,7 +99,7 @@ module _ (cat tab : Bytes) (pos : Position) (c : ℕ) (list area : Bytes) where
       pick (unique c) (along cat cells ls (pos .place))
       (firstMatch cat cells ls (afterPlace (pos .place)) (pick (next c) (length cells) (parentEnd cat cells (pos .parentage))))
 
-  -- GA and GK: "GN, GNP, GHN or GHNP, empty list, place was on a cell", and one was found
+  -- GA and GK (R49): a get-next with an empty list from a cell, and one was found
   abbrev pub stepped : Bool
   stepped = (next c || within c) && isNil list && isOn (pos .place) && not (isNothing found)
 
@@ -146,7 +146,7 @@ module _ (cat tab : Bytes) (pos : Position) (c : ℕ) (list area : Bytes) where
       ∷ row GK (stepped && (eqb foundLevel placeLevel && not (sameType (segment cells (foundCell found) .code) (held .code))))
       ∷ []
 
-  -- before them what is asked: 23, list faults, 27, the other AJ, 28, 12, 29
+  -- before them what is asked: from AD to DJ, in the order of R61
   abbrev pub askedRows : List Row
   askedRows =
       row AD (not (leb 1 c && leb c 9))

@@ -1,5 +1,5 @@
--- Stores that must not get through ("How firm each call is"): each is refuted against a demand in proofs/Wrong.antt, and so is `once` of report_loops,
--- which gets the first segment and then only answers GE. Assumes nothing: these are definitions.
+-- Stores that must not get through: each is refuted against a demand in proofs/Wrong.antt, and so is `once` of report_loops,
+-- which gets one segment and from then on answers GE. Assumes nothing: these are definitions.
 use mathlib.Core.Bool.{false, _||_}
 use Prim.Native.Nat.{suc}
 use lib.Dec.{eqb}
@@ -40,7 +40,7 @@ leavesTable cat tab pos c list area =
     let o = outcome cat tab pos c list area in
     record { answer = o .answer; table = pick (isrt c || dlet c) tab (o .table); area = o .area }
 
--- GB leaves the place at the end, as it did before request K2
+-- GB leaves the place at the end, against R63
 unfoldable pub staysAtEnd : Store
 staysAtEnd cat tab pos c list area =
     let o = outcome cat tab pos c list area in

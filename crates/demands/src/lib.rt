@@ -1,1 +1,1 @@
-// The three demands of document 01, side by side. The statements stand in specs/, the proofs in proofs/.
+// The three demands, side by side. The statements stand in specs/, the proofs in proofs/.

@@ -134,7 +134,7 @@ pub fn call_sound(
     change_sound(cat, tab, pos, number, list, area)
 }
 
-// The call of this number, on anything at all: "Every call on every input ends with a status of the table."
+// The call of this number, on anything at all, which ends with one of the 19 statuses (R48), in the order of R61.
 pub fn call(
     cat: &[u8],
     tab: &mut [u8],

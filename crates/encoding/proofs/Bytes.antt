@@ -370,7 +370,7 @@ module _ (cat : Bytes) where
           replace-bytes i x l ∙ ap (λ (w : Bytes). take 6 tab ++ (w ++ (part tab 8 k ++ t))) (count-bytes bytes)
           ∙ sym (rw (take-add 8 k tab, take-add 6 2 tab) (simp append-assoc))
 
-      -- as REPL stores them: "the area's first L bytes in the held cell", whose type's code and zeros stay
+      -- as REPL stores them (R43): new data in the cell, whose type's code and zeros stay
       pub replace-data : (i : ℕ) (area : Bytes) → i < count tab → lengthOf cat (typeAt cat tab i) ≤ length area
           → tableBytes cat (room cat tab) (set (listing cat tab) i (arriving cat (segment (listing cat tab) i .code) area))
           ≡ take (suc (cellStart cat i)) tab ++ (take (lengthOf cat (typeAt cat tab i)) area ++ drop (suc (cellStart cat i) + lengthOf cat (typeAt cat tab i)) tab)

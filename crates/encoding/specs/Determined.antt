@@ -1,4 +1,4 @@
--- "The first n cells are the parent-first listing of a forest": a table's bytes, its cells and its forest determine each other.
+-- R14: a table's bytes, its cells and its forest determine each other.
 --   From a table to a forest: the bytes of a table that the check takes are those of its cells in its room, and its cells are the listing of one
 --   well-formed forest and of no other.
 --   From a forest to a table: every well-formed forest of segments that fit, of no more segments than the table has room for, is the forest of one
@@ -33,8 +33,7 @@ pub record Fits (cat : Bytes) (s : Segment) : Type 0 where
   pub bytes : IsBytes (s .bytes)
 
 module _ (cat : Bytes) where
-  -- "a group of twins is a row of segments of one type, and a segment is its cell followed by its groups of child types in ascending code. The top
-  -- is one group of type 1.", with the twins in the order of their keys
+  -- R14 and R15 of a forest: which types stand where, with the twins in the order of their keys
   abbrev pub IsFormed : Forest Segment → Type 0
   IsFormed f = formed typeNumber (isChild cat) (siblings cat) 0 f ≡ true
 

@@ -54,7 +54,7 @@ pub fn show(cat: &[u8], tab: &[u8], size: usize, c: CellNumber, area: &mut [u8])
     t
 }
 
-// "A get moves onto it and writes its L bytes to the front of the area".
+// R37: the place goes onto the cell found, and its data to the area.
 fn got(
     cat: &[u8],
     tab: &[u8],
@@ -74,7 +74,7 @@ fn got(
     told(cat, s, pos.moved_onto(c, parentage, hold), t, 0)
 }
 
-// The first cell after the place; "from gap i: cell i or later".
+// The first cell after the place (R34); from a gap, the one behind it.
 fn after_place(q: Place) -> usize
     requires { ⌜ afterPlace q ≤ 65536 ⌝ }
     ensures { λ r. ⌜ r ≡ afterPlace q ⌝ }
@@ -136,7 +136,7 @@ pub fn next_status(cat: &[u8], tab: &[u8], size: usize, on: bool, c: CellNumber)
     change_status(cat, u, code_at(cat, tab, size, c))
 }
 
-// "GU: first match in cell order, along the position."
+// GU (R33): the first match of the table, along the position.
 pub fn get_unique(
     cat: &[u8],
     tab: &[u8],
@@ -169,7 +169,7 @@ pub fn get_unique(
     )
 }
 
-// GN with an empty list, which matches every cell: there is nothing to search. GB: "GN or GHN, empty list, no cell left". It is the call that a
+// GN with an empty list, which matches every cell: there is nothing to search. GB where no cell is left (R50). It is the call that a
 // reading of the whole table makes.
 fn get_next_cell(
     cat: &[u8],
@@ -193,7 +193,7 @@ fn get_next_cell(
     got(cat, tab, size, c, s, Parentage::Of(c), hold, pos, area)
 }
 
-// "GN: first match after the place". GB, GA and GK come with an empty list only, where the next cell is the match. `again` tells that the place is on
+// GN (R34). GB, GA and GK come with an empty list only, where the next cell is the match. `again` tells that the place is on
 // a cell that the same lists match, or before the first.
 pub fn get_next(
     cat: &[u8],
@@ -250,7 +250,7 @@ fn get_next_cell_within(
     got(cat, tab, size, c, s, Parentage::Of(p), hold, pos, area)
 }
 
-// "GNP: as GN, and beneath p. The parentage stays."
+// GNP (R35): GN up to the end of the parentage's run.
 pub fn get_next_within(
     cat: &[u8],
     tab: &[u8],

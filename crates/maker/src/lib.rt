@@ -10,7 +10,7 @@ ghost use lib.ListN.{length};
 ghost use Rattle.rules.specs.Outcome.{makeStatus, madeTable};
 ghost use Rattle.table_check.specs.Frame.{emptied};
 
-// "header and zeros"
+// R64: the bytes of a table without segments.
 fn write_empty(tab: &mut [u8], size: u8)
     requires { ⌜ 8 ≤ length (now tab) ⌝ }
     ensures { λ _. ⌜ now (tab .exit) ≡ emptied size (now (tab .entry)) ⌝ }
@@ -26,7 +26,7 @@ fn write_empty(tab: &mut [u8], size: u8)
     clear(&mut tab[8..]);
 }
 
-// "The maker of empty tables answers CX, or TX when the slice length fits no M, and then writes nothing; else header and zeros."
+// R64: CX, TX, or an empty table in all of the slice.
 pub fn make(cat: &[u8], tab: &mut [u8]) -> Status
     ensures { λ r. ⌜ (r ≡ makeStatus (now (cat .entry)) (now (tab .entry))) × (now (tab .exit) ≡ madeTable (now (cat .entry)) (now (tab .entry))) ⌝ }
 {

@@ -1,4 +1,4 @@
--- Along the position: the search of document 000 along a path (formulas 36 to 38) finds what document 01 finds by cell numbers. Assumes nothing.
+-- Along the position: the search of document 000 along a path (formulas 36 to 38) finds what R30 finds by cell numbers. Assumes nothing.
 use mathlib.Core.Path.{_≡_, refl, ap, sym, _∙_}
 use mathlib.Core.Bool.{Bool, true, false}
 use mathlib.Core.List.{List, [], _∷_, _++_, map, append-nil, map-id}
@@ -158,7 +158,7 @@ module _ (cat : Bytes) (cs : List Segment) where
     | off e ↦ absurd (let g : suc k ≤ 0 = rw (try-out l ls i cur e) at h in omega arith)
   ]
 
-  -- how much of a path is kept: "down to and including its last implied level"
+  -- R30: how much of a path is kept
   abbrev keepLength : List Level → Path → ℕ
   keepLength ls p = lastImplied (take (tryPath cat cs ls p) ls)
 

@@ -89,7 +89,7 @@ sound-of cat tab pos e =
       position = not-true (goodPosition cat (listing cat tab) pos) (d .0);
     }
 
--- 23, list faults, 27, the other AJ, 28, 12 and 29 not given
+-- none of what is asked, from AD to DJ in the order of R61, is given
 pub record Usable (cat : Bytes) (pos : Position) (c : ℕ) (list area : Bytes) : Type 0 where
   pub first : 1 ≤ c
   pub last : c ≤ 9

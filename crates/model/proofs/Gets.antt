@@ -78,7 +78,7 @@ module _ (cat : Bytes) (cs : List Segment) (pos : Position) (area : Bytes) where
   ran-out [] = refl
   ran-out (l ∷ ls) = let-go
 
-  -- "GU and GN set the parentage to the found cell"; GNP: "The parentage stays."
+  -- the parentage that a get leaves: R36 of GU and GN, R35 of GNP
   moved-both : (hold : Bool) (i : ℕ) → numbered (movedTo (pathTo cat cs i) hold) ≡ movedOnto i (Of (cell i)) hold
   moved-both hold i = ap (λ (k : ℕ). movedOnto k (Of (cell k)) hold) (end-path cat cs i)
 

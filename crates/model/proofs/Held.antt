@@ -84,7 +84,7 @@ module _ (cat : Bytes) (cs : List Segment) (pos : Position) (area : Bytes) (on-c
   unfolding deleted
   deleted-gone i n ds = refl
 
-  -- "The parentage goes if it was in the run": the path deleted is the front of the parent path
+  -- R45, of the parentage: the path deleted is the front of the parent path
   parentage-gone : (i : ℕ) (q : Parentage) → ((c : CellNumber) → q ≡ Of c → c .0 < length cs)
       → parentageOf (adjustDeletion (pathTo cat cs i) (parented cat cs q)) ≡ without i (runAt cat cs i) q
   unfolding endAt

@@ -194,7 +194,7 @@ module _ (cat : Bytes) (cs : List Segment) where
     unfolding keyTaken
     taken-cells i n f a l e = has-key f a ∙ ap (anyOf (sameKey cat x)) (e ∙ cells-between i n l) ∙ any-map (segment cs) (sameKey cat x) (range i n)
 
-    -- "the parentage stays if the new cell is beneath it": the parent path is the front of the path to its parent
+    -- R42, of the parentage: the parent path is the front of the path to its parent
     parentage-kept : (p : ℕ) (q : Parentage) → parentageOf (adjustInsertion (pathTo cat cs p) (parented cat cs q)) ≡ pick (isOneOf (rowAt cat cs p) q) q Absent
     parentage-kept p Absent = refl
     parentage-kept p (Of q) =

@@ -63,17 +63,17 @@ module _ (cat : Bytes) where
     unfolding lineage
     lineage-step t h = let z = is-type cat t h in Types.lineage-step (par cat) (types cat) (good-lower cat g) (t .0) (z .0) (z .1)
 
-    -- LAW: "a child one more"
+    -- LAW: R8, of a child
     pub level-child : (t : TypeCode) → isType cat t ≡ true → level cat t ≡ suc (level cat (parentOf cat t))
     unfolding level
     level-child t h = ap length (lineage-step t h)
 
-    -- "Type 1 has parent 0"
+    -- R7, of the root
     pub root-parent : parentOf cat (code 1) .0 ≡ 0
     unfolding goodParent
     root-parent = eqb-true (parentOf cat (code 1) .0) 0 (good-parent 1 (omega arith) (good-types cat g .0))
 
-    -- LAW: "The root type has level 1"
+    -- LAW: R8, of the root
     pub level-root : (t : TypeCode) → isType cat t ≡ true → t .0 ≡ 1 → level cat t ≡ 1
     level-root t h e =
         let z : parentOf cat t .0 ≡ 0 = ap (λ (u : ℕ). parentOf cat (code u) .0) e ∙ root-parent in

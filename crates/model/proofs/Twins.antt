@@ -180,7 +180,7 @@ module _ (cat : Bytes) where
       (sym (twin-kind a b) ∙ e)
       (ap (λ (t : ℕ). byKind (keyKind cat (code t)) (valueOrder (keyValue cat (code t)) (key cat b) (key cat c))) p ∙ sym (twin-kind b c) ∙ e′)
 
-  -- LAW: "groups of child types in ascending code", twins in order: what stands behind what stands behind a sibling stands behind it
+  -- LAW: child types by their codes (R14), twins in order: what stands behind what stands behind a sibling stands behind it
   pub siblings-trans : (p : ℕ) (a b c : Segment) → sizedChild p a ≡ true → sizedChild p b ≡ true → sizedChild p c ≡ true
       → siblings cat a b ≡ true → siblings cat b c ≡ true → siblings cat a c ≡ true
   siblings-trans p a b c f g h e e′ =

@@ -1,7 +1,7 @@
 -- Tables stay good. Whoever starts with a good catalogue, a good table and a good position, and goes on with what each call leaves, never meets CX, TX or PX:
 -- after every call, whichever it is and whatever it answers, the table is good and has the same room, the position is good in it, and the area is as long as it
--- was. No call invents what it counts: the cells before, with the one inserted, are the cells after, with those removed. And "Only DLET, ISRT and REPL change
--- the table, and each touches nothing but the count and the cells from the one concerned onward": that one is at the place where the call leaves the position.
+-- was. No call invents what it counts: the cells before, with the one inserted, are the cells after, with those removed. And of the table no more changes
+-- than R47 says: the cell concerned is at the place where the call leaves the position.
 -- Assumes nothing: these are definitions, and the proof is in proofs/.
 use mathlib.Core.Path.{_≡_}
 use mathlib.Core.Bool.{Bool, true, false, _&&_}

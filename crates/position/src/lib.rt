@@ -1,4 +1,4 @@
-// The check of a position against the cells of a table: "Anything else is a bad position."
+// The check of a position against the cells of a table (R22).
 // What the calls make of a position are the methods of terms::Position.
 pub mod block;
 
@@ -13,7 +13,7 @@ ghost use Rattle.rules.specs.Position.{goodPlace, goodParentage, goodHold, good
 ghost use Rattle.rules.specs.Table.{listing};
 ghost use Rattle.cells.specs.Sound.{Sound};
 
-// "The place is either on a cell i < n or in the gap before cell i, i ≤ n."
+// R18: on a cell that there is, or in a gap that there is.
 fn good_place(cat: &[u8], tab: &[u8], q: Place) -> bool
     ensures { λ r. ⌜ r ≡ goodPlace (now (cat .entry)) (listing (now (cat .entry)) (now (tab .entry))) q ⌝ }
 {
@@ -23,7 +23,7 @@ fn good_place(cat: &[u8], tab: &[u8], q: Place) -> bool
     }
 }
 
-// "a hold, which needs a place on a cell"
+// R21: where the hold may be set.
 fn good_hold(cat: &[u8], tab: &[u8], q: Place, hold: bool) -> bool
     ensures { λ r. ⌜ r ≡ goodHold (now (cat .entry)) (listing (now (cat .entry)) (now (tab .entry))) q hold ⌝ }
 {
@@ -33,7 +33,7 @@ fn good_hold(cat: &[u8], tab: &[u8], q: Place, hold: bool) -> bool
     }
 }
 
-// "On cell i, p is i or an ancestor of it": i lies in p's run. "In gap i, p < i and i is at most the end of p's run."
+// R20: on a cell, that cell lies in p's run; in a gap, p is before it and the gap in p's run or right behind it.
 fn good_parentage(cat: &[u8], tab: &[u8], size: usize, q: Place, p: Parentage) -> bool
     requires { ⌜ Sound (now cat) (now tab) size × (goodPlace (now cat) (listing (now cat) (now tab)) q ≡ true) ⌝ }
     ensures { λ r. ⌜ r ≡ goodParentage (now (cat .entry)) (listing (now (cat .entry)) (now (tab .entry))) q p ⌝ }

@@ -12,7 +12,7 @@ use Rattle.rules.specs.Block.{Bytes}
 use Rattle.rules.specs.Arguments.{listRead, lastArgument, isQualified}
 use Rattle.rules.specs.Outcome.{isGnp, isDlet}
 
--- "area shorter than C - 1 (not looked at for DLET)"
+-- AB (R56)
 unfoldable pub tooShort : ℕ → ℕ → Bytes → Bool
 tooShort size c area = not (isDlet c) && ltb (length area) (size - 1)
 

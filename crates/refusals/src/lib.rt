@@ -1,4 +1,4 @@
-// The refusals that look only at what is lent, in the order of document 01.
+// The refusals that look only at what is lent, in the order of R61.
 use arguments::lookup::is_qualified;
 use arguments::lookup::last_of;
 use arguments::read::fault;
@@ -52,7 +52,7 @@ fn is_gnp(number: u8) -> bool
     number == 6
 }
 
-// "area shorter than C - 1 (not looked at for DLET)"
+// AB (R56).
 fn is_short(size: usize, number: u8, area: &[u8]) -> bool
     requires { ⌜ 1 ≤ size ⌝ }
     ensures { λ r. ⌜ r ≡ tooShort size number (now (area .entry)) ⌝ }

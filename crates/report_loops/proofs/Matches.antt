@@ -143,7 +143,7 @@ module _ (cat : Bytes) (cs : List Segment) where
   fulfils asked t i = eqb (typ cs i) (t .0) && every (content asked) (rowAt cat cs i)
 
   module _ (g : goodCatalogue cat ≡ true) (w : goodListing cat cs ≡ true) where
-    -- LAW: "it has the last type and it and its ancestors satisfy every argument for their type"
+    -- LAW: R28, of a completed list
     pub matches-is : (list : Bytes) (ar : List Argument) (t : TypeCode) (i : ℕ) → isType cat t ≡ true → i < length cs
         → matches cat cs (complete cat list ar t) i ≡ fulfils (askedOf cat list ar) t i
     unfolding complete pathTo

@@ -1,5 +1,5 @@
--- Stores that do not meet demand 3, each refuted on the bench table: one that gets the first segment and then only answers GE, one whose GNP runs on
--- into the next parent's dependents. Assumes nothing.
+-- Stores that do not meet demand 3, each refuted on the bench table: one that gets one segment and from then on answers GE, one whose GNP goes on
+-- beneath the next parent. Assumes nothing.
 use mathlib.Core.Path.{_≡_, refl, ap}
 use mathlib.Core.Bool.{true, false}
 use mathlib.Core.List.{[], _∷_, _++_}

@@ -3,7 +3,7 @@
 -- Of two lists, each of at least one argument, that joined are one list without fault: get-next on the first until GE, with get-next-within-parent
 -- on the second until GE under each cell found, shows the same cells with the same data, in the same order, each once, as get-next alone on the joined
 -- list until GE. Both equal what is picked by reading every cell from first to last and testing it with its ancestors.
--- And: "A get-next loop with one list, on input that no check refuses, answers GB or GE at the latest on call n + 1."
+-- And R66: when a loop of get-next has come to its end.
 --
 -- Assumes nothing: this is the statement; the proof is in proofs/.
 use mathlib.Core.Path.{_≡_}
@@ -55,12 +55,12 @@ abbrev pub Ascending : List ℕ → Type 0
 Ascending [] = Unit {0}
 Ascending (x ∷ xs) = AllAbove x xs × Ascending xs
 
--- GB: "GN or GHN, empty list, no cell left"; GE: "other get with no match"
+-- the status that ends a loop: GB (R50) or GE (R51)
 abbrev pub noMore : Bytes → Status
 noMore [] = GB
 noMore (x ∷ xs) = GE
 
--- input that no check refuses; AB: "area shorter than C - 1"
+-- input that no check refuses, with an area that is long enough (R56)
 pub record Accepted (cat tab list area : Bytes) : Type 0 where
   pub catalogue : goodCatalogue cat ≡ true
   pub table : goodTable cat tab ≡ true

@@ -22,8 +22,7 @@ module _ (cat list : Bytes) where
   abbrev pub heeds : Segment → Argument → Bool
   heeds s a = not (sameType (a .code) (s .code)) || satisfies cat s (meant cat list (a .qualification))
 
-  -- "A segment matches a list when it has the last type and it and its ancestors satisfy every argument for their type. .. The empty list matches
-  -- every segment."
+  -- a cell matches a list (R28, R29), asked of its row argument by argument
   abbrev pub meets : List Segment → List Argument → ℕ → Bool
   meets cs [] i = true
   meets cs (a ∷ ar) i = sameType (segment cs i .code) (lastArgument (a ∷ ar) .code) && every (λ j. every (heeds (segment cs j)) (a ∷ ar)) (rowAt cat cs i)

@@ -1,4 +1,4 @@
--- How a report shows cells: "each hit is its cell number, 2 bytes, high first", the first one at the front. Assumes nothing: these are definitions.
+-- How a report shows cells (R69): each by its number, 2 bytes (R1), the first one at the front. Assumes nothing: these are definitions.
 use mathlib.Core.List.{List, [], _∷_, _++_}
 use Prim.Native.Nat.{ℕ, suc, _+_, _*_, _/_, _%_}
 use lib.Dec.{ltb}

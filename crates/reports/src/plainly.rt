@@ -16,8 +16,7 @@ ghost use Rattle.report_loops.specs.Plain.{picked};
 ghost use Rattle.reports.specs.Shown.{shownFrom};
 ghost use Rattle.reports.specs.Given.{GivenBoth};
 
-// A cell matches where its level is the last type's and its path agrees down to it: "it has the last type and it and its ancestors satisfy every
-// argument for their type".
+// A cell matches (R28) where its level is the last type's and its path agrees down to it.
 pub(crate) fn plain_sound(
     cat: &[u8],
     tab: &[u8],

@@ -5,7 +5,7 @@ ghost use Prim.Native.Nat.{_+_, _<_};
 ghost use Rattle.terms.specs.Choice.{pick};
 ghost use Rattle.reports.specs.Shown.{putHit};
 
-// "its cell number, 2 bytes, high first". A hit that there is no room for is counted all the same, so that a report can be counted before it is written.
+// R69: one hit. A hit that there is no room for is counted all the same, so that a report can be counted before it is written.
 pub(crate) fn put_hit(out: &mut [u8], k: usize, c: CellNumber)
     requires { ⌜ (k < 65536) × (c .0 < 65536) ⌝ }
     ensures { λ _. ⌜ now (out .exit) ≡ putHit k (c .0) (now (out .entry)) ⌝ }

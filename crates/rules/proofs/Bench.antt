@@ -1,4 +1,4 @@
--- B1 to B10 hold, "proved as a single table with a single claim", and so do the further cases and the rules of a catalogue. Each is computed from the
+-- B1 to B10 hold, as one table with one claim, and so do the further cases and the rules of a catalogue. Each is computed from the
 -- definitions. Assumes nothing.
 use lib.Dec.{T}
 use Rattle.rules.specs.Cases.{all, right}

@@ -1,4 +1,4 @@
--- The listing cell by cell, and "p is i or an ancestor of it" by numbers. Assumes nothing.
+-- The listing cell by cell, and R20 on a cell by numbers. Assumes nothing.
 use mathlib.Core.Path.{_≡_, refl, ap, sym, _∙_}
 use mathlib.Core.Bool.{Bool, true, false, _&&_}
 use mathlib.Core.List.{List, map}
@@ -28,7 +28,7 @@ pub listing-length : (cat tab : Bytes) → length (listing cat tab) ≡ count ta
 unfolding listing
 listing-length cat tab = length-map (range 0 (count tab)) (segmentAt cat tab) ∙ length-range 0 (count tab)
 
--- LAW 24: "p is i or an ancestor of it", as a test by numbers: i lies in p's run
+-- LAW 24: p is the cell or above it (R20), as a test by numbers: i lies in p's run
 module _ (cat : Bytes) (cs : List Segment) where
   run-some : (p : ℕ) → p < endAt cat cs p
   unfolding endAt runAt

@@ -21,7 +21,7 @@ use Rattle.rules.proofs.Every.{every-at}
 use Rattle.rules.proofs.Joined.{two, three, six, seven}
 use Rattle.rules.proofs.Catalogue.{good-type}
 
--- "Byte 5: number of types T, 1 to 32. Byte 6: number of fields F, 0 to 64." "The block is exactly 8 + 8T + 4F bytes."
+-- R2 and R3, as facts
 pub record HeaderFacts (cat : Bytes) : Type 0 where
   pub types-least : 1 ≤ types cat
   pub types-most : types cat ≤ 32
@@ -78,7 +78,7 @@ key-of kind start long most h = elim (is (eqb kind 0)) [
 ]
 
 module _ (cat : Bytes) where
-  -- "type not in 1..T", as numbers and back
+  -- R7: which codes are types, as numbers and back
   pub type-range : (t : TypeCode) → isType cat t ≡ true → (1 ≤ t .0) × (t .0 ≤ types cat)
   unfolding isType
   type-range t h = let a = two _ _ h in (leb-true 1 (t .0) (a .0), leb-true (t .0) (types cat) (a .1))

@@ -17,12 +17,12 @@ module _ (cat tab : Bytes) where
   unfolding listingText
   catalogue-first e = rw e
 
-  -- "a longer file is TX"
+  -- R68: a file that is too long
   pub longer-file : goodCatalogue cat ≡ true → 65536 < length tab → listingText cat tab ≡ lastLine TX
   unfolding listingText
   longer-file e l = rw (e, lt-ltb 65536 (length tab) l)
 
-  -- "It takes tables of up to 65,536 bytes"
+  -- R68: a file that is not
   pub taken-file : goodCatalogue cat ≡ true → length tab ≤ 65536 → listingText cat tab ≡ linesFrom (suc (count tab)) cat tab fresh
   unfolding listingText
   taken-file e l = rw (e, le-ltb 65536 (length tab) l)

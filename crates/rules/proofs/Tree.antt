@@ -1,4 +1,4 @@
--- Forest and cells: the search of document 000 finds exactly what document 01 calls a match. Assumes nothing.
+-- Forest and cells: the search of document 000 finds exactly the matches of R28. Assumes nothing.
 use mathlib.Core.Path.{_≡_, refl, ap, sym, _∙_}
 use mathlib.Core.Bool.{Bool, true, false, _&&_}
 use mathlib.Core.List.{List, [], _∷_, _++_, map, reverse, append-assoc, reverse-cons, map-map, map-id}

@@ -1,4 +1,4 @@
--- "The argument list": read from the left, the first fault answers; and completed with its implied levels. Assumes nothing: these are definitions.
+-- The argument list (R24 to R27), read; and completed with its implied levels (R29, R30). Assumes nothing: these are definitions.
 use mathlib.Core.Bool.{Bool, true, false, _&&_, _||_, not}
 use mathlib.Core.List.{List, [], _∷_, map, reverse}
 use Prim.Native.Nat.{ℕ, zero, suc, _+_}
@@ -18,7 +18,7 @@ use Rattle.terms.specs.Choice.{pick}
 use Rattle.terms.specs.Names.{code, field, sameType}
 use Rattle.rules.specs.Block.{Bytes, byte, part}
 use Rattle.rules.specs.Catalogue.{fields, fieldType, fieldLength, isType, parentOf, typeBeneath, lineage}
--- "operator (0 none, 1 =, 2 ≠, 3 <, 4 ≤, 5 >, 6 ≥)"
+-- R25: the operators by their numbers
 unfoldable pub use Rattle.terms.specs.Operators.{operatorOf}
 
 -- the list as far as it was read, and its fault: Blank, if it has none
@@ -37,11 +37,11 @@ pub record Level : Type 0 where
   pub asked : Asked
 
 module _ (cat : Bytes) (list : Bytes) where
-  -- "type not in 1..T, or not beneath the type before it"; 0 where no type is before it
+  -- R26: t may come behind the type before it; 0 where no type is before it
   unfoldable pub goodNext : TypeCode → TypeCode → Bool
   goodNext before t = isType cat t && (eqb (before .0) 0 || typeBeneath cat t before)
 
-  -- "not in 1..F or of another type"
+  -- R27: the field is one of this type
   unfoldable pub isFieldOf : TypeCode → FieldNumber → Bool
   isFieldOf t f = leb 1 (f .0) && leb (f .0) (fields cat) && sameType (fieldType cat f) t
 
@@ -60,7 +60,7 @@ module _ (cat : Bytes) (list : Bytes) where
       (pick (ltb (length list) (at + 3 + fieldLength cat f)) (Fault AJ)
       (Got (record { code = t; qualification = Test (operatorOf o) f (at + 3); next = at + 3 + fieldLength cat f }))))))))
 
-  -- "The list is read from the left, one argument at a time": at most n of them
+  -- R26: read from byte `at` on, at most n arguments, up to the first fault
   unfoldable pub argumentsFrom : ℕ → TypeCode → ℕ → ListRead
   argumentsFrom zero before at = record { fault = Blank; arguments = [] }
   argumentsFrom (suc n) before at = elim (leb (length list) at) [
@@ -79,12 +79,12 @@ module _ (cat : Bytes) (list : Bytes) where
   meant None = unqualified
   meant (Test o f v) = qualified o f (part list v (fieldLength cat f))
 
-  -- "Levels left out are implied."
+  -- R29: what the list asks of a type
   unfoldable pub askedOf : List Argument → TypeCode → Asked
   askedOf [] t = implied
   askedOf (a ∷ ar) t = elim (sameType (a .code) t) [ true ↦ meant (a .qualification) | false ↦ askedOf ar t ]
 
-  -- "Complete the list with its implied levels from the root down", down to type t (000, formula 32)
+  -- R30: the list completed down to type t (document 000, formula 32)
   unfoldable pub complete : List Argument → TypeCode → List Level
   complete ar t = map (λ u. record { code = code u; asked = askedOf ar (code u) }) (reverse (lineage cat t))
 
@@ -99,11 +99,11 @@ isQualified None = false
 isQualified (Test o f v) = true
 
 module _ (cat : Bytes) (list : Bytes) where
-  -- "A get's empty list is not completed"; the others, down to the last argument's type
+  -- R31: the empty list is not completed; the others, down to the last argument's type
   abbrev pub getLevels : List Argument → List Level
   getLevels [] = []
   getLevels (a ∷ ar) = complete cat list (a ∷ ar) (lastArgument (a ∷ ar) .code)
 
-  -- ISRT: "the list without its last argument, completed down to the parent type": the last one's own type is not among these levels
+  -- R40: what ISRT seeks its parent by; the last argument's own type is not among these levels
   abbrev pub parentLevels : List Argument → List Level
   parentLevels ar = complete cat list ar (parentOf cat (lastArgument ar .code))

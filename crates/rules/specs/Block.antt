@@ -1,4 +1,4 @@
--- Blocks of bytes: "Bytes are counted from 0." Assumes nothing: these are definitions.
+-- Blocks of bytes (R1). Assumes nothing: these are definitions.
 use mathlib.Core.Bool.{Bool, true, false, _&&_, _||_}
 use mathlib.Core.List.{List, [], _∷_}
 use Prim.Native.Nat.{ℕ, suc, _+_, _*_, _/_, _%_}
@@ -36,7 +36,7 @@ anyOf p (x ∷ xs) = p x || anyOf p xs
 unfoldable pub zeros : Bytes → Bool
 zeros b = every (λ x. eqb x 0) b
 
--- "Mark "HDC"", "Mark "HDT"": H, D and the third letter, then "16-bit version 1"
+-- R2, R10: the mark, H, D and the third letter, then the version
 unfoldable pub marked : ℕ → Bytes → Bool
 marked letter b = eqb (byte b 0) 0x48 && eqb (byte b 1) 0x44 && eqb (byte b 2) letter && eqb (word b 3) 1
 

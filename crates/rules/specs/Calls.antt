@@ -1,4 +1,4 @@
--- "The calls", over the cells by number: each finds, answers and says what becomes of the cells, the area and the position.
+-- The calls (R32 to R47), over the cells by number: each finds, answers and says what becomes of the cells, the area and the position.
 -- The refusals that look only at what is lent stand in Outcome. Assumes nothing: these are definitions.
 use mathlib.Core.Bool.{Bool, true, false, _&&_, not}
 use mathlib.Core.Option.{Option, none, some}
@@ -38,26 +38,26 @@ pub record After : Type 0 where
   pub cells : Option (List Segment)
   pub area : Bytes
 
--- "For status 10 and above all four are 0."
+-- R46: from status 10 on nothing is told
 abbrev pub bare : Status → Position → Answer
 bare s p = record { status = s; position = p; code = code 0; level = 0; length = 0; removed = 0 }
 
--- "20 and above changes nothing, area included"
+-- R62: what a refusal leaves
 abbrev pub refused : Status → Position → Bytes → After
 refused s p area = record { answer = bare s p; change = nothing; cells = none; area = area }
 
--- After request K2: 11 and 12, GE and GP, clear the hold only; 10, GB, makes the position fresh, so that the next get-next begins at the first root
+-- R62: what GE and GP leave of the position; R63: what GB makes of it
 abbrev pub afterMiss : Status → Position → Position
 afterMiss s p = pick (eqb (number s) 10) fresh (holdDropped p)
 
 abbrev pub missed : Status → Position → Bytes → After
 missed s p area = record { answer = bare s (afterMiss s p); change = nothing; cells = none; area = area }
 
--- "writes its L bytes to the front of the area; the area's other bytes stay"
+-- R37: bytes written to the front of the area
 abbrev pub over : Bytes → Bytes → Bytes
 over b area = b ++ drop (length b) area
 
--- GB: "GN or GHN, empty list, no cell left"
+-- R50, R51: GB or GE
 abbrev pub missStatus : List Level → Status
 missStatus [] = GB
 missStatus (l ∷ ls) = GE
@@ -67,7 +67,7 @@ abbrev pub isOneOf : List ℕ → Parentage → Bool
 isOneOf above Absent = false
 isOneOf above (Of p) = isIn (p .0) above
 
--- "1 GU, 2 GN, 3 GNP, 4 GHU, 5 GHN, 6 GHNP, 7 ISRT, 8 REPL, 9 DLET." "The hold forms set the hold, the plain ones clear it."
+-- R32, R38: which call a number is, and whether it holds
 abbrev pub byNumber : ℕ → (Bool → After) → (Bool → After) → (Bool → After) → After → After → After → After
 byNumber c gu gn gnp isrt repl dlet =
     pick (eqb c 1) (gu false) (pick (eqb c 2) (gn false) (pick (eqb c 3) (gnp false)
@@ -75,7 +75,7 @@ byNumber c gu gn gnp isrt repl dlet =
     (pick (eqb c 7) isrt (pick (eqb c 8) repl dlet)))))))
 
 module _ (cat : Bytes) where
-  -- "Type, level and length are those of the segment got, inserted, replaced or deleted"
+  -- R46: what is told of the segment that the call was about
   unfoldable pub answerOf : Status → Position → Segment → ℕ → Answer
   answerOf s p x removed = record { status = s; position = p; code = x .code; level = level cat (x .code); length = long cat x; removed = removed }
 
@@ -84,7 +84,7 @@ module _ (cat : Bytes) where
   changed p x removed ch cs area = record { answer = answerOf Blank p x removed; change = ch; cells = some cs; area = area }
 
   module _ (cs : List Segment) where
-    -- GA: "empty list, place was on a cell, found level smaller"; GK: "the same, level equal and type different"
+    -- R49: GA, GK or blank
     abbrev pub levelStatus : List Level → Place → ℕ → Status
     levelStatus [] (On c) i =
         pick (ltb (levelAt cat cs i) (levelAt cat cs (c .0))) GA
@@ -97,7 +97,7 @@ module _ (cat : Bytes) where
     parentEnd Absent = 0
     parentEnd (Of p) = endAt cat cs (p .0)
 
-    -- II: "unique key equal to a twin's", among the n cells from i on
+    -- R59: a twin among the n cells from i on has this unique key
     unfoldable pub keyTaken : Segment → ℕ → ℕ → Bool
     keyTaken x i n = anyOf (λ j. sameKey cat x (segment cs j)) (range i n)
 
@@ -112,15 +112,15 @@ module _ (cat : Bytes) where
       area = over (shownBytes cat (segment cs (c .0))) area;
     }
 
-    -- "GU: first match in cell order, along the position." "GU and GN set the parentage to the found cell."
+    -- GU (R33, R36): along the position, and what was found is the parentage
     unfoldable pub getUnique : Bool → List Level → After
     getUnique hold ls = gotten GE (λ i. Blank) (λ i. Of (cell i)) hold (along cat cs ls (pos .place))
 
-    -- "GN: first match after the place (from gap i: cell i or later), not along the position."
+    -- GN (R34, R36): from the cell after the place on
     unfoldable pub getNext : Bool → List Level → After
     getNext hold ls = gotten (missStatus ls) (levelStatus cs ls (pos .place)) (λ i. Of (cell i)) hold (firstMatch cat cs ls (afterPlace (pos .place)) (length cs))
 
-    -- "GNP: as GN, and beneath p. The parentage stays." The cells after the place and beneath p are those up to the end of p's run.
+    -- GNP (R35). The cells after the place and beneath p are those up to the end of p's run.
     unfoldable pub getNextWithin : Bool → List Level → After
     getNextWithin hold ls =
         gotten GE (levelStatus cs ls (pos .place)) (λ i. pos .parentage) hold (firstMatch cat cs ls (afterPlace (pos .place)) (parentEnd cs (pos .parentage)))
@@ -138,37 +138,36 @@ module _ (cat : Bytes) where
         let r = i + spot (segmentLevel cat) x (goesBefore cat x) (drop i cs) in
         inserted m x above (keyTaken cs x i n) r (applied (put r (x ∷ [])) cs)
 
-    -- "ISRT without parent": GE
+    -- R51: GE without a parent
     abbrev pub insertUnder : ℕ → Segment → Found → After
     insertUnder m x Nothing = missed GE pos area
     insertUnder m x (At c) = insertAmong m x (rowAt cat cs (c .0)) (suc (c .0)) (runAt cat cs (c .0) - 1)
 
-    -- "For type 1 there is no parent. Otherwise the parent is the first match, along the position," of the levels. "The new cell, with the area's
-    -- first L bytes, goes among its twins"
+    -- ISRT (R39 to R42): the parent by the levels, and the new segment among its twins
     unfoldable pub insert : ℕ → TypeCode → List Level → After
     insert m t ls =
         let x = arriving cat t area in
         pick (eqb (t .0) 1) (insertAmong m x [] 0 (length cs)) (insertUnder m x (along cat cs ls (pos .place)))
 
-    -- REPL: "Place and parentage stay; the hold goes." DA: "REPL changes a key byte"
+    -- REPL: what it leaves of the position (R43), or DA (R58)
     unfoldable pub replaced : ℕ → Segment → List Segment → After
     replaced i x new =
         pick (not (sameBytes (key cat (segment cs i)) (key cat x))) (refused DA pos area)
         (changed (holdDropped pos) x 0 (swap i x) new area)
 
-    -- the held cell's type with "the area's first L bytes"
+    -- the held cell's type with new data
     unfoldable pub replacement : ℕ → Segment
     replacement i = arriving cat (segment cs i .code) area
 
-    -- "stores the area's first L bytes in the held cell"
+    -- REPL (R43)
     unfoldable pub replace : After
     replace = let i = placeNumber (pos .place) in replaced i (replacement i) (applied (swap i (replacement i)) cs)
 
-    -- DLET: "The place is the gap where the run began. The parentage goes if it was in the run. No hold."
+    -- DLET: what it leaves of the position (R45)
     unfoldable pub deleted : ℕ → ℕ → List Segment → After
     deleted i n new = changed (afterDelete i n pos) (segment cs i) n (cut i n) new area
 
-    -- "removes the held cell's run; later cells move down"
+    -- DLET (R44)
     unfoldable pub delete : After
     delete = let i = placeNumber (pos .place) in deleted i (runAt cat cs i) (applied (cut i (runAt cat cs i)) cs)
 

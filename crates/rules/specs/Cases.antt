@@ -1,4 +1,4 @@
--- What a case says of a call, a check, the maker, the listing, and the test of a case. None of these is a rule: the tables of cases say what 01 says, each
+-- What a case says of a call, a check, the maker, the listing, and the test of a case. None of these is a rule: the tables of cases show the rules, each
 -- in a file of its own, and the claims stand in proofs/. Assumes nothing: these are definitions.
 pub mod Bench
 pub mod Further
@@ -171,7 +171,7 @@ rightBy store (writes n b) = same (decimal n) b
 abbrev pub right : Case → Bool
 right c = rightBy outcome c
 
--- what is told where nothing was got or changed: "For status 10 and above all four are 0."
+-- what is told where nothing was got or changed (R46)
 abbrev pub nothingTold : Says
 nothingTold = tells 0 0 0
 

@@ -1,4 +1,4 @@
--- "The catalogue": what the block says of a type and of a field, and the check. Assumes nothing: these are definitions.
+-- The catalogue (R2 to R8): what the block says of a type and of a field, and the check. Assumes nothing: these are definitions.
 use mathlib.Core.Bool.{Bool, _&&_}
 use mathlib.Core.List.{List}
 use Prim.Native.Nat.{ℕ, zero, suc, _+_, _-_, _*_}
@@ -12,23 +12,23 @@ use Rattle.forest.specs.Types as Types
 use Rattle.forest.specs.Numbers.{range, isIn}
 use Rattle.rules.specs.Block.{Bytes, byte, part, every, zeros, marked}
 
--- "start and length are at least 1 and start + length - 1 is at most L"
+-- R5: a span within L bytes
 abbrev pub goodSpan : ℕ → ℕ → ℕ → Bool
 goodSpan start long L = leb 1 start && leb 1 long && leb (start + long - 1) L
 
 module _ (cat : Bytes) where
-  -- "Byte 5: number of types T", "Byte 6: number of fields F"
+  -- R2: T and F
   unfoldable pub types : ℕ
   types = byte cat 5
 
   unfoldable pub fields : ℕ
   fields = byte cat 6
 
-  -- "Then T entries of 8 bytes": type codes run from 1, so that the entry of type t begins at byte 8t
+  -- R3: type codes run from 1, so that the entry of type t begins at byte 8t
   unfoldable pub typeByte : TypeCode → ℕ → ℕ
   typeByte t k = byte cat (8 * t .0 + k)
 
-  -- "Type entry: parent code; data length L; key kind (0 none, 1 unique, 2 multiple); key start, counted from 1; key length; three zero bytes"
+  -- R4: what the entry of a type says
   unfoldable pub parentOf : TypeCode → TypeCode
   parentOf t = code (typeByte t 0)
 
@@ -48,11 +48,11 @@ module _ (cat : Bytes) where
   unfoldable pub keyValue : TypeCode → ℕ
   keyValue t = typeByte t 7
 
-  -- "F entries of 4": field numbers run from 1
+  -- R3: field numbers run from 1
   unfoldable pub fieldByte : FieldNumber → ℕ → ℕ
   fieldByte f k = byte cat (4 + 8 * types + 4 * f .0 + k)
 
-  -- "Field entry: type code, start, length, zero byte"
+  -- R6: what the entry of a field says
   unfoldable pub fieldType : FieldNumber → TypeCode
   fieldType f = code (fieldByte f 0)
 
@@ -70,11 +70,11 @@ module _ (cat : Bytes) where
   unfoldable pub lineage : TypeCode → List ℕ
   lineage t = Types.lineage (λ u. parentOf (code u) .0) (t .0)
 
-  -- "The root type has level 1, a child one more"
+  -- R8: how many types from this one up to the root's
   unfoldable pub level : TypeCode → ℕ
   level t = length (lineage t)
 
-  -- "type not in 1..T"
+  -- R7: a type of the catalogue
   unfoldable pub isType : TypeCode → Bool
   isType t = leb 1 (t .0) && leb (t .0) types
 
@@ -87,29 +87,29 @@ module _ (cat : Bytes) where
   largest zero = 0
   largest (suc k) = let m = largest k in pick (ltb m (lengthOf (code (suc k)))) (lengthOf (code (suc k))) m
 
-  -- "With kind 0, start and length are 0. Otherwise .."
+  -- R4, R5: the kind, and the span, or zeros where there is no key
   unfoldable pub goodKey : TypeCode → Bool
   goodKey t =
       pick (eqb (keyKind t) 0) (eqb (keyStart t) 0 && eqb (keyLength t) 0)
       (leb (keyKind t) 2 && goodSpan (keyStart t) (keyLength t) (lengthOf t))
 
-  -- "Type 1 has parent 0 and no other has. The parent of type k > 1 is k - 1 or an ancestor of k - 1."
+  -- R7: whose child type k may be
   unfoldable pub goodParent : ℕ → Bool
   goodParent k = pick (eqb k 1) (eqb (parentOf (code k) .0) 0) (isIn (parentOf (code k) .0) (lineage (code (k - 1))))
 
-  -- "L, 1 to 120", "three zero bytes", "no level exceeds 15"
+  -- R4, R7, R8: an entry that is right
   unfoldable pub goodType : ℕ → Bool
   goodType k =
       goodParent k && leb 1 (lengthOf (code k)) && leb (lengthOf (code k)) 120 && goodKey (code k)
       && zeros (part cat (8 * k + 5) 3) && leb (level (code k)) 15
 
-  -- "Field entry: type code from 1 to T, start, length (same rule against that type's L), zero byte."
+  -- R6: an entry of a field that is right
   unfoldable pub goodField : ℕ → Bool
   goodField f =
       isType (fieldType (field f)) && goodSpan (fieldStart (field f)) (fieldLength (field f)) (lengthOf (fieldType (field f)))
       && eqb (fieldByte (field f) 3) 0
 
-  -- "T, 1 to 32", "F, 0 to 64", "Byte 7: zero", "The block is exactly 8 + 8T + 4F bytes."
+  -- R2, R3: the header, and how long the block is
   unfoldable pub goodHeader : Bool
   goodHeader =
       leb 8 (length cat) && marked 0x43 cat && leb 1 types && leb types 32 && leb fields 64 && eqb (byte cat 7) 0

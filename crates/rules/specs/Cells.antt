@@ -1,4 +1,4 @@
--- "The table", as cells by number: segments, the order of values, twins, levels, runs, ancestors, and which listings are well formed.
+-- The table as cells by number (R13 to R17): segments, the order of values, twins, levels, runs, ancestors, and which listings are well formed.
 -- No byte of a table block is named here, so that a second layout can use it. Assumes nothing: these are definitions.
 use mathlib.Core.Bool.{Bool, true, false, _&&_, _||_, not}
 use mathlib.Core.List.{List, [], _∷_}
@@ -18,7 +18,7 @@ use Rattle.rules.specs.Block.{Bytes, part}
 use Rattle.rules.specs.Order.{valueOrder}
 use Rattle.rules.specs.Catalogue.{isType, parentOf, lengthOf, keyKind, keyStart, keyLength, keyValue, level}
 
--- "A cell is its type code, L data bytes": the segment that a cell holds
+-- R13: the segment that a cell holds
 pub record Segment : Type 0 where
   pub code : TypeCode
   pub bytes : Bytes
@@ -39,11 +39,11 @@ module _ (cat : Bytes) where
   unfoldable pub segmentOf : TypeCode → Bytes → Segment
   segmentOf t b = record { code = t; bytes = take (lengthOf cat t) b }
 
-  -- the segment that new data makes: "the area's first L bytes"
+  -- the segment that new data makes (R39, R43)
   unfoldable pub arriving : TypeCode → Bytes → Segment
   arriving t area = segmentOf t area
 
-  -- what a get writes to the area: "its L bytes"
+  -- what a get writes to the area (R37)
   unfoldable pub shownBytes : Segment → Bytes
   shownBytes s = s .bytes
 
@@ -59,7 +59,7 @@ module _ (cat : Bytes) where
   unfoldable pub keyOrder : Segment → Segment → Order
   keyOrder c d = valueOrder (keyValue cat (c .code)) (key c) (key d)
 
-  -- "Twins with a unique key ascend strictly, with a multiple key they never descend; without a key any order stands."
+  -- R15: c may stand before its twin d
   unfoldable pub twinOrder : Segment → Segment → Bool
   twinOrder c d =
       pick (eqb (keyKind cat (c .code)) 0) true
@@ -73,19 +73,18 @@ module _ (cat : Bytes) where
   unfoldable pub isChild : ℕ → Segment → Bool
   isChild p s = isType cat (s .code) && eqb (parentOf cat (s .code) .0) p
 
-  -- "groups of child types in ascending code", "a row of segments of one type": d may stand behind its sibling c
+  -- R14, R15: d may stand behind its sibling c
   abbrev pub siblings : Segment → Segment → Bool
   siblings c d = ok typeNumber isChild twinOrder c d
 
-  -- a new segment x stands before its sibling c: one of a later group, or a twin of greater key ("after smaller and equal keys, before greater;
-  -- unkeyed, last")
+  -- R41: a new segment x stands before its sibling c, which is one of a later group or a twin of greater key
   unfoldable pub goesBefore : Segment → Segment → Bool
   goesBefore x c = ltb (typeNumber x) (typeNumber c) || (sameType (x .code) (c .code) && isSmaller (keyOrder x c))
 
   abbrev pub segmentLevel : Segment → ℕ
   segmentLevel s = level cat (s .code)
 
-  -- "The first n cells are the parent-first listing of a forest .. The top is one group of type 1."
+  -- R14: the cells list a forest whose top is of type 1
   unfoldable pub goodListing : List Segment → Bool
   goodListing cs = formed typeNumber isChild siblings 0 (forestOf segmentLevel cs)
 
@@ -93,11 +92,11 @@ module _ (cat : Bytes) where
     unfoldable pub levelAt : ℕ → ℕ
     levelAt i = segmentLevel (segment cs i)
 
-    -- "The run of a segment is its cell and all cells beneath it": how many they are
+    -- R17: how many cells the run of a segment has
     unfoldable pub runAt : ℕ → ℕ
     runAt i = run levelAt (length cs) i
 
-    -- "the run ends at the first later cell of the same or a smaller level, or at n"
+    -- R17: where it ends
     unfoldable pub endAt : ℕ → ℕ
     endAt i = i + runAt i
 

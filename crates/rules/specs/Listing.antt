@@ -28,7 +28,7 @@ decimal n = digits 5 n
 unfoldable pub hexDigit : ℕ → ℕ
 hexDigit n = pick (ltb n 10) (0x30 + n) (0x37 + n)
 
--- "upper-case hex"
+-- two hex digits a byte (R67)
 unfoldable pub hex : Bytes → Bytes
 hex [] = []
 hex (b ∷ bs) = hexDigit (b / 16) ∷ hexDigit (b % 16) ∷ hex bs
@@ -39,17 +39,17 @@ space = 0x20
 abbrev pub lineEnd : ℕ
 lineEnd = 0x0A
 
--- "prints cell, type, level, status (-- for blank) and the L data bytes in upper-case hex, one space between, each line ended by LF"
+-- R67: the line of a segment
 unfoldable pub cellLine : Answer → Bytes → Bytes
 cellLine a area =
     decimal (placeNumber (a .position .place)) ++ (space ∷ decimal (a .code .0)) ++ (space ∷ decimal (a .level)) ++ (space ∷ letters (a .status))
     ++ (space ∷ hex (take (a .length) area)) ++ (lineEnd ∷ [])
 
--- "the last line is the final status letters"
+-- R67: the last line
 unfoldable pub lastLine : Status → Bytes
 lastLine s = letters s ++ (lineEnd ∷ [])
 
--- "issues GN with an empty list from fresh to the first GB or refusal": at most k calls
+-- R67: the lines of at most k calls
 unfoldable pub linesFrom : ℕ → Bytes → Bytes → Position → Bytes
 linesFrom zero cat tab pos = []
 linesFrom (suc k) cat tab pos =
@@ -59,7 +59,7 @@ linesFrom (suc k) cat tab pos =
       | false ↦ cellLine (o .answer) (o .area) ++ linesFrom k cat tab (o .answer .position)
     ]
 
--- "It takes tables of up to 65,536 bytes; a longer file is TX, after CX; a missing one counts as empty." Call n + 1 is the last.
+-- R68: the whole output. Call n + 1 is the last.
 unfoldable pub listingText : Bytes → Bytes → Bytes
 listingText cat tab =
     pick (not (goodCatalogue cat)) (lastLine CX)

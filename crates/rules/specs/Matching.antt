@@ -28,7 +28,7 @@ module _ (cat : Bytes) where
   unfoldable pub fieldBytes : FieldNumber → Segment → Bytes
   fieldBytes f s = part (s .bytes) (fieldStart cat f - 1) (fieldLength cat f)
 
-  -- "The segment's field stands left of the operator."
+  -- R25: the field on the left, the value on the right
   unfoldable pub tested : Segment → Operator → FieldNumber → Bytes → Bool
   tested s o f v = holds o (valueOrder (fieldValue cat f) (fieldBytes f s) v)
 
@@ -37,12 +37,12 @@ module _ (cat : Bytes) where
   satisfies s unqualified = true
   satisfies s (qualified o f v) = tested s o f v
 
-  -- a segment "agrees in type and satisfies" one level
+  -- R28, R30: a segment against one level
   unfoldable pub agrees : Level → Segment → Bool
   agrees l s = sameType (l .code) (s .code) && satisfies s (l .asked)
 
   module _ (cs : List Segment) where
-    -- "the path from root to that cell"
+    -- the way from the root down to a cell
     unfoldable pub pathTo : ℕ → List ℕ
     pathTo i = reverse (rowAt cat cs i)
 
@@ -53,8 +53,7 @@ module _ (cat : Bytes) where
     agree (l ∷ ls) [] = false
     agree (l ∷ ls) (i ∷ path) = elim (agrees l (segment cs i)) [ true ↦ agree ls path | false ↦ false ]
 
-    -- "A segment matches a list when it has the last type and it and its ancestors satisfy every argument for their type. .. The empty list matches
-    -- every segment." A list that is not empty counts here as completed, and a completed list is not empty.
+    -- R28, R29. A list that is not empty counts here as completed, and a completed list is not empty.
     unfoldable pub matches : List Level → ℕ → Bool
     matches [] i = true
     matches (l ∷ ls) i = agree (l ∷ ls) (pathTo i)
@@ -68,8 +67,7 @@ module _ (cat : Bytes) where
     unfoldable pub firstMatch : List Level → ℕ → ℕ → Found
     firstMatch ls i e = seek ls i (e - i)
 
-    -- "take the longest stretch of the path .. which agrees in type and satisfies the completed list level by level. Keep the part of it down to and
-    -- including its last implied level": the cell at which that part ends; q is what was kept so far
+    -- R30: the cell at which what is kept of the stretch ends; q is what was kept so far
     unfoldable pub keptOn : List Level → List ℕ → Found → Found
     keptOn [] path q = q
     keptOn (l ∷ ls) [] q = q
@@ -78,16 +76,16 @@ module _ (cat : Bytes) where
       | false ↦ q
     ]
 
-    -- "(nothing, if none)"; "In a gap nothing is kept."
+    -- R30, R31: what is kept from a place
     abbrev pub kept : List Level → Place → Found
     kept ls (On c) = keptOn ls (pathTo (c .0)) Nothing
     kept ls (Before c) = Nothing
 
-    -- "The rest of the list is sought only beneath what was kept; if no list is left, the kept segment is the answer."
+    -- R30: where what is left of the list is sought
     abbrev pub soughtBeneath : List Level → Found → Found
     soughtBeneath ls Nothing = firstMatch ls 0 (length cs)
     soughtBeneath ls (At c) = pick (eqb (levelAt cat cs (c .0)) (length ls)) (At c) (firstMatch ls (suc (c .0)) (endAt cat cs (c .0)))
 
-    -- "first match in cell order, along the position"
+    -- R30: the first match along the position
     unfoldable pub along : List Level → Place → Found
     along ls q = soughtBeneath ls (kept ls q)

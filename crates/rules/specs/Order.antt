@@ -8,7 +8,7 @@ use Rattle.terms.specs.declared.Order.the-variants.{Smaller, Equal, Greater}
 use Rattle.terms.specs.Choice.{pick}
 use Rattle.rules.specs.Block.{Bytes}
 
--- "Keys and fields compare as unsigned bytes, first byte heaviest."
+-- R16: how two values compare
 unfoldable pub order : Bytes → Bytes → Order
 order [] ys = Equal
 order (x ∷ xs) [] = Equal

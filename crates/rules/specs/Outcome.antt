@@ -44,8 +44,7 @@ isDlet c = eqb c 9
 abbrev pub isHeld : ℕ → Bool
 isHeld c = eqb c 8 || eqb c 9
 
--- The refusals in their order: "20, 21, 22, 23, list faults, 27, the other AJ, 28, 12, 29, then 10 and 11, 30, 31, 32". The first that holds answers;
--- Blank where none does. The last five are the call's own.
+-- The refusals in the order of R61. The first that holds answers; Blank where none does. The last five are the call's own.
 -- 20, 21, 22: the blocks and the position
 unfoldable pub unsound : Bytes → Bytes → Position → Status
 unsound cat tab pos =
@@ -54,7 +53,7 @@ unsound cat tab pos =
     (pick (not (goodPosition cat (listing cat tab) pos)) PX
     Blank))
 
--- 23, list faults, 27, the other AJ, 28, 12, 29: what is asked of them
+-- from AD to DJ: what is asked of them
 unfoldable pub misused : Bytes → Position → ℕ → Bytes → Bytes → Status
 misused cat pos c list area =
     let ar = listRead cat list .arguments in
@@ -68,7 +67,7 @@ misused cat pos c list area =
     (pick (isHeld c && not (pos .hold)) DJ
     Blank))))))
 
--- "20 and above changes nothing, area included"; below it only the position moves (`afterMiss`)
+-- R62: a refusal changes nothing, and below 20 only the position moves (`afterMiss`)
 unfoldable pub stopped : Status → Position → Bytes → After
 stopped s pos area = pick (leb 20 (number s)) (refused s pos area) (missed s pos area)
 
@@ -112,18 +111,18 @@ outcome cat tab pos c list area = outcomeOf called cat tab pos c list area
 unfoldable pub soundOutcome : Store
 soundOutcome cat tab pos c list area = landed cat tab (afterSound called cat tab pos c list area)
 
--- the position's block afterwards, where the position is lent as one: "20 and above changes nothing"
+-- the position's block afterwards, where the position is lent as one: a refusal leaves it (R62)
 unfoldable pub blockAfter : Bytes → Answer → Bytes
 blockAfter block a = pick (leb 20 (number (a .status))) block (positionBytes (a .position))
 
--- "The check of a catalogue answers 0 or CX, that of a table CX, TX or 0."
+-- R65: the two checks
 unfoldable pub checkCatalogue : Bytes → Status
 checkCatalogue cat = pick (not (goodCatalogue cat)) CX Blank
 
 unfoldable pub checkTable : Bytes → Bytes → Status
 checkTable cat tab = pick (not (goodCatalogue cat)) CX (pick (not (goodTable cat tab)) TX Blank)
 
--- "The maker of empty tables answers CX, or TX when the slice length fits no M, and then writes nothing; else header and zeros."
+-- R64: what the maker answers and writes
 unfoldable pub makeStatus : Bytes → Bytes → Status
 makeStatus cat tab = pick (not (goodCatalogue cat)) CX (pick (not (goodRoom cat tab)) TX Blank)
 

@@ -1,5 +1,5 @@
 -- Where a program stands, in the terms of document 000, appendix I: a current path and a parent path, each a way from the root down to a segment. What
--- becomes of them stands here, over paths alone; the numbers in brackets are formulas of 000. Document 01 adds the gap and the hold.
+-- becomes of them stands here, over paths alone; the numbers in brackets are formulas of 000. The gap (R18) and the hold (R21) are added.
 -- Assumes nothing: these are definitions.
 use mathlib.Core.Bool.{Bool, true, false, _&&_, not}
 use mathlib.Core.Option.{Option, none, some}
@@ -30,12 +30,12 @@ isPrefix [] p = true
 isPrefix (i ∷ q) [] = false
 isPrefix (i ∷ q) (j ∷ p) = eqb i j && isPrefix q p
 
--- the current path; or, of 01, the gap before the segment of this number
+-- the current path; or the gap before the segment of this number (R18)
 pub data Current : Type 0 where
   onPath : Path → Current
   inGap : ℕ → Current
 
--- current path, parent path (none: "missing"), and the hold of 01
+-- current path, parent path or none, and the hold (R21)
 pub record Standing : Type 0 where
   pub current : Current
   pub parent : Option Path
@@ -46,37 +46,37 @@ abbrev pub currentPath : Current → Path
 currentPath (onPath p) = p
 currentPath (inGap i) = []
 
--- (21) follows: what comes after the current path; from a gap, what stands behind it (01)
+-- (21) follows: what comes after the current path; from a gap, what stands behind it (R34)
 abbrev pub follows : Current → Path → Bool
 follows (onPath q) p = ltb (end q) (end p)
 follows (inGap i) p = leb i (end p)
 
--- (18) beneath: the parent path is the front of the path and not all of it; "If the parent path is missing no segment can be below it."
+-- (18) beneath: the parent path is the front of the path and not all of it; without a parent path nothing is beneath
 abbrev pub beneath : Option Path → Path → Bool
 beneath none p = false
 beneath (some q) p = isPrefix q p && not (isPrefix p q)
 
--- (41), (42) GU and GN found p: the position is (p, p); (43) GNP: (p, parent). The hold is that of the call (01).
+-- (41), (42) GU and GN found p: the position is (p, p); (43) GNP: (p, parent). The hold is that of the call (R38).
 abbrev pub movedTo : Path → Bool → Standing
 movedTo p hold = record { current = onPath p; parent = some p; hold = hold }
 
 abbrev pub movedWithin : Option Path → Path → Bool → Standing
 movedWithin parent p hold = record { current = onPath p; parent = parent; hold = hold }
 
--- before the first call, and again where get-next has come to the end (01, request K2): in front of the first segment, no parent path, no hold
+-- before the first call, and again where get-next has come to the end (R63): in front of the first segment, no parent path, no hold
 abbrev pub start : Standing
 start = record { current = inGap 0; parent = none; hold = false }
 
--- nothing was found, or a record was replaced (55): both paths stay, and the hold goes (01)
+-- nothing was found, or a record was replaced (55): both paths stay, and the hold goes (R62, R43)
 abbrev pub letGo : Standing → Standing
 letGo s = record { current = s .current; parent = s .parent; hold = false }
 
--- (56) adjust-insertion, by 01: the parent path stays if the new segment is beneath it, that is if inspos is that path or goes on from it
+-- (56) adjust-insertion, by R42: the parent path stays if the new segment is beneath it, that is if inspos is that path or goes on from it
 abbrev pub adjustInsertion : Path → Option Path → Option Path
 adjustInsertion inspos none = none
 adjustInsertion inspos (some q) = pick (isPrefix q inspos) (some q) none
 
--- (57) adjust-deletion: "if a segment of the parent path is deleted .. the parent path is set to undefined". One that is left begins at a segment
+-- (57) adjust-deletion: a parent path through the deleted segment is missing then. One that is left begins at a segment
 -- above the deleted one, so that no number on it changes.
 abbrev pub adjustDeletion : Path → Option Path → Option Path
 adjustDeletion del none = none
@@ -86,7 +86,7 @@ adjustDeletion del (some q) = pick (isPrefix del q) none (some q)
 abbrev pub afterPut : Path → ℕ → Standing → Standing
 afterPut inspos r s = record { current = onPath (inspos ++ (r ∷ [])); parent = adjustInsertion inspos (s .parent); hold = false }
 
--- (52) the segment of a path was deleted with all beneath it: the gap where it stood (01)
+-- (52) the segment of a path was deleted with all beneath it: the gap where it stood (R45)
 abbrev pub afterCut : Path → Standing → Standing
 afterCut del s = record { current = inGap (end del); parent = adjustDeletion del (s .parent); hold = false }
 

@@ -1,4 +1,4 @@
--- "The position": which are good, and its block of 8 bytes. Assumes nothing: these are definitions.
+-- Positions (R18 to R22): which are good; and the block of 8 bytes (R23). Assumes nothing: these are definitions.
 use mathlib.Core.Bool.{Bool, true, false, _&&_, not}
 use mathlib.Core.List.{List, [], _∷_, _++_}
 use Prim.Native.Nat.{ℕ}
@@ -17,18 +17,18 @@ use Rattle.rules.specs.Cells.{Segment, endAt, rowAt}
 
 -- which are good, in a table with these cells
 module _ (cat : Bytes) (cs : List Segment) where
-  -- "The place is either on a cell i < n or in the gap before cell i, i ≤ n."
+  -- R18: places that there are
   abbrev pub goodPlace : Place → Bool
   goodPlace (On c) = ltb (c .0) (length cs)
   goodPlace (Before c) = leb (c .0) (length cs)
 
-  -- "On cell i, p is i or an ancestor of it. In gap i, p < i and i is at most the end of p's run."
+  -- R20: which parentage may go with a place
   abbrev pub goodParentage : Place → Parentage → Bool
   goodParentage q Absent = true
   goodParentage (On c) (Of p) = isIn (p .0) (rowAt cat cs (c .0))
   goodParentage (Before c) (Of p) = ltb (p .0) (c .0) && leb (c .0) (endAt cat cs (p .0))
 
-  -- "a hold, which needs a place on a cell"
+  -- R21: a hold is on a cell
   abbrev pub goodHold : Place → Bool → Bool
   goodHold (On c) h = true
   goodHold (Before c) h = not h
@@ -48,7 +48,7 @@ parentageBytes (Of c) = 1 ∷ wordBytes (c .0)
 unfoldable pub positionBytes : Position → Bytes
 positionBytes p = placeBytes (p .place) ++ (parentageBytes (p .parentage) ++ (pick (p .hold) 1 0 ∷ 0 ∷ []))
 
--- "Anything else is a bad position": a hold in a gap, which no table has, stands for every other block
+-- R23: a hold in a gap, which no table has, stands for every block that is none
 abbrev pub nowhere : Position
 nowhere = record { place = Before (cell 0); parentage = Absent; hold = true }
 

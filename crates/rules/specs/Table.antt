@@ -1,4 +1,4 @@
--- "The table" as a block of bytes, to cells and back; its check, and the maker's bytes. Assumes nothing: these are definitions.
+-- The table (R10 to R14) as a block of bytes, to cells and back; its check, and the maker's bytes. Assumes nothing: these are definitions.
 use mathlib.Core.Bool.{Bool, _&&_}
 use mathlib.Core.List.{List, _∷_, _++_, map, flatMap}
 use Prim.Native.Nat.{ℕ, suc, _+_, _-_, _*_, _/_}
@@ -11,12 +11,12 @@ use Rattle.rules.specs.Block.{Bytes, byte, word, wordBytes, part, every,
 use Rattle.rules.specs.Catalogue.{types, lengthOf, largest}
 use Rattle.rules.specs.Cells.{Segment, segmentOf, goodListing}
 
--- "bytes 6 and 7 the count n, high byte first"
+-- R10: n
 unfoldable pub count : Bytes → ℕ
 count tab = word tab 6
 
 module _ (cat : Bytes) where
-  -- "C is 1 plus the largest L."
+  -- R11: C
   unfoldable pub cellSize : ℕ
   cellSize = 1 + largest cat (types cat)
 
@@ -39,21 +39,21 @@ module _ (cat : Bytes) where
     unfoldable pub listing : List Segment
     listing = map segmentAt (range 0 (count tab))
 
-    -- "M from 0 to 4,096; the slice is exactly 8 + M·C bytes"
+    -- R12: some M fits
     unfoldable pub goodRoom : Bool
     goodRoom = leb 8 (length tab) && eqb (length tab) (cellStart room) && leb room 4096
 
-    -- "L data bytes, and zeros to C"
+    -- R13: zeros behind the data of a cell
     unfoldable pub padded : ℕ → Bool
     padded i = zeros (part tab (suc (cellStart i) + lengthOf cat (typeAt i)) (cellSize - suc (lengthOf cat (typeAt i))))
 
-    -- the check of a table: "byte 5 the cell size C", "n is at most M", "Cells n and above are all zero."
+    -- the check of a table (R10 to R15)
     unfoldable pub goodTable : Bool
     goodTable =
         goodRoom && marked 0x54 tab && eqb (byte tab 5) cellSize && leb (count tab) room
         && every padded (range 0 (count tab)) && zeros (drop (cellStart (count tab)) tab) && goodListing cat listing
 
-  -- "A cell is its type code, L data bytes, and zeros to C."
+  -- R13: the bytes of a segment
   unfoldable pub cellBytes : Segment → Bytes
   cellBytes s = s .code .0 ∷ s .bytes ++ replicate (cellSize - suc (length (s .bytes))) 0
 

@@ -1,5 +1,5 @@
--- The calls over the FOREST of the segments, in the terms of document 000, appendix I; the numbers in brackets are its formulas. Where document 01
--- differs it decides, and the line says so. What becomes of the position is said of paths (Paths), and not of cells.
+-- The calls over the FOREST of the segments, in the terms of document 000, appendix I; the numbers in brackets are its formulas. Where the rules
+-- differ they decide, and the line cites them. What becomes of the position is said of paths (Paths), and not of cells.
 -- Assumes nothing: these are definitions.
 use mathlib.Core.Bool.{Bool, true, false, _&&_, _||_, not}
 use mathlib.Core.Option.{Option, none, some}
@@ -67,7 +67,7 @@ module _ (cat : Bytes) (cs : List Segment) where
     | false ↦ search (l ∷ ls) s
   ]
 
-  -- (33) eval-Ssa-list; a get's empty list is not completed, and selects all
+  -- (33) eval-Ssa-list; the empty list of a get selects all (R31)
   abbrev pub eval : List Level → List Path
   eval [] = allPaths dataPart
   eval (l ∷ ls) = search (l ∷ ls) dataPart
@@ -78,13 +78,13 @@ module _ (cat : Bytes) (cs : List Segment) where
   tryPath (l ∷ ls) [] = 0
   tryPath (l ∷ ls) (i ∷ p) = elim (agrees cat l (segment cs i)) [ true ↦ suc (tryPath ls p) | false ↦ 0 ]
 
-  -- (37) search-along-path, with k ≤ j (01: "down to and including")
+  -- (37) search-along-path, with k ≤ j: the last implied level is kept too (R30)
   unfoldable pub searchAlong : List Level → Path → List Path
   searchAlong ls cur =
       let k = lastImplied (take (tryPath ls cur) ls) in
       map (λ p. take k cur ++ p) (search (drop k ls) (getDP (take k cur)))
 
-  -- (36) eval-Ssa-list-P; "In a gap nothing is kept." (01)
+  -- (36) eval-Ssa-list-P; from a gap as if nothing was kept (R31)
   abbrev pub evalAlong : List Level → Current → List Path
   evalAlong [] q = allPaths dataPart
   evalAlong (l ∷ ls) (onPath p) = searchAlong (l ∷ ls) p
@@ -110,7 +110,7 @@ module _ (cat : Bytes) (cs : List Segment) where
   unfoldable pub segments : Forest Segment
   segments = mapF (segment cs) dataPart
 
-  -- GA and GK (01): a path is as long as its segment is deep
+  -- GA and GK (R49): a path is as long as its segment is deep
   abbrev pub stepStatus : List Level → Current → Path → Status
   stepStatus [] (onPath q) p =
       pick (ltb (length p) (length q)) GA
@@ -118,12 +118,12 @@ module _ (cat : Bytes) (cs : List Segment) where
   stepStatus [] (inGap i) p = Blank
   stepStatus (l ∷ ls) q p = Blank
 
-  -- (48) find-position: how many segments, with all beneath them, stand before x in a row of siblings; after equal keys, unkeyed last (01)
+  -- (48) find-position: how many segments, with all beneath them, stand before x in a row of siblings; R41 says where equal keys go
   unfoldable pub findPosition : Segment → Forest Segment → ℕ
   findPosition x void = 0
   findPosition x (node c k s) = elim (goesBefore cat x c) [ true ↦ 0 | false ↦ suc (size k) + findPosition x s ]
 
-  -- (49) "if (∃ j ∈ ind segml)(s-Record(segml[j])(fid) = rec(fid))"
+  -- (49) whether one of a row of siblings has the key of x
   unfoldable pub hasKey : Segment → Forest Segment → Bool
   hasKey x void = false
   hasKey x (node c k s) = sameKey cat x c || hasKey x s
@@ -133,8 +133,8 @@ module _ (cat : Bytes) (cs : List Segment) where
     abbrev pub answered : Status → Standing → After
     answered s now = record { answer = bare s (numbered now); change = nothing; cells = none; area = area }
 
-    -- (41) to (43) from the paths, which stand in hierarchic order, so that first-path (20) is the first: "p = nil → (pos, NOT-FOUND)", where pos is
-    -- what 01 makes of it
+    -- (41) to (43) from the paths, which stand in hierarchic order, so that first-path (20) is the first. Where there is none, `pos` is what R62 and R63
+    -- make of the position
     abbrev pub retrieved : Status → Standing → (Path → Status) → (Path → Standing) → List Path → After
     retrieved miss unfound status moved [] = answered miss unfound
     retrieved miss unfound status moved (p ∷ ps) = record {
@@ -148,12 +148,12 @@ module _ (cat : Bytes) (cs : List Segment) where
     unfoldable pub intGu : Bool → List Level → After
     intGu hold ls = retrieved GE (letGo here) (λ p. Blank) (λ p. movedTo p hold) (evalAlong ls (here .current))
 
-    -- get-next found nothing more: with an empty list that is the end of the data base, and it begins anew (01, request K2)
+    -- get-next found nothing more: with an empty list that is the end of the data base, and it begins anew (R63)
     abbrev pub ranOut : List Level → Standing
     ranOut [] = start
     ranOut (l ∷ ls) = letGo here
 
-    -- (42); GB apart from GE (01)
+    -- (42); GB apart from GE (R50, R51)
     unfoldable pub intGn : Bool → List Level → After
     intGn hold ls =
         retrieved (missStatus ls) (ranOut ls) (stepStatus ls (here .current)) (λ p. movedTo p hold)
@@ -182,7 +182,7 @@ module _ (cat : Bytes) (cs : List Segment) where
     insertAt m x (p ∷ ps) =
         insertRec m x p (suc (end p)) (kids (end p) segments) (graftUnder (segmentLevel cat) x (goesBefore cat x) (end p) segments)
 
-    -- (47) int-Isrt: the parent by the list without its last argument; for type 1 there is none (01)
+    -- (47) int-Isrt: the parent by the arguments before the last, and none for a root (R40)
     unfoldable pub intIsrt : ℕ → TypeCode → List Level → After
     intIsrt m t ls =
         let x = arriving cat t area in
@@ -210,7 +210,7 @@ module _ (cat : Bytes) (cs : List Segment) where
         let p = currentPath (here .current) in
         takenOut p (suc (size (kids (end p) segments))) (cellsOf (prune (segmentLevel cat) (end p) segments))
 
-    -- (26) a get by its kind, and the call of a number: "1 GU, 2 GN, 3 GNP", their hold forms three later, "7 ISRT, 8 REPL, 9 DLET"
+    -- (26) a get by its kind, and the call of a number (R32): the hold forms come three later
     abbrev pub getByKind : ℕ → Bool → List Level → After
     getByKind k hold ls = pick (eqb k 1) (intGu hold ls) (pick (eqb k 2) (intGn hold ls) (intGnp hold ls))
 

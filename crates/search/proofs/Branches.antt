@@ -217,7 +217,7 @@ module _ {cat tab list : Bytes} {size : ℕ} {t : TypeCode} (g : Good cat tab li
       let z : suc i - 1 ≡ i = omega arith in
       e ∙ sym (matched-stretch i (omega arith) s (rw z at (c (omega arith))))
 
-  -- "The empty list matches every segment."
+  -- R29: with an empty list the first cell is the match
   pub all-match : (i to : ℕ) → t .0 ≡ 0 → i < to → At (cell i) ≡ firstMatch cat cs ls i to
   all-match i to e h = first-here cat cs ls i to h (none ls (no-level e))
     where

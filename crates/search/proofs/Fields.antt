@@ -36,7 +36,7 @@ module _ (cat : Bytes) (g : goodCatalogue cat ≡ true) (f : FieldNumber) (first
       let a = both-left (isType cat (fieldType cat f) && goodSpan (fieldStart cat f) (fieldLength cat f) (lengthOf cat (fieldType cat f))) (eqb (fieldByte cat f 3) 0) good-field in
       (both-left (isType cat (fieldType cat f)) (goodSpan (fieldStart cat f) (fieldLength cat f) (lengthOf cat (fieldType cat f))) a, both-right (isType cat (fieldType cat f)) (goodSpan (fieldStart cat f) (fieldLength cat f) (lengthOf cat (fieldType cat f))) a)
 
-  -- "start and length are at least 1 and start + length - 1 is at most L"
+  -- R5, of a field
   field-span : (1 ≤ fieldStart cat f) × (fieldStart cat f + fieldLength cat f ≤ suc (lengthOf cat (fieldType cat f)))
   field-span =
       let s = fieldStart cat f in

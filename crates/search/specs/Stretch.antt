@@ -42,7 +42,7 @@ module _ (cat list : Bytes) (t : TypeCode) where
   matchesAlone s = eqb (s .code .0) (t .0) && agreesAlone s
 
 module _ (cat : Bytes) (cs : List Segment) (ls : List Level) where
-  -- "the longest stretch of the path from root to that cell which agrees in type and satisfies the completed list level by level"
+  -- R30: how far the path to a cell agrees with the completed list
   unfoldable pub stretch : ℕ → ℕ
   stretch i = tryPath cat cs ls (pathTo cat cs i)
 

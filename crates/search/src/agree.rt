@@ -1,4 +1,4 @@
-// "agrees in type and satisfies": one segment against what the lists ask of its type.
+// One segment against what the lists ask of its type (R28).
 use arguments::asked::asked_of;
 use arguments::read::operator_of;
 use blocks::slices::order_of;
@@ -23,7 +23,7 @@ ghost use Rattle.arguments.specs.Asked.{testAt};
 ghost use Rattle.search.specs.Good.{Testable, Heeding, Told};
 ghost use Rattle.search.specs.Stretch.{agreesAlone};
 
-// "The segment's field stands left of the operator." The value begins at byte v of the list, behind operator and field number.
+// The test of R25: the field is on the left. The value begins at byte v of the list, behind operator and field number.
 fn passes(cat: &[u8], tab: &[u8], size: usize, list: &[u8], c: CellNumber, v: usize) -> bool
     requires { ⌜ Testable (now cat) (now tab) (now list) size (c .0) v ⌝ }
     ensures { λ r. ⌜ r ≡ satisfies (now (cat .entry)) (segment (listing (now (cat .entry)) (now (tab .entry))) (c .0))

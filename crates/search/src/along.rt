@@ -1,4 +1,4 @@
-// "Along the position" (document 000, formulas 36 to 38).
+// Along the position (R30, R31; document 000, formulas 36 to 38).
 use crate::alone::forward_alone;
 use crate::beneath::forward_beneath;
 use crate::forward::forward;
@@ -22,8 +22,7 @@ ghost use Rattle.rules.specs.Table.{count, listing};
 ghost use Rattle.search.specs.Good.{Asking, Told};
 ghost use Rattle.search.specs.Stretch.{levels};
 
-// "If the place is on a cell, take the longest stretch .. Keep the part of it down to and including its last implied level (nothing, if none)."
-// "In a gap nothing is kept."
+// R30: the segment down to which the way to the place is kept; R31: in a gap there is none.
 fn kept(
     cat: &[u8],
     tab: &[u8],
@@ -45,7 +44,7 @@ fn kept(
     reached.kept
 }
 
-// The first match in cell order.
+// The first match of the table, where nothing was kept.
 fn first_of_all(
     cat: &[u8],
     tab: &[u8],
@@ -72,7 +71,7 @@ fn first_of_all(
     forward(cat, tab, size, one, two, asked, t, false, 0, 0, n)
 }
 
-// "The rest of the list is sought only beneath what was kept; if no list is left, the kept segment is the answer."
+// R30: what is left of the list is sought beneath the segment kept; where nothing is left, that segment is the answer.
 fn along_by(
     cat: &[u8],
     tab: &[u8],

@@ -1,4 +1,4 @@
-// "Beneath p": in a good table a cell's type tells whether p's run has come to its end, so that the end is not sought.
+// The first match beneath p (R35): in a good table a cell's type tells whether p's run has come to its end, so that the end is not sought.
 use crate::alone::beneath_alone;
 use crate::stretch::path_to;
 use crate::stretch::stretched;

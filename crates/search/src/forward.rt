@@ -1,4 +1,4 @@
-// The pass forward: "first match after the place", "beneath p".
+// The pass forward, over the cells from a first one to before a last (R34).
 use crate::alone::forward_alone;
 use crate::stretch::path_to;
 use crate::stretch::stretched;
@@ -127,7 +127,7 @@ fn begins_above(list: &[u8], t: TypeCode) -> bool
 }
 
 // The same from any cell. Where the lists test a type above their last it climbs once, for the cell before; `again` tells that they match that cell.
-// "The empty list matches every segment."
+// An empty list is matched by the first cell (R29).
 pub fn first_match(
     cat: &[u8],
     tab: &[u8],

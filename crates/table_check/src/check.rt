@@ -18,7 +18,7 @@ ghost use Rattle.rules.specs.Table.{goodTable};
 ghost use Rattle.rules.specs.Outcome.{checkTable};
 ghost use Rattle.table_check.specs.Frame.{goodFrame};
 
-// "byte 5 the cell size C", "n is at most M"
+// R10 to R12: mark, version, C, n and the room.
 fn good_frame(cat: &[u8], tab: &[u8]) -> bool
     ensures { λ r. ⌜ r ≡ goodFrame (now (cat .entry)) (now (tab .entry)) ⌝ }
 {
@@ -52,7 +52,7 @@ pub fn is_good_on(cat: &[u8], tab: &[u8]) -> bool
     is_listing(cat, tab, size)
 }
 
-// "The check .. of a table CX, TX or 0."
+// R65: CX, TX, or Blank where both blocks are good.
 pub fn check(cat: &[u8], tab: &[u8]) -> Status
     ensures { λ r. ⌜ r ≡ checkTable (now (cat .entry)) (now (tab .entry)) ⌝ }
 {

@@ -1,4 +1,4 @@
-// The bytes that no segment uses: "zeros to C", and "Cells n and above are all zero."
+// The bytes that no segment uses (R13): behind the data of a cell, and all of a free cell.
 use blocks::slices::all_zero;
 use blocks::wide;
 use catalogue::entries::data_length;

@@ -99,7 +99,7 @@ fn twin(cells: &[u8], facts: &[u8; 132], t: TypeIndex, last: usize, left: usize)
     }
 }
 
-// "a group of twins is a row of segments of one type": the next cell is the first twin of type v. The twins are read in a loop, so that a call stands
+// The twins of one group (R14): the next cell is the first twin of type v. The twins are read in a loop, so that a call stands
 // only for a level.
 fn group(cells: &[u8], facts: &[u8; 132], v: TypeIndex, left: usize) -> usize
     requires { ⌜ Headed (now cells) (now facts) (v .0) left ⌝ }
@@ -118,8 +118,8 @@ fn group(cells: &[u8], facts: &[u8; 132], v: TypeIndex, left: usize) -> usize
     }
 }
 
-// "a segment is its cell followed by its groups of child types in ascending code": the groups of a segment of type p, whose cell is read. The next cell
-// tells which group comes next, so that no type is asked for whose group is empty.
+// The groups of a segment of type p, whose cell is read (R14). The next cell tells which group comes next, so that no type is asked for whose group
+// is empty.
 fn segment(cells: &[u8], facts: &[u8; 132], p: TypeIndex, left: usize) -> usize
     requires { ⌜ Fits (now cells) (now facts) left × (1 ≤ p .0) ⌝ }
     ensures { λ r. ⌜ (r ≤ left) × SegmentLeaves (now (cells .entry)) (now (facts .entry)) (p .0) left r ⌝ }
@@ -143,7 +143,7 @@ fn segment(cells: &[u8], facts: &[u8; 132], p: TypeIndex, left: usize) -> usize
     rest
 }
 
-// "The first n cells are the parent-first listing of a forest": "The top is one group of type 1."
+// R14: the n cells are one group of type 1 with all beneath it, and nothing is left over.
 pub(crate) fn is_listing(cat: &[u8], tab: &[u8], size: usize) -> bool
     requires { ⌜ (goodCatalogue (now cat) ≡ true) × Sized (now cat) (now tab) size ⌝ }
     ensures { λ r. ⌜ r ≡ goodListing (now (cat .entry)) (listing (now (cat .entry)) (now (tab .entry))) ⌝ }

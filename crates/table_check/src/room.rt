@@ -1,4 +1,4 @@
-// "M from 0 to 4,096; the slice is exactly 8 + M·C bytes": M follows from the length of the slice.
+// The room of a table (R12): M follows from the length of the slice.
 use cells::lookup::cell_size;
 ghost use mathlib.Core.Path.{_≡_};
 ghost use Rattle.rules.specs.Table.{room, goodRoom};

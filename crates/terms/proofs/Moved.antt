@@ -1,4 +1,4 @@
--- What the calls make of a position is what the paper says, case by case. Each is computed from the definitions. Assumes nothing.
+-- What the calls make of a position is what the cases of Moved.antt say. Each is computed from the definitions. Assumes nothing.
 use mathlib.Core.Path.{_≡_, refl}
 use mathlib.Core.List.{map}
 use Rattle.terms.specs.Moved.{Move, moves}

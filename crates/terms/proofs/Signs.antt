@@ -1,4 +1,4 @@
--- `operatorOf`, `operatorNumber` and `holds` are the columns of the paper's operators. Assumes nothing.
+-- `operatorOf`, `operatorNumber` and `holds` are the columns of Paper.antt's operators (R25). Assumes nothing.
 use mathlib.Core.Path.{_≡_, refl, ap, _∙_}
 use mathlib.Core.Option.{Option, none, some}
 use Prim.Native.Nat.{ℕ, zero, suc, _≤_}

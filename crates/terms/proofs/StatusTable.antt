@@ -1,4 +1,4 @@
--- `number` and `letters` are the columns of the paper's status table, and tell the statuses apart. Assumes nothing.
+-- `number` and `letters` are the columns of Paper.antt's statuses (R48), and tell the statuses apart. Assumes nothing.
 use mathlib.Core.Path.{_≡_, refl, sym, ap, _∙_}
 use mathlib.Core.List.{List, [], _∷_}
 use mathlib.Core.Option.{some}

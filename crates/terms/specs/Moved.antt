@@ -10,7 +10,7 @@ use Rattle.terms.specs.declared.Position.{Position}
 use Rattle.terms.specs.Names.{cell}
 use Rattle.terms.specs.Moves.{fresh, movedOnto, holdDropped, afterInsert, afterDelete}
 
--- what is made, and what the paper says
+-- what is made, and what the rules say
 pub record Move : Type 0 where
   pub made : Position
   pub said : Position
@@ -37,21 +37,21 @@ held p = stands (on 3) p true
 
 unfoldable pub moves : List Move
 moves =
-    -- "A fresh position is the start, no parentage, no hold."
+    -- fresh (R19)
     (fresh gives stands (gap 0) Absent false)
-    -- "A get moves onto it": with the parentage and the hold that the call gives
+    -- a get (R37): with the parentage and the hold that the call gives
     ∷ (movedOnto 3 (of 1) true gives stands (on 3) (of 1) true)
     ∷ (movedOnto 3 (of 3) false gives stands (on 3) (of 3) false)
-    -- "clears the hold only"
+    -- a miss (R62): the hold goes and nothing else
     ∷ (holdDropped (held (of 1)) gives stands (on 3) (of 1) false)
     ∷ (holdDropped (held Absent) gives stands (on 3) Absent false)
     ∷ (holdDropped (stands (gap 4) (of 1) false) gives stands (gap 4) (of 1) false)
-    -- ISRT: "The place is the new cell; the parentage stays if the new cell is beneath it, else is absent; no hold."
+    -- ISRT (R42)
     ∷ (afterInsert 6 true (held (of 3)) gives stands (on 6) (of 3) false)
     ∷ (afterInsert 9 false (held (of 3)) gives stands (on 9) Absent false)
     ∷ (afterInsert 9 false (held Absent) gives stands (on 9) Absent false)
     ∷ (afterInsert 0 false (stands (gap 0) Absent false) gives stands (on 0) Absent false)
-    -- DLET: "The place is the gap where the run began. The parentage goes if it was in the run. No hold." At the run's first cell, in it, at its last one
+    -- DLET (R45): with the parentage at the run's first cell, in it, at its last one
     ∷ (afterDelete 3 3 (held (of 3)) gives stands (gap 3) Absent false)
     ∷ (afterDelete 3 3 (held (of 4)) gives stands (gap 3) Absent false)
     ∷ (afterDelete 3 3 (held (of 5)) gives stands (gap 3) Absent false)

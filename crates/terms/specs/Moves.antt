@@ -1,4 +1,4 @@
--- "The position", and what the calls make of one. Assumes nothing: these are definitions.
+-- Positions (R18 to R21), and what the calls make of one. Assumes nothing: these are definitions.
 use mathlib.Core.Bool.{Bool, true, false, _&&_}
 use Prim.Native.Nat.{ℕ, suc, _+_}
 use lib.Dec.{ltb, leb}
@@ -19,7 +19,7 @@ placeCell (Before c) = c
 abbrev pub placeNumber : Place → ℕ
 placeNumber q = placeCell q .0
 
--- the first cell after a place; "from gap i: cell i or later"
+-- the first cell after a place (R34); from a gap, the one behind it
 abbrev pub afterPlace : Place → ℕ
 afterPlace (On c) = suc (c .0)
 afterPlace (Before c) = c .0
@@ -32,26 +32,26 @@ abbrev pub isAbsent : Parentage → Bool
 isAbsent Absent = true
 isAbsent (Of p) = false
 
--- "A fresh position is the start, no parentage, no hold."
+-- R19: before any call
 abbrev pub fresh : Position
 fresh = record { place = Before (cell 0); parentage = Absent; hold = false }
 
--- "A get moves onto it"
+-- R37: where a get goes
 abbrev pub movedOnto : ℕ → Parentage → Bool → Position
 movedOnto i parentage hold = record { place = On (cell i); parentage = parentage; hold = hold }
 
 abbrev pub holdDropped : Position → Position
 holdDropped p = record { place = p .place; parentage = p .parentage; hold = false }
 
--- "The place is the new cell; the parentage stays if the new cell is beneath it, else is absent; no hold."
+-- R42: where ISRT goes
 abbrev pub afterInsert : ℕ → Bool → Position → Position
 afterInsert i beneath p = record { place = On (cell i); parentage = pick beneath (p .parentage) Absent; hold = false }
 
--- "The parentage goes if it was in the run", the n cells from i on
+-- R45: the parentage, unless it is one of the n cells from i on
 abbrev pub without : ℕ → ℕ → Parentage → Parentage
 without i n Absent = Absent
 without i n (Of p) = pick (leb i (p .0) && ltb (p .0) (i + n)) Absent (Of p)
 
--- "The place is the gap where the run began. .. No hold."
+-- R45: where DLET goes
 abbrev pub afterDelete : ℕ → ℕ → Position → Position
 afterDelete i n p = record { place = Before (cell i); parentage = without i n (p .parentage); hold = false }

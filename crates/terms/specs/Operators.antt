@@ -23,7 +23,7 @@ isGreater Smaller = false
 isGreater Equal = false
 isGreater Greater = true
 
--- "The segment's field stands left of the operator."
+-- R25: the field is on the left
 abbrev pub holds : Operator → Order → Bool
 holds Eq o = isEqual o
 holds Ne o = not (isEqual o)
@@ -32,7 +32,7 @@ holds Le o = not (isGreater o)
 holds Gt o = isGreater o
 holds Ge o = not (isSmaller o)
 
--- "operator (0 none, 1 =, 2 ≠, 3 <, 4 ≤, 5 >, 6 ≥)": read from its number, for 1 to 6, and written as one
+-- R25: read from its number, for 1 to 6, and written as one
 unfoldable pub operatorOf : ℕ → Operator
 operatorOf b = pick (eqb b 1) Eq (pick (eqb b 2) Ne (pick (eqb b 3) Lt (pick (eqb b 4) Le (pick (eqb b 5) Gt Ge))))
 

@@ -1,4 +1,4 @@
--- Document 01's status table and its operators, copied row by row, to be laid beside the paper. That the definitions say the same is stated in Printed.antt.
+-- The statuses (R48) and the operators (R25) once more, row by row, to be laid beside the manual. That the definitions say the same is stated in Printed.antt.
 -- Assumes nothing: these are definitions.
 use mathlib.Core.Bool.{Bool, true, false}
 use mathlib.Core.List.{List, [], _∷_}
@@ -25,7 +25,7 @@ pub record StatusRow : Type 0 where
 abbrev pub given : Status → ℕ → String → StatusRow
 given s n printed = record { status = s; number = n; letters = bytesOf printed }
 
--- "| No. | Letters |", and "-- for blank"
+-- R48, with the letters that the listing prints (R67): -- for blank
 unfoldable pub printedStatuses : List StatusRow
 printedStatuses =
     given Blank 0 "--"
@@ -57,7 +57,7 @@ pub record OperatorRow : Type 0 where
 abbrev pub signed : ℕ → String → Option Operator → OperatorRow
 signed n sign o = record { number = n; sign = sign; operator = o }
 
--- "operator (0 none, 1 =, 2 ≠, 3 <, 4 ≤, 5 >, 6 ≥)"
+-- R25: each operator with its number and its sign
 unfoldable pub printedOperators : List OperatorRow
 printedOperators =
     signed 0 "none" none
@@ -69,7 +69,7 @@ printedOperators =
     ∷ signed 6 "≥" (some Ge)
     ∷ []
 
--- what a sign says of a field that is smaller than the value, equal to it, greater: "The segment's field stands left of the operator."
+-- what a sign says of a field that is smaller than the value, equal to it, greater: the field is on the left (R25)
 pub record TruthRow : Type 0 where
   pub sign : String
   pub smaller : Bool

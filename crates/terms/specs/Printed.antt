@@ -1,4 +1,4 @@
--- The definitions say what the paper prints: `number`, `letters`, `operatorOf` and `holds` are the columns of Paper.antt's tables. Assumes nothing: these are
+-- The definitions say what the manual prints: `number`, `letters`, `operatorOf` and `holds` are the columns of Paper.antt's tables. Assumes nothing: these are
 -- definitions, and the proofs are in proofs/.
 use mathlib.Core.Path.{_≡_}
 use mathlib.Core.Option.{some}

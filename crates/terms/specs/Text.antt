@@ -1,4 +1,4 @@
--- A text in plain letters as its bytes, so that a table of the paper can be copied as it is printed. Assumes nothing: a definition.
+-- A text in plain letters as its bytes, so that a table of the manual can be copied as it is printed. Assumes nothing: a definition.
 use mathlib.Core.List.{List, [] as none, _∷_ as _then_}
 use Prim.Native.Nat.{ℕ}
 use Prim.Native.Char.{code}

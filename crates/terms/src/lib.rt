@@ -1,23 +1,23 @@
-// The words of document 01 as types. What the calls make of a position stands beside it.
+// The words of the rules as types. What the calls make of a position stands beside it.
 mod greater;
 pub mod operators;
 pub mod positions;
 pub mod statuses;
 
-// Numbers that are each counted on their own: no lookup takes one for another.
+// R9: three kinds of number, so that no lookup takes one for another.
 pub struct TypeCode(pub u8);
 
 pub struct FieldNumber(pub u8);
 
 pub struct CellNumber(pub usize);
 
-// "The place is either on a cell or in the gap before cell i."
+// R18: on a cell, or in the gap before one.
 pub enum Place {
     On(CellNumber),
     Before(CellNumber),
 }
 
-// "a parentage, absent or a cell p"
+// R20: none, or the cell of a segment.
 pub enum Parentage {
     Absent,
     Of(CellNumber),
@@ -29,7 +29,7 @@ pub struct Position {
     pub hold: bool,
 }
 
-// 1 =, 2 ≠, 3 <, 4 ≤, 5 >, 6 ≥
+// R25, in the order of their numbers.
 pub enum Operator {
     Eq,
     Ne,
@@ -39,7 +39,7 @@ pub enum Operator {
     Ge,
 }
 
-// "if the operator is not 0, a field number and as many value bytes as that field has": where in the list they begin.
+// R24: what an argument tests; the last number is where in the list the value begins.
 pub enum Qualification {
     None,
     Test(Operator, FieldNumber, usize),
@@ -75,7 +75,7 @@ pub enum Status {
     FX,
 }
 
-// "the first fault answers"
+// R26: an argument, or the fault that answers.
 pub enum ArgumentRead {
     Got(Argument),
     Fault(Status),
@@ -94,7 +94,7 @@ pub enum Found {
     Nothing,
 }
 
-// "The result: status, position, type code, level, length and removed."
+// R46: what a call tells, and the position that it leaves.
 pub struct Answer {
     pub status: Status,
     pub position: Position,

@@ -25,7 +25,7 @@ pub fn is_equal(o: Order) -> bool
     }
 }
 
-// "The segment's field stands left of the operator": o is how the field stands to the value.
+// R25: o is how the field stands to the value.
 pub fn holds(p: Operator, o: Order) -> bool
     ensures { λ r. ⌜ r ≡ holds p o ⌝ }
 {

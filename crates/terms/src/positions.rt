@@ -8,7 +8,7 @@ ghost use Prim.Native.Nat.{_+_, _<_};
 ghost use Rattle.terms.specs.Moves.{fresh, movedOnto, holdDropped, afterInsert, afterDelete, placeCell};
 
 impl Position {
-    // "A fresh position is the start, no parentage, no hold."
+    // R19: the position before any call.
     pub fn fresh() -> Self
         ensures { λ r. ⌜ r ≡ fresh ⌝ }
     {
@@ -19,7 +19,7 @@ impl Position {
         }
     }
 
-    // "A get moves onto it", with the parentage that the call gives.
+    // R37: onto the cell that was found, with the parentage and the hold that the call gives.
     pub fn moved_onto(self, c: CellNumber, parentage: Parentage, hold: bool) -> Self
         ensures { λ r. ⌜ r ≡ movedOnto (c .0) parentage hold ⌝ }
     {
@@ -43,7 +43,7 @@ impl Position {
         }
     }
 
-    // Shifted by its own insert of cell c: "the parentage stays if the new cell is beneath it, else is absent".
+    // R42: shifted by its own insert of cell c; `beneath` says whether that is beneath the parentage.
     pub fn after_insert(self, c: CellNumber, beneath: bool) -> Self
         ensures { λ r. ⌜ r ≡ afterInsert (c .0) beneath self ⌝ }
     {
@@ -64,7 +64,7 @@ impl Position {
         }
     }
 
-    // Shifted by its own delete of the n cells from c on: "The parentage goes if it was in the run."
+    // R45: shifted by its own delete of the n cells from c on.
     pub fn after_delete(self, c: CellNumber, n: usize) -> Self
         requires { ⌜ c .0 + n < 65536 ⌝ }
         ensures { λ r. ⌜ r ≡ afterDelete (c .0) n self ⌝ }

@@ -1,4 +1,4 @@
-// The status table of document 01: a number and two letters for each.
+// A number and two letters for each status (R48).
 use crate::Status;
 ghost use mathlib.Core.Path.{_≡_};
 ghost use Rattle.terms.specs.Statuses.{number, letters};

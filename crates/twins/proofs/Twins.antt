@@ -86,7 +86,7 @@ module _ (cat : Bytes) (x : Segment) where
     | outside l ↦ l
   ]
 
-  -- "Twins with a unique key ascend strictly"
+  -- R15, of a unique key
   twins-ascend : (c d : Segment) → keyKind cat (c .code) ≡ 1 → typeNumber c ≡ typeNumber d → siblings cat c d ≡ true → keyOrder cat c d ≡ Smaller
   unfolding twinOrder
   twins-ascend c d k e h =

@@ -47,6 +47,6 @@ module _ (cat : Bytes) where
     unfoldable pub placed : ℕ → Spot
     placed from = record { at = from + passed from; taken = keyTaken cat cs x from (passed from) }
 
-    -- where x goes among the cells from `from` to before `to`; II: "unique key equal to a twin's"
+    -- where x goes among the cells from `from` to before `to` (R41), and whether its key is taken (R59)
     unfoldable pub spotAmong : ℕ → ℕ → Spot
     spotAmong from to = record { at = from + passed from; taken = eqb (keyKind cat (x .code)) 1 && keyTaken cat cs x from (to - from) }

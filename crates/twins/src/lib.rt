@@ -111,7 +111,7 @@ fn pass_row(
     Spot { at, taken }
 }
 
-// "goes among its twins: after smaller and equal keys, before greater; unkeyed, last"; "unique key equal to a twin's".
+// R41: where the new segment goes among its twins; R59: whether one of them has its unique key.
 // The cells from `from` to before `to` are all those beneath the parent.
 pub fn spot_sound(
     cat: &[u8],

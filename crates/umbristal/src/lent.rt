@@ -30,7 +30,7 @@ pub(crate) fn packed(a: Answer) -> u64
     status + 256 * code + 65536 * level + 16777216 * length + 4294967296 * removed
 }
 
-// Leaves the position in its block ("20 and above changes nothing"), and hands back the rest of the answer.
+// Leaves the position in its block, which a refusal does not touch (R62), and hands back the rest of the answer.
 pub(crate) fn leave(block: &mut [u8], a: Answer) -> u64
     requires { ⌜ Fitting (now block) a ⌝ }
     ensures { λ r. ⌜ (r ≡ packed a) × (now (block .exit) ≡ blockAfter (now (block .entry)) a) ⌝ }

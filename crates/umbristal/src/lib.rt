@@ -23,7 +23,7 @@ ghost use Rattle.rules.specs.Outcome.{checkCatalogue, checkTable, makeStatus, m
 ghost use Rattle.answers.specs.Ready.{SoundFor};
 ghost use Rattle.umbristal.specs.Face.{handedBack, face, soundFace, isStep, reportedBack, reportFace};
 
-// "The check of a catalogue answers 0 or CX"
+// R65: the check of a catalogue; 0 or the number of CX.
 #[no_mangle]
 pub extern "C" fn umbristal_catalogue_check(cat: &[u8]) -> u8
     ensures { λ r. ⌜ r ≡ number (checkCatalogue (now (cat .entry))) ⌝ }
@@ -31,7 +31,7 @@ pub extern "C" fn umbristal_catalogue_check(cat: &[u8]) -> u8
     terms::statuses::number(catalogue_check::check::check(cat))
 }
 
-// "that of a table CX, TX or 0"
+// R65: the check of both blocks; 0 or the number of CX or TX.
 #[no_mangle]
 pub extern "C" fn umbristal_table_check(cat: &[u8], tab: &[u8]) -> u8
     ensures { λ r. ⌜ r ≡ number (checkTable (now (cat .entry)) (now (tab .entry))) ⌝ }
@@ -39,7 +39,7 @@ pub extern "C" fn umbristal_table_check(cat: &[u8], tab: &[u8]) -> u8
     terms::statuses::number(table_check::check::check(cat, tab))
 }
 
-// "The maker of empty tables answers CX, or TX when the slice length fits no M, and then writes nothing; else header and zeros."
+// R64: makes all of `tab` an empty table and answers 0; or writes nothing and answers the number of CX or TX.
 #[no_mangle]
 pub extern "C" fn umbristal_table_make(cat: &[u8], tab: &mut [u8]) -> u8
     ensures { λ r. ⌜ (r ≡ number (makeStatus (now (cat .entry)) (now (tab .entry)))) × (now (tab .exit) ≡ madeTable (now (cat .entry)) (now (tab .entry))) ⌝ }

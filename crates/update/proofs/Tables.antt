@@ -45,7 +45,7 @@ counted-to : (tab b q w : Bytes) (at k : ℕ) → at ≡ 8 + k → at ≤ length
     → take 6 b ++ (w ++ drop 8 b) ≡ take 6 tab ++ (w ++ (take k (drop 8 tab) ++ q))
 counted-to tab b q w at k h l e = counted tab b q w k (omega arith) (e ∙ ap (λ (j : ℕ). take j tab ++ q) h)
 
--- "ISRT": n and long are the count and the length as the code has them, y what comes back of the bytes moved up, cell what is written behind them
+-- ISRT: n and long are the count and the length as the code has them, y what comes back of the bytes moved up, cell what is written behind them
 module _ {cat tab area : Bytes} {size r : ℕ} {t : TypeCode} (s : Insertable cat tab size r t area) where
   -- the cells in use and the new one lie within the slice
   pub new-inside : (k : ℕ) → k ≤ suc (count tab) → Inside tab size k
@@ -97,7 +97,7 @@ module _ {cat tab area : Bytes} {size r : ℕ} {t : TypeCode} (s : Insertable ca
         ∙ ap (λ (j : ℕ). front (cellBytes cat (arriving cat t area) ++ (take j (drop start tab) ++ drop end tab))) k
         ∙ sym (inserted-bytes bytes)
 
--- "REPL": t and long are the cell's type and its length as the code has them, at is where the cell begins, y what comes back of the data
+-- REPL: t and long are the cell's type and its length as the code has them, at is where the cell begins, y what comes back of the data
 module _ {cat tab area : Bytes} {size i : ℕ} (s : Replaceable cat tab size i area) (t : TypeCode) (t-is : t ≡ segment (listing cat tab) i .code)
     (long at : ℕ) (e : long ≡ lengthOf cat t) (a : at ≡ startOf tab size i) where
   type-is : t ≡ typeAt cat tab i
@@ -124,7 +124,7 @@ module _ {cat tab area : Bytes} {size i : ℕ} (s : Replaceable cat tab size i a
       ∙ ap (λ (j : ℕ). take (suc (cellStart cat i)) tab ++ (take j area ++ drop (suc (cellStart cat i) + j) tab)) k
       ∙ sym (replace-data cat tab (s .sound .table) bytes i area (s .used) (omega (arith, l .1)))
 
--- "DLET": n is the count as the code has it; start, next and end are where the run begins and ends, and where the cells end; y is what comes back
+-- DLET: n is the count as the code has it; start, next and end are where the run begins and ends, and where the cells end; y is what comes back
 -- of the bytes moved down, z what comes back of those cleared
 module _ {cat tab : Bytes} {size i e : ℕ} (s : Removable cat tab size i e) (n start next end : ℕ) (f : n ≡ count tab)
     (a : start ≡ startOf tab size i) (b : next ≡ startOf tab size e) (c : end ≡ startOf tab size n) where

@@ -16,7 +16,7 @@ use terms::TypeCode;
 ghost use mathlib.Core.Path.{_≡_};
 ghost use Rattle.update.specs.Edits.{withCell, withData, withoutCells, Insertable, Replaceable, Removable};
 
-// "The new cell, with the area's first L bytes, goes among its twins": before cell r, and the cells from r on move up by one.
+// ISRT (R39): the new cell goes before cell r, and the cells from r on move up by one.
 pub fn insert_cell_sound(
     cat: &[u8],
     tab: &mut [u8],
@@ -38,7 +38,7 @@ pub fn insert_cell_sound(
     set_count(tab, n);
 }
 
-// "stores the area's first L bytes in the held cell"
+// REPL (R43): the data of the cell from the front of the area.
 pub fn replace_cell_sound(cat: &[u8], tab: &mut [u8], size: usize, c: CellNumber, area: &[u8])
     requires { ⌜ Replaceable (now cat) (now tab) size (c .0) (now area) ⌝ }
     ensures { λ _. ⌜ now (tab .exit) ≡ withData (now (cat .entry)) (now (tab .entry)) (c .0) (now (area .entry)) ⌝ }
@@ -50,7 +50,7 @@ pub fn replace_cell_sound(cat: &[u8], tab: &mut [u8], size: usize, c: CellNumber
     put(&mut tab[start..end], &area[..long]);
 }
 
-// "removes the held cell's run; later cells move down, freed cells become zero": the cells from c up to e.
+// DLET (R44): the cells from c up to e go, those behind move down, and what becomes free is zeros.
 pub fn remove_cells_sound(cat: &[u8], tab: &mut [u8], size: usize, c: CellNumber, e: CellNumber)
     requires { ⌜ Removable (now cat) (now tab) size (c .0) (e .0) ⌝ }
     ensures { λ _. ⌜ now (tab .exit) ≡ withoutCells (now (cat .entry)) (now (tab .entry)) (c .0) (e .0) ⌝ }

@@ -1,3 +1,3 @@
-// What ISRT, REPL and DLET do to the lent table, in place: "each touches nothing but the count and the cells from the one concerned onward".
+// What ISRT, REPL and DLET do to the lent table, in place, from the cell concerned on (R47).
 pub mod edits;
 pub mod moves;

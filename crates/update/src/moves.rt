@@ -8,7 +8,7 @@ ghost use Prim.Native.Nat.{suc, _-_, _≤_, _<_};
 ghost use lib.ListN.{length, take, drop, replicate};
 ghost use Rattle.rules.specs.Block.{wordBytes};
 
-// "A cell is its type code, L data bytes, and zeros to C."
+// R13: the bytes of a cell.
 pub(crate) fn write_cell(cell: &mut [u8], t: TypeCode, from: &[u8])
     requires { ⌜ length (now from) < length (now cell) ⌝ }
     ensures { λ _. ⌜ now (cell .exit) ≡ t .0 ∷ now (from .entry) ++ replicate (length (now (cell .entry)) - suc (length (now (from .entry)))) 0 ⌝ }
@@ -19,7 +19,7 @@ pub(crate) fn write_cell(cell: &mut [u8], t: TypeCode, from: &[u8])
     cell[0] = t.0;
 }
 
-// "bytes 6 and 7 the count n, high byte first"
+// R10: n, in bytes 6 and 7.
 pub(crate) fn set_count(tab: &mut [u8], n: usize)
     requires { ⌜ (8 ≤ length (now tab)) × (n < 65536) ⌝ }
     ensures { λ _. ⌜ now (tab .exit) ≡ take 6 (now (tab .entry)) ++ (wordBytes n ++ drop 8 (now (tab .entry))) ⌝ }

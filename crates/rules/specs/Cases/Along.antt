@@ -1,5 +1,5 @@
--- "Along the position": what is kept of the path, and where the rest of the list is sought. The claim is in proofs/Cases.antt. Assumes nothing: these are
--- definitions.
+-- Along the position (R30, R31): what is kept of the path, and where the rest of the list is sought. The claim is in proofs/Cases.antt. Assumes nothing:
+-- these are definitions.
 use mathlib.Core.Bool.{true, false}
 use mathlib.Core.List.{List, [], _∷_, _++_}
 use Prim.Native.Nat.{ℕ}
@@ -50,7 +50,7 @@ alongCases =
     ∷ finds (onCell 1) (named 3) 2
     ∷ finds (onCell 0) (named 3) 2
     ∷ finds (onCell 6) (named 3) 2
-    -- "The rest of the list is sought only beneath what was kept": there is none, though another unit has some
+    -- the rest of the list is sought beneath what was kept and nowhere else: there is none, though another unit has some
     ∷ findsNone (onCell 7) (named 3)
     ∷ findsNone (onCell 8) (named 3)
     ∷ findsNone (onCell 7) step13
@@ -59,7 +59,7 @@ alongCases =
     ∷ finds (onCell 3) tryT 4
     -- down to the last cell beneath it
     ∷ finds (onCell 4) (3 ∷ 1 ∷ 3 ∷ ascii "P") 5
-    -- "In a gap nothing is kept", whatever the parentage
+    -- R31: in a gap, whatever the parentage
     ∷ finds (position (gap 4) (parent 3) false) (named 3) 2
     ∷ finds (position (gap 8) (parent 7) false) step13 1
     ∷ finds (position (gap 9) Absent false) step14 3
@@ -80,7 +80,7 @@ alongCases =
     ∷ finds (onCell 4) (named 1 ++ named 3) 4
     ∷ finds (onCell 8) (unit07 ++ named 3) 2
     ∷ findsNone (onCell 8) (unit09 ++ named 3)
-    -- "down to and including its last implied level", behind a named one; an implied level behind one that is not satisfied does not count
+    -- the last implied level is kept too, behind a named one; an implied level behind one that is not satisfied does not count
     ∷ catalogueIs line Blank
     ∷ goes 5 5
     ∷ goes 4 5
@@ -91,7 +91,7 @@ alongCases =
     ∷ goes 0 3
     -- GHU likewise
     ∷ calls catalogue table (onCell 7) (ghu step14 (stands (position (upon 8) (parent 8) true) ∷ []) ∷ [])
-    -- ISRT: "if no list is left, the kept segment is the answer"; the parent is that of the path, else the first in the table
+    -- ISRT: where nothing of the list is left the segment kept is the parent; else it is the first in the table
     ∷ becomes (onCell 3) (named 3) (ascii "S3.") 6
     ∷ becomes (onCell 2) (named 3) (ascii "S3.") 3
     ∷ becomes (onCell 8) (named 3) (ascii "S3.") 9
@@ -106,7 +106,7 @@ alongCases =
     ∷ becomes (onCell 4) (step13 ++ named 3) (ascii "S3.") 3
     ∷ becomes (onCell 8) (unit07 ++ step14 ++ named 3) (ascii "S3.") 6
     ∷ becomes (onCell 8) (unit07 ++ named 3) (ascii "S3.") 3
-    -- "ISRT without parent": GE, sought beneath what was kept, or in a table of no cells; the hold goes and nothing else
+    -- R51: no parent beneath what was kept, or in a table of no cells; the hold goes and nothing else
     ∷ calls catalogue table (position (upon 8) (parent 7) true) (isrt (step13 ++ named 3) (ascii "S3.") (
     gives GE ∷ stands (position (upon 8) (parent 7) false) ∷ leaves 9 ∷ []) ∷ [])
     ∷ calls catalogue empty fresh (isrt (named 2) (ascii "13P") (gives GE ∷ stands fresh ∷ leaves 0 ∷ []) ∷ [])

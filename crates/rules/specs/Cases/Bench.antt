@@ -1,4 +1,4 @@
--- "A bench table", and B1 to B10 as a single table of cases; the single claim is in proofs/Bench.antt. Assumes nothing: these are definitions.
+-- The bench table, and B1 to B10 as one table of cases; the one claim is in proofs/Bench.antt. Assumes nothing: these are definitions.
 use mathlib.Core.Bool.{false}
 use mathlib.Core.List.{List, [], _∷_, _++_}
 use Prim.Native.Nat.{ℕ}
@@ -10,8 +10,8 @@ use Rattle.rules.specs.Table.{tableBytes}
 use Rattle.rules.specs.Cases.{Case, lists, calls, gives, place, removes, leaves, shows, contains, ascii, upon, gap, parent, position}
 use Rattle.rules.specs.Cases.{gu, gn, gnp, ghu, isrt, repl, dlet}
 
--- "Types (parent, L, kind, key start, key length): 1 unit (0,3,1,1,2), 2 step (1,3,1,1,2), 3 try (2,2,0,0,0), 4 note (1,1,0,0,0).
--- Fields (type, start, length): 1 (1,1,2), 2 (2,1,2), 3 (3,1,1), 4 (2,3,1)."
+-- four types: a unit and, beneath it, steps and notes, beneath a step its tries; units and steps have a unique key in their first two bytes
+-- four fields: the keys of unit and step, the first byte of a try, the last of a step
 unfoldable pub catalogue : Bytes
 catalogue =
     0x48 ∷ 0x44 ∷ 0x43 ∷ 0 ∷ 1 ∷ 4 ∷ 4 ∷ 0
@@ -24,7 +24,7 @@ catalogue =
     ∷ 3 ∷ 1 ∷ 1 ∷ 0
     ∷ 2 ∷ 3 ∷ 1 ∷ 0 ∷ []
 
--- "C = 4, M = 12, n = 9."
+-- two units in 9 cells of 4 bytes, and 3 free cells
 unfoldable pub table : Bytes
 table =
     0x48 ∷ 0x44 ∷ 0x54 ∷ 0 ∷ 1 ∷ 4 ∷ 0 ∷ 9
@@ -42,7 +42,7 @@ table =
 unfoldable pub empty : Bytes
 empty = tableBytes catalogue 12 []
 
--- "Whole output", of B1
+-- what B1 prints
 unfoldable pub output : Bytes
 output =
     ascii "0 1 1 -- 303741\n"
@@ -75,39 +75,39 @@ named t = t ∷ 0 ∷ []
 
 unfoldable pub cases : List Case
 cases =
-    -- B1 this listing
+    -- B1: the listing of the bench table
     lists catalogue table output
-    -- B2 GN, try with field 3 = "T", fresh: cell 4; again: GE, still on 4
+    -- B2: GN of a try whose field 3 is "T" finds cell 4 from fresh; once more it is GE, and the place stays
     ∷ calls catalogue table fresh (
     gn tryT (gives Blank ∷ place (upon 4) ∷ shows (ascii "T1") ∷ [])
     ∷ gn tryT (gives GE ∷ place (upon 4) ∷ []) ∷ [])
-    -- B3 GU, step key "14": cell 3 from fresh, cell 8 when on 7
+    -- B3: GU of the step "14" finds cell 3 from fresh, and cell 8 from cell 7
     ∷ calls catalogue table fresh (gu step14 (gives Blank ∷ place (upon 3) ∷ []) ∷ [])
     ∷ calls catalogue table (onCell 7) (gu step14 (gives Blank ∷ place (upon 8) ∷ []) ∷ [])
-    -- B4 ISRT of a try "S3" naming only the try, on 5: becomes cell 6, n = 10; on 7: becomes cell 9
+    -- B4: ISRT of a try "S3" by its type alone makes it cell 6 from cell 5, and cell 9 from cell 7
     ∷ calls catalogue table (onCell 5) (
     isrt (named 3) (ascii "S3.") (gives Blank ∷ place (upon 6) ∷ leaves 10 ∷ contains 6 3 (ascii "S3") ∷ []) ∷ [])
     ∷ calls catalogue table (onCell 7) (
     isrt (named 3) (ascii "S3.") (gives Blank ∷ place (upon 9) ∷ leaves 10 ∷ contains 9 3 (ascii "S3") ∷ []) ∷ [])
-    -- B5 ISRT step "14X" under unit "07": II
+    -- B5: a second step "14" under unit "07" is II
     ∷ calls catalogue table fresh (isrt (unit07 ++ named 2) (ascii "14X") (gives II ∷ leaves 9 ∷ []) ∷ [])
-    -- B6 ISRT unit "08C": cell 7
+    -- B6: unit "08C" goes between the two, as cell 7
     ∷ calls catalogue table fresh (isrt (named 1) (ascii "08C") (gives Blank ∷ place (upon 7) ∷ contains 7 1 (ascii "08C") ∷ []) ∷ [])
-    -- B7 GHU to 3, DLET: removed 3, n = 6, gap 3, then GN shows the note, blank, at 3
+    -- B7: DLET of cell 3 takes 3 cells and leaves the gap before 3, from which GN gets the note
     ∷ calls catalogue table fresh (
     ghu step14 (gives Blank ∷ place (upon 3) ∷ [])
     ∷ dlet (gives Blank ∷ removes 3 ∷ leaves 6 ∷ place (gap 3) ∷ [])
     ∷ gn [] (gives Blank ∷ place (upon 3) ∷ shows (ascii "n") ∷ contains 3 4 (ascii "n") ∷ []) ∷ [])
-    -- B8 after GHU to 3, DLET, GNP: GP
+    -- B8: after that DLET there is no parentage: GNP is GP
     ∷ calls catalogue table fresh (
     ghu step14 (gives Blank ∷ place (upon 3) ∷ [])
     ∷ dlet (gives Blank ∷ [])
     ∷ gnp [] (gives GP ∷ []) ∷ [])
-    -- B9 GHU to 3, REPL "15P": DA; REPL "14P": 0
+    -- B9: REPL of cell 3 by "15P" is DA, by "14P" it is done
     ∷ calls catalogue table fresh (
     ghu step14 (gives Blank ∷ place (upon 3) ∷ [])
     ∷ repl (ascii "15P") (gives DA ∷ [])
     ∷ repl (ascii "14P") (gives Blank ∷ contains 3 2 (ascii "14P") ∷ []) ∷ [])
-    -- B10 the empty table: GN answers GB
+    -- B10: GN in the empty table is GB
     ∷ calls catalogue empty fresh (gn [] (gives GB ∷ []) ∷ [])
     ∷ []

@@ -1,5 +1,5 @@
--- "The catalogue", rule by rule: the bench catalogue with a byte changed, and what the check answers. The claim is in proofs/Bench.antt. Assumes nothing:
--- these are definitions.
+-- The catalogue, rule by rule (R2 to R8): the bench catalogue with a byte changed, and what the check answers. The claim is in proofs/Bench.antt.
+-- Assumes nothing: these are definitions.
 use mathlib.Core.List.{List, [], _∷_, _++_}
 use Prim.Native.Nat.{ℕ, zero, suc}
 use lib.ListN.{set, take}
@@ -56,7 +56,7 @@ ruled =
     ∷ catalogueIs (withByte 10 3) CX
     ∷ catalogueIs (withByte 35 1) CX
     ∷ catalogueIs (withByte 36 1) CX
-    -- start and length are at least 1, start + length - 1 is at most L, and 255 + 2 - 1 is not 0
+    -- R5: spans at both borders of the data; and 255 + 2 - 1 is not 0
     ∷ catalogueIs (withByte 11 0) CX
     ∷ catalogueIs (withByte 12 0) CX
     ∷ catalogueIs (withByte 11 2) Blank
@@ -80,10 +80,10 @@ ruled =
     ∷ catalogueIs (withByte 50 3) CX
     ∷ catalogueIs (withByte 43 1) CX
     ∷ catalogueIs (withByte 55 1) CX
-    -- type 1 has parent 0 and no other has
+    -- R7: which type has parent 0
     ∷ catalogueIs (withByte 8 1) CX
     ∷ catalogueIs (withByte 32 0) CX
-    -- the parent of type 4 is 3 or an ancestor of it: type 2 no longer, where 3 hangs beneath 1
+    -- R7: the parent of type 4 may be 3 or one above it: type 2 no longer, where 3 hangs beneath 1
     ∷ catalogueIs (withByte 32 3) Blank
     ∷ catalogueIs (withByte 32 2) Blank
     ∷ catalogueIs (withByte 32 4) CX

@@ -48,12 +48,12 @@ insertCases =
     ∷ fills (ascii "S3xy") ∷ leaves 10
     ∷ bytes (benchOf 10 (
     unit "07A" ++ step "13P" ++ try "P1" ++ step "14T" ++ try "T1" ++ try "P2" ++ try "S3" ++ note "n" ++ secondUnit ++ twoFree)) ∷ []) ∷ [])
-    -- "the parentage stays if the new cell is beneath it, else is absent": its parent, an ancestor, its twin, none
+    -- R42, of the parentage: it is the parent, an ancestor, a twin, none
     ∷ keeps (parent 3) (parent 3)
     ∷ keeps (parent 0) (parent 0)
     ∷ keeps (parent 5) Absent
     ∷ keeps Absent Absent
-    -- elsewhere: beneath another unit, before the parentage and behind it; "For type 1 there is no parent"
+    -- elsewhere: beneath another unit, before the parentage and behind it; a root, which has no parent
     ∷ calls catalogue table (onCell 8) (isrt (unit07 ++ named 4) (ascii "m..") (gives Blank ∷ tells 4 2 1 ∷ stands (position (upon 7) Absent false) ∷ []) ∷ [])
     ∷ calls catalogue table (position (upon 8) (parent 7) true) (isrt (unit07 ++ named 4) (ascii "m..") (stands (position (upon 7) Absent false) ∷ []) ∷ [])
     ∷ calls catalogue table (onCell 1) (isrt (unit09 ++ named 4) (ascii "m..") (gives Blank ∷ stands (position (upon 9) Absent false) ∷ []) ∷ [])
@@ -69,7 +69,7 @@ insertCases =
     ∷ becomes (onCell 8) (unit07 ++ named 2) (ascii "15X") 6
     ∷ becomes (onCell 7) (named 2) (ascii "13X") 8
     ∷ becomes (onCell 7) (named 2) (ascii "15X") 9
-    -- "unkeyed, last", whatever its data, behind the groups of smaller code and before those of greater
+    -- R41, without a key: whatever its data, behind the groups of smaller code and before those of greater
     ∷ becomes (onCell 3) (named 3) (ascii "A0.") 6
     ∷ becomes (onCell 0) (named 4) (ascii "a..") 7
     ∷ becomes (onCell 0) (named 4) (ascii "n..") 7
@@ -82,7 +82,7 @@ insertCases =
     ∷ calls catalogue empty fresh (isrt (named 1) (ascii "08Czz") (
     gives Blank ∷ tells 1 1 3 ∷ stands (position (upon 0) Absent false) ∷ fills (ascii "08Czz")
     ∷ bytes (benchOf 1 (unit "08C" ++ free ++ free ++ free ++ free ++ free ++ free ++ free ++ free ++ free ++ free ++ free)) ∷ []) ∷ [])
-    -- II: "unique key equal to a twin's", the firstUnit, the last, a root; its other bytes do not matter
+    -- II (R59): the key of the first twin, of the last, of a root; its other bytes do not matter
     ∷ calls catalogue table (position (upon 8) (parent 7) true) (isrt (named 2) (ascii "14Z") (refuses II (position (upon 8) (parent 7) true)) ∷ [])
     ∷ calls catalogue table fresh (isrt (named 2) (ascii "13P") (refuses II fresh) ∷ [])
     ∷ calls catalogue table fresh (isrt (named 1) (ascii "09Z") (refuses II fresh) ∷ [])
@@ -91,14 +91,14 @@ insertCases =
     ∷ becomes fresh (unit09 ++ named 2) (ascii "13P") 8
     ∷ becomes fresh (named 1) (ascii "14Z") 9
     ∷ becomes (onCell 0) (named 2) (ascii "07Z") 1
-    -- FX: "n = M"; a refusal keeps the hold
+    -- FX (R60); a refusal keeps the hold
     ∷ calls catalogue full (position (upon 3) (parent 0) true) (isrt (named 4) (ascii "z..") (
     gives FX ∷ nothingTold ∷ stands (position (upon 3) (parent 0) true) ∷ bytes full ∷ []) ∷ [])
     ∷ []
 
 unfoldable pub replaceCases : List Case
 replaceCases =
-    -- every output: "Place and parentage stay; the hold goes"
+    -- every output; of the position R43
     calls catalogue table (position (upon 3) (parent 0) true) (
     repl (ascii "14Qxy") (
     gives Blank ∷ tells 2 2 3 ∷ removes 0 ∷ stands (position (upon 3) (parent 0) false) ∷ block (1 ∷ 0 ∷ 3 ∷ 1 ∷ 0 ∷ 0 ∷ 0 ∷ 0 ∷ [])
@@ -109,7 +109,7 @@ replaceCases =
     -- the parentage is the cell itself, or absent
     ∷ calls catalogue table (position (upon 3) (parent 3) true) (repl (ascii "14Q") (gives Blank ∷ stands (onCell 3) ∷ []) ∷ [])
     ∷ calls catalogue table (position (upon 3) Absent true) (repl (ascii "14Q") (gives Blank ∷ stands (position (upon 3) Absent false) ∷ []) ∷ [])
-    -- "the area's firstUnit L bytes", and zeros to C; no key byte to change
+    -- R43: L bytes of the area, and zeros to C; no key byte to change
     ∷ calls catalogue table (position (upon 6) (parent 0) true) (repl (ascii "mxy") (
     gives Blank ∷ tells 4 2 1 ∷ contains 6 4 (ascii "m")
     ∷ bytes (benchOf 9 (unit "07A" ++ step "13P" ++ try "P1" ++ step "14T" ++ try "T1" ++ try "P2" ++ note "m" ++ secondUnit ++ threeFree)) ∷ []) ∷ [])
@@ -133,7 +133,7 @@ replaceCases =
 
 unfoldable pub deleteCases : List Case
 deleteCases =
-    -- every output: the run of step 3 goes, "later cells move down, freed cells become zero"; an ancestor as parentage stays
+    -- every output: the run of step 3 goes (R44); an ancestor as parentage stays
     calls catalogue table (position (upon 3) (parent 0) true) (
     dlet (
     gives Blank ∷ tells 2 2 3 ∷ removes 3 ∷ stands (position (gap 3) (parent 0) false) ∷ block (0 ∷ 0 ∷ 3 ∷ 1 ∷ 0 ∷ 0 ∷ 0 ∷ 0 ∷ [])
@@ -141,7 +141,7 @@ deleteCases =
     -- then GNP goes on beneath it, and a secondUnit DLET has no hold
     ∷ dlet (gives DJ ∷ [])
     ∷ gnp [] (gives Blank ∷ stands (position (upon 3) (parent 0) false) ∷ []) ∷ [])
-    -- "The parentage goes if it was in the run"; an absent one stays so
+    -- R45, of the parentage: in the run, and none before
     ∷ calls catalogue table (position (upon 3) (parent 3) true) (dlet (gives Blank ∷ stands (position (gap 3) Absent false) ∷ []) ∷ [])
     ∷ calls catalogue table (position (upon 3) Absent true) (dlet (gives Blank ∷ stands (position (gap 3) Absent false) ∷ []) ∷ [])
     ∷ calls catalogue table (position (upon 5) (parent 3) true) (

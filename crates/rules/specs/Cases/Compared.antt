@@ -1,5 +1,5 @@
--- "Keys and fields compare as unsigned bytes, first byte heaviest": the six operators on both sides of equality and at it, and keys and fields that do not
--- begin at byte 1. The claim is in proofs/Cases.antt. Assumes nothing: these are definitions.
+-- R16 and R25: the six operators on both sides of equality and at it, and keys and fields that do not begin at byte 1. The claim is in proofs/Cases.antt.
+-- Assumes nothing: these are definitions.
 use mathlib.Core.Bool.{true}
 use mathlib.Core.List.{List, [], _∷_, _++_}
 use Prim.Native.Nat.{ℕ}
@@ -59,7 +59,7 @@ comparisonCases =
     ∷ walks (against 4) (0 ∷ 1 ∷ 2 ∷ [])
     ∷ walks (against 5) (3 ∷ 4 ∷ [])
     ∷ walks (against 6) (2 ∷ 3 ∷ 4 ∷ [])
-    -- "The segment's field stands left of the operator": fields < "2" are "1" and "0"
+    -- R25, the field on the left: fields < "2" are "1" and "0"
     ∷ walks (1 ∷ 3 ∷ 3 ∷ ascii "2") (1 ∷ 4 ∷ [])
     ∷ walks (1 ∷ 5 ∷ 3 ∷ ascii "5") (0 ∷ [])
     -- each field at its own start: byte 4, byte 1
@@ -74,7 +74,7 @@ comparisonCases =
     -- II goes by the key alone
     ∷ calls apart fiveKeys fresh (isrt (named 1) (keyed 0x7A 0x7F 0x80 0x7A) (gives II ∷ leaves 5 ∷ []) ∷ [])
     ∷ calls apart fiveKeys fresh (isrt (named 1) (keyed 0x35 0x80 0x7F 0x61) (gives Blank ∷ place (upon 5) ∷ []) ∷ [])
-    -- DA: "REPL changes a key byte", the first of them or the last, and no other byte
+    -- DA (R58): the first byte of the key or the last, and no other byte
     ∷ calls apart fiveKeys (position (upon 2) (parent 2) true) (replaces (keyed 0x00 0x7F 0x80 0x7A))
     ∷ calls apart fiveKeys (position (upon 2) (parent 2) true) (replaces (keyed 0x35 0x7F 0x80 0x61))
     ∷ calls apart fiveKeys (position (upon 2) (parent 2) true) (repl (keyed 0x35 0x7F 0x81 0x61) (gives DA ∷ bytes fiveKeys ∷ []) ∷ [])

@@ -1,5 +1,5 @@
--- Cases beside B1 to B10: "Run also", and the errors of the trade that the bench table does not show. The claim is in proofs/Bench.antt. Assumes nothing:
--- these are definitions.
+-- Cases beside B1 to B10: the borders of rooms and levels, and wrong turns that the bench table does not show. The claim is in proofs/Bench.antt.
+-- Assumes nothing: these are definitions.
 use mathlib.Core.Bool.{true, false}
 use mathlib.Core.List.{List, [], _∷_}
 use Prim.Native.Nat.{ℕ, zero, suc}
@@ -52,7 +52,7 @@ further =
     -- the bench blocks are good
     catalogueIs catalogue Blank
     ∷ tableIs catalogue table Blank
-    -- "no level exceeds 15"
+    -- R8: the deepest level
     ∷ catalogueIs (deepCatalogue 15) Blank
     ∷ catalogueIs (deepCatalogue 16) CX
     -- tables that the check refuses: equal unique keys, a byte after L, a byte in a free cell, and any table on a bad catalogue
@@ -60,9 +60,9 @@ further =
     ∷ tableIs catalogue pastData TX
     ∷ tableIs catalogue notFree TX
     ∷ tableIs (deepCatalogue 16) table CX
-    -- M = 0 with ISRT of a unit (FX)
+    -- FX in a table without a cell
     ∷ calls catalogue (tableBytes catalogue 0 []) fresh (isrt (named 1) (ascii "08C") (gives FX ∷ []) ∷ [])
-    -- n = 12 then DLET then ISRT
+    -- a full table: after a DLET there is room for an ISRT
     ∷ calls catalogue full fresh (
     isrt (named 4) (ascii "z..") (gives FX ∷ leaves 12 ∷ [])
     ∷ ghu (named 4) (gives Blank ∷ place (upon 1) ∷ held true ∷ [])
@@ -75,7 +75,7 @@ further =
     -- a multiple key goes behind its equals
     ∷ calls multiple twoSegments fresh (
     isrt (named 1) (ascii "a2") (gives Blank ∷ place (upon 1) ∷ leaves 3 ∷ contains 0 1 (ascii "a1") ∷ contains 1 1 (ascii "a2") ∷ []) ∷ [])
-    -- GK: level equal and type different
+    -- GK: a note behind a step
     ∷ calls catalogue stepNote (onCell 1) (gn [] (gives GK ∷ place (upon 2) ∷ []) ∷ [])
     -- GNP ends with its parent, and a GE drops the hold
     ∷ calls catalogue table (onCell 1) (

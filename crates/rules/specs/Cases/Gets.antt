@@ -49,7 +49,7 @@ getCases =
     ∷ from heldBelow 5 [] (
     gives Blank ∷ tells 3 3 2 ∷ removes 0 ∷ stands (position (upon 4) (parent 4) true) ∷ block (1 ∷ 0 ∷ 4 ∷ 1 ∷ 0 ∷ 4 ∷ 1 ∷ 0 ∷ [])
     ∷ fills (ascii "T1...") ∷ bytes table ∷ [])
-    -- GNP and GHNP: "The parentage stays."
+    -- GNP and GHNP: the parentage is what it was (R35)
     ∷ from heldBelow 3 [] (
     gives Blank ∷ tells 3 3 2 ∷ removes 0 ∷ stands (position (upon 4) (parent 0) false) ∷ block (1 ∷ 0 ∷ 4 ∷ 1 ∷ 0 ∷ 0 ∷ 0 ∷ 0 ∷ [])
     ∷ fills (ascii "T1...") ∷ bytes table ∷ [])
@@ -68,7 +68,7 @@ getCases =
     ∷ ghn (named 1) (gives Blank ∷ tells 1 1 3 ∷ stands (position (upon 7) (parent 7) true) ∷ shows (ascii "09B") ∷ [])
     ∷ ghnp [] (gives Blank ∷ tells 2 2 3 ∷ stands (position (upon 8) (parent 7) true) ∷ shows (ascii "14P") ∷ [])
     ∷ gnp [] (gives GE ∷ nothingTold ∷ stands (position (upon 8) (parent 7) false) ∷ []) ∷ [])
-    -- GN: "from gap i: cell i or later", "not along the position"
+    -- GN (R34): from a gap the cell behind it, and nothing is kept of the path
     ∷ from (position (gap 3) (parent 0) false) 2 [] (gives Blank ∷ stands (onCell 3) ∷ [])
     ∷ from (position (gap 3) (parent 0) false) 2 (named 2) (gives Blank ∷ stands (onCell 3) ∷ [])
     ∷ from (position (upon 3) (parent 0) false) 2 (named 2) (gives Blank ∷ stands (onCell 8) ∷ [])
@@ -98,7 +98,7 @@ getCases =
     ∷ from (onCell 0) 3 (unit09 ++ named 2) (gives GE ∷ [])
     ∷ []
 
--- after request K2: 11 and 12 clear the hold only, 10 makes the position fresh
+-- what a miss leaves: R62 of GE and GP, R63 of GB
 unfoldable pub missCases : List Case
 missCases =
     -- GE, of each get; a list that no segment matches
@@ -111,7 +111,7 @@ missCases =
     -- GNP and GHNP with an empty list: GE, not GB
     ∷ misses (position (upon 8) (parent 8) true) 3 [] GE (onCell 8)
     ∷ misses (position (upon 8) (parent 8) true) 6 [] GE (onCell 8)
-    -- GB, "GN or GHN, empty list, no cell left": place, parentage and hold are then the fresh ones; with a list it is GE, and they stay but for the hold
+    -- GB (R50): place, parentage and hold are then the fresh ones; with a list it is GE, and they stay but for the hold
     ∷ misses (position (upon 8) (parent 7) true) 2 [] GB fresh
     ∷ misses (position (upon 8) (parent 8) false) 2 [] GB fresh
     ∷ misses (position (upon 8) Absent true) 5 [] GB fresh
@@ -119,7 +119,7 @@ missCases =
     ∷ misses (position (gap 9) Absent false) 5 [] GB fresh
     ∷ misses (position (upon 8) (parent 7) true) 2 (named 2) GE (position (upon 8) (parent 7) false)
     ∷ misses (position (upon 8) (parent 7) true) 5 (named 3) GE (position (upon 8) (parent 7) false)
-    -- GP, "GNP or GHNP, no parentage", on a cell and in a gap, with a list or without
+    -- GP (R52): on a cell and in a gap, with a list or without
     ∷ misses (position (upon 3) Absent true) 3 [] GP (position (upon 3) Absent false)
     ∷ misses (position (upon 3) Absent true) 6 [] GP (position (upon 3) Absent false)
     ∷ misses (position (gap 3) Absent false) 6 (named 3) GP (position (gap 3) Absent false)
@@ -133,7 +133,7 @@ missCases =
 abbrev afterGB : Step → Case
 afterGB s = calls catalogue table (position (upon 8) (parent 7) true) (gn [] (gives GB ∷ []) ∷ s ∷ [])
 
--- request K2: what each call does after GB is what it does from the fresh position
+-- R63: what each call does after GB is what it does from the fresh position
 unfoldable pub overCases : List Case
 overCases =
     -- GN and GHN begin at the first root, from a gap, so with a blank status, though the place had been on a cell of level 2
@@ -165,7 +165,7 @@ overCases =
     ∷ calls catalogue table (position (upon 3) Absent true) (gnp [] (gives GP ∷ []) ∷ gn [] (gives Blank ∷ place (upon 4) ∷ []) ∷ [])
     ∷ []
 
--- GA: "empty list, place was on a cell, found level smaller"; GK: "the same, level equal and type different"
+-- GA and GK (R49), and blank beside them
 unfoldable pub levelCases : List Case
 levelCases =
     -- GA: from level 3 to 2, from 2 to 1, from 3 to 1

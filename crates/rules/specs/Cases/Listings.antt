@@ -19,7 +19,7 @@ listingCases =
     ∷ writes 407 (ascii "407")
     ∷ writes 4095 (ascii "4095")
     ∷ writes 65535 (ascii "65535")
-    -- GK, and "upper-case hex"
+    -- GK, and every hex digit
     ∷ lists catalogue stepNote (ascii "0 1 1 -- 303741\n1 2 2 -- 313350\n2 4 2 GK 6E\nGB\n")
     ∷ lists catalogue (benchOf 1 (1 ∷ 0x09 ∷ 0xAF ∷ 0x9B ∷ [])) (ascii "0 1 1 -- 09AF9B\nGB\n")
     ∷ lists catalogue (benchOf 1 (1 ∷ 0xC0 ∷ 0x0D ∷ 0xFE ∷ [])) (ascii "0 1 1 -- C00DFE\nGB\n")
@@ -27,7 +27,7 @@ listingCases =
     ∷ lists catalogue empty (ascii "GB\n")
     -- the longest data, L = 120
     ∷ lists (ascii "HDC" ++ (0 ∷ 1 ∷ 1 ∷ 0 ∷ 0 ∷ 0 ∷ 120 ∷ 0 ∷ 0 ∷ 0 ∷ 0 ∷ 0 ∷ 0 ∷ [])) (tableOf 121 0 []) (ascii "GB\n")
-    -- "to the first GB or refusal": a bad table, a bad catalogue, and both; a missing file counts as empty
+    -- refused at once: a bad table, a bad catalogue, and both; a missing file counts as empty
     ∷ lists catalogue (set table 4 2) (ascii "TX\n")
     ∷ lists (set catalogue 7 1) table (ascii "CX\n")
     ∷ lists catalogue [] (ascii "TX\n")

@@ -1,4 +1,4 @@
--- "The argument list": each fault, their order inside one argument and from the left, and lists that are sound at each border. The claim is in
+-- The argument list (R24 to R28): each fault, their order inside one argument and from the left, and lists that are sound at each border. The claim is in
 -- proofs/Cases.antt. Assumes nothing: these are definitions.
 use mathlib.Core.Bool.{true}
 use mathlib.Core.List.{List, [], _∷_, _++_}
@@ -23,13 +23,13 @@ reaches i list = calls catalogue table fresh (gu list (gives Blank ∷ place (up
 
 unfoldable pub listCases : List Case
 listCases =
-    -- "type not in 1..T": AC
+    -- AC: no type of the catalogue
     fault AC (named 0)
     ∷ fault AC (named 5)
     ∷ fault AC (named 255)
     ∷ reaches 0 (named 1)
     ∷ reaches 6 (named 4)
-    -- "or not beneath the type before it": AC; a type is not beneath itself, nor beneath its child, its sibling or a sibling's child
+    -- AC: not beneath the type before; a type is not beneath itself, nor beneath its child, its sibling or a sibling's child
     ∷ fault AC (named 2 ++ named 2)
     ∷ fault AC (named 2 ++ named 1)
     ∷ fault AC (named 2 ++ named 4)
@@ -45,16 +45,16 @@ listCases =
     ∷ reaches 6 (named 1 ++ named 4)
     ∷ reaches 2 (named 2 ++ named 3)
     ∷ reaches 2 (named 3)
-    -- "operator missing or above 6": AJ, with a field and a value that would do for another
+    -- AJ: no operator, or one above 6, with a field and a value that would do for another
     ∷ fault AJ (1 ∷ [])
     ∷ fault AJ (named 1 ++ (2 ∷ []))
     ∷ fault AJ (1 ∷ 7 ∷ 1 ∷ ascii "07")
     ∷ fault AJ (1 ∷ 255 ∷ 1 ∷ ascii "07")
     ∷ reaches 0 (1 ∷ 6 ∷ 1 ∷ ascii "07")
-    -- "field number missing": AJ
+    -- AJ: no field number
     ∷ fault AJ (1 ∷ 1 ∷ [])
     ∷ fault AJ (1 ∷ 6 ∷ [])
-    -- "not in 1..F or of another type": AK
+    -- AK: no field, or one of another type
     ∷ fault AK (1 ∷ 1 ∷ 0 ∷ ascii "07")
     ∷ fault AK (1 ∷ 1 ∷ 5 ∷ ascii "07")
     ∷ fault AK (1 ∷ 1 ∷ 255 ∷ ascii "07")
@@ -66,7 +66,7 @@ listCases =
     ∷ calls (fieldCatalogue 0) (tableOf 2 0 []) fresh (gu (1 ∷ 1 ∷ 1 ∷ ascii "a") (gives AK ∷ []) ∷ [])
     -- field 0 is none, though the bytes before the fields would make one of type 1
     ∷ calls multiple twoSegments fresh (gu (1 ∷ 1 ∷ 0 ∷ []) (gives AK ∷ []) ∷ [])
-    -- "value cut short": AJ; "as many value bytes as that field has"
+    -- AJ: a value that is too short, by the length of its field
     ∷ fault AJ (1 ∷ 1 ∷ 1 ∷ [])
     ∷ fault AJ (1 ∷ 1 ∷ 1 ∷ ascii "0")
     ∷ fault AJ (3 ∷ 1 ∷ 3 ∷ [])
@@ -84,7 +84,7 @@ listCases =
     ∷ fault AK (1 ∷ 1 ∷ 5 ∷ [])
     ∷ fault AK (1 ∷ 1 ∷ 2 ∷ [])
     ∷ fault AK (1 ∷ 1 ∷ 0 ∷ ascii "0")
-    -- "read from the left .. the first fault answers"
+    -- R26: an earlier argument's fault answers
     ∷ fault AJ (1 ∷ 7 ∷ 1 ∷ ascii "07" ++ named 9)
     ∷ fault AK (1 ∷ 1 ∷ 2 ∷ ascii "07" ++ named 9)
     ∷ fault AK (1 ∷ 1 ∷ 5 ∷ ascii "07" ++ (2 ∷ 7 ∷ []))
@@ -98,7 +98,7 @@ listCases =
     -- the next argument begins behind the value: a value byte is no type
     ∷ reaches 4 (2 ∷ 1 ∷ 2 ∷ ascii "14" ++ named 3)
     ∷ calls catalogue table fresh (gu (2 ∷ 1 ∷ 2 ∷ 3 ∷ 0 ∷ []) (gives GE ∷ []) ∷ [])
-    -- "it and its ancestors satisfy every argument for their type"
+    -- R28: each argument counts for the segment of its type
     ∷ reaches 5 (unit07 ++ step14 ++ (3 ∷ 1 ∷ 3 ∷ ascii "P"))
     ∷ reaches 8 (1 ∷ 1 ∷ 1 ∷ ascii "09" ++ step14)
     ∷ calls catalogue table fresh (gu (1 ∷ 1 ∷ 1 ∷ ascii "09" ++ named 3) (gives GE ∷ []) ∷ [])

@@ -1,4 +1,4 @@
--- "The position": good ones at each border and bad ones of each kind, as positions and as blocks of 8 bytes. The claim is in proofs/Cases.antt. Assumes
+-- Positions (R18 to R23): good ones at each border and bad ones of each kind, as positions and as blocks of 8 bytes. The claim is in proofs/Cases.antt. Assumes
 -- nothing: these are definitions.
 use mathlib.Core.Bool.{true, false}
 use mathlib.Core.List.{List, [], _∷_}
@@ -22,7 +22,7 @@ badBlock b = lends catalogue table b (gu [] (gives PX ∷ block b ∷ []) ∷ []
 
 unfoldable pub positionCases : List Case
 positionCases =
-    -- "The place is either on a cell i < n or in the gap before cell i, i ≤ n." n = 9
+    -- R18, with n = 9
     goodFrom (position (upon 0) Absent false)
     ∷ goodFrom (position (upon 8) Absent false)
     ∷ badFrom (position (upon 9) Absent false)
@@ -34,7 +34,7 @@ positionCases =
     ∷ calls catalogue empty (position (gap 0) Absent false) (gn [] (gives GB ∷ []) ∷ [])
     ∷ calls catalogue empty (position (upon 0) Absent false) (gn [] (gives PX ∷ []) ∷ [])
     ∷ calls catalogue empty (position (gap 1) Absent false) (gn [] (gives PX ∷ []) ∷ [])
-    -- "On cell i, p is i or an ancestor of it": cell 5 lies beneath 3 and 0; 4 is its twin, 1 its parent's twin, 6 and 7 come later
+    -- R20, on a cell: cell 5 lies beneath 3 and 0; 4 is its twin, 1 its parent's twin, 6 and 7 come later
     ∷ goodFrom (position (upon 5) (parent 5) false)
     ∷ goodFrom (position (upon 5) (parent 3) false)
     ∷ goodFrom (position (upon 5) (parent 0) false)
@@ -49,14 +49,14 @@ positionCases =
     ∷ badFrom (position (upon 0) (parent 1) false)
     ∷ badFrom (position (upon 8) (parent 0) false)
     ∷ goodFrom (position (upon 8) (parent 7) false)
-    -- "In gap i, p < i"
+    -- R20, in a gap: a parentage that is not before it
     ∷ badFrom (position (gap 0) (parent 0) false)
     ∷ badFrom (position (gap 3) (parent 3) false)
     ∷ badFrom (position (gap 3) (parent 5) false)
     ∷ badFrom (position (gap 9) (parent 9) false)
     ∷ goodFrom (position (gap 1) (parent 0) false)
     ∷ goodFrom (position (gap 2) (parent 1) false)
-    -- "and i is at most the end of p's run": the run of 1 ends at 3, of 3 at 6, of 0 at 7, of 7 and 8 at n
+    -- R20, in a gap: one behind p's run; the run of 1 ends at 3, of 3 at 6, of 0 at 7, of 7 and 8 at n
     ∷ goodFrom (position (gap 3) (parent 1) false)
     ∷ badFrom (position (gap 4) (parent 1) false)
     ∷ goodFrom (position (gap 6) (parent 3) false)
@@ -66,7 +66,7 @@ positionCases =
     ∷ goodFrom (position (gap 9) (parent 7) false)
     ∷ goodFrom (position (gap 9) (parent 8) false)
     ∷ badFrom (position (gap 9) (parent 0) false)
-    -- "a hold, which needs a place on a cell", with a parentage or without
+    -- R21: with a parentage or without
     ∷ goodFrom (position (upon 3) (parent 3) true)
     ∷ goodFrom (position (upon 3) (parent 0) true)
     ∷ goodFrom (position (upon 3) Absent true)
@@ -86,7 +86,7 @@ positionCases =
     ∷ lends catalogue table (1 ∷ 0 ∷ 8 ∷ 1 ∷ 0 ∷ 7 ∷ 1 ∷ 0 ∷ []) (gn [] (gives GB ∷ block (0 ∷ 0 ∷ 0 ∷ 0 ∷ 0 ∷ 0 ∷ 0 ∷ 0 ∷ []) ∷ []) ∷ [])
     ∷ lends catalogue table (1 ∷ 0 ∷ 8 ∷ 1 ∷ 0 ∷ 7 ∷ 1 ∷ 0 ∷ []) (gnp [] (gives GE ∷ block (1 ∷ 0 ∷ 8 ∷ 1 ∷ 0 ∷ 7 ∷ 0 ∷ 0 ∷ []) ∷ []) ∷ [])
     ∷ lends catalogue table (1 ∷ 0 ∷ 8 ∷ 0 ∷ 0 ∷ 0 ∷ 1 ∷ 0 ∷ []) (gnp [] (gives GP ∷ block (1 ∷ 0 ∷ 8 ∷ 0 ∷ 0 ∷ 0 ∷ 0 ∷ 0 ∷ []) ∷ []) ∷ [])
-    -- "Anything else is a badFrom position": no 8 bytes, another kind, a number without a parentage, a last byte
+    -- R23: no 8 bytes, another kind, a number without a parentage, a last byte
     ∷ badBlock []
     ∷ badBlock (0 ∷ 0 ∷ 0 ∷ 0 ∷ 0 ∷ 0 ∷ 0 ∷ [])
     ∷ badBlock (0 ∷ 0 ∷ 0 ∷ 0 ∷ 0 ∷ 0 ∷ 0 ∷ 0 ∷ 0 ∷ [])

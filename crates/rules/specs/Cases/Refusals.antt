@@ -1,5 +1,5 @@
--- The refusals that look at what is asked, and their order: "20, 21, 22, 23, list faults, 27, the other AJ, 28, 12, 29, then 10 and 11, 30, 31, 32". A case
--- of the order has two of them at once, and the earlier answers. The claims are in proofs/Cases.antt. Assumes nothing: these are definitions.
+-- The refusals that look at what is asked (R53 to R57), and their order (R61). A case of the order has two of them at once, and the earlier answers.
+-- The claims are in proofs/Cases.antt. Assumes nothing: these are definitions.
 use mathlib.Core.Bool.{true, false}
 use mathlib.Core.List.{List, [], _∷_, _++_}
 use Prim.Native.Nat.{ℕ}
@@ -46,7 +46,7 @@ enough = ascii "14T"
 
 unfoldable pub refusalCases : List Case
 refusalCases =
-    -- AD: "call number not 1..9"
+    -- AD (R53)
     refusedHolding 0 [] enough AD
     ∷ refusedHolding 10 [] enough AD
     ∷ refusedHolding 255 [] enough AD
@@ -57,22 +57,22 @@ refusalCases =
     ∷ refusedHolding 2 (1 ∷ []) enough AJ
     ∷ refusedHolding 6 (1 ∷ 1 ∷ 2 ∷ ascii "07") enough AK
     ∷ refusedHolding 7 (named 5) enough AC
-    -- AH: "ISRT, empty list"; a get may have one
+    -- AH (R55); a get may have an empty list
     ∷ refusedHolding 7 [] enough AH
     ∷ doneHolding 2 [] enough
-    -- AJ also: "ISRT's last argument qualified", and not one before it
+    -- the other AJ (R54): ISRT's last argument, and not one before it
     ∷ refusedHolding 7 step14 enough AJ
     ∷ refusedHolding 7 (unit07 ++ step14) enough AJ
     ∷ refusedHolding 7 unit07 enough AJ
     ∷ doneHolding 7 (unit07 ++ named 4) enough
     ∷ doneHolding 4 step14 enough
-    -- "or REPL or DLET with a list", of one argument or more, qualified or not
+    -- and a list for REPL or DLET, of one argument or more, qualified or not
     ∷ refusedHolding 8 (named 2) enough AJ
     ∷ refusedHolding 8 step14 enough AJ
     ∷ refusedHolding 9 (named 2) enough AJ
     ∷ refusedHolding 9 (unit07 ++ step14) enough AJ
     ∷ doneHolding 8 [] enough
-    -- AB: "area shorter than C - 1", by one byte, whatever the type's own L
+    -- AB (R56): one byte is missing, whatever the type's own L
     ∷ refusedHolding 1 [] short AB
     ∷ refusedHolding 2 (named 4) short AB
     ∷ refusedHolding 3 [] short AB
@@ -86,7 +86,7 @@ refusalCases =
     ∷ doneHolding 5 [] enough
     ∷ doneHolding 6 [] enough
     ∷ doneHolding 7 (named 3) enough
-    -- "(not looked at for DLET)"
+    -- DLET looks at no area
     ∷ doneHolding 9 [] short
     ∷ doneHolding 9 [] []
     ∷ []

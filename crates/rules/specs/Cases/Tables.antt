@@ -1,4 +1,4 @@
--- "The table", rule by rule: what the check answers of a small table, and what the maker of empty tables answers and writes. The claims are in
+-- The table, rule by rule (R10 to R15): what the check answers of a small table, and what the maker of empty tables answers and writes (R64). The claims are in
 -- proofs/Cases.antt. Assumes nothing: these are definitions.
 use mathlib.Core.Bool.{true, false}
 use mathlib.Core.List.{List, [], _∷_, _++_}
@@ -52,7 +52,7 @@ refusedTable = gives TX ∷ nothingTold ∷ stands (position (upon 0) (parent 0)
 
 unfoldable pub tableCases : List Case
 tableCases =
-    -- "Mark "HDT", 16-bit version 1, byte 5 the cell size C"
+    -- R10: mark, version, cell size
     goodTab table
     ∷ badTab (set table 0 0x68)
     ∷ badTab (set table 1 0x45)
@@ -62,13 +62,13 @@ tableCases =
     ∷ badTab (set table 4 2)
     ∷ badTab (set table 5 3)
     ∷ badTab (set table 5 5)
-    -- "bytes 6 and 7 the count n, high byte first", "n is at most M": 13, 256 and 9 + 256 are above 12
+    -- R10, R12: n has two bytes; 13, 256 and 9 + 256 are above 12
     ∷ badTab (set table 7 13)
     ∷ badTab (set (set table 6 1) 7 0)
     ∷ badTab (set table 6 1)
     ∷ goodTab (benchOf 2 (unit "07A" ++ step "13P"))
     ∷ badTab (benchOf 3 (unit "07A" ++ step "13P"))
-    -- "the slice is exactly 8 + M·C bytes"
+    -- R12: how long the slice is
     ∷ badTab []
     ∷ badTab (take 7 table)
     ∷ goodTab (benchOf 0 [])
@@ -77,15 +77,15 @@ tableCases =
     ∷ badTab (table ++ (0 ∷ 0 ∷ 0 ∷ []))
     ∷ goodTab (table ++ free)
     ∷ badTab (take 55 table)
-    -- "C is 1 plus the largest L", wherever it stands, and whether or not that type has a segment
+    -- R11: the largest L, wherever it stands, and whether or not that type has a segment
     ∷ tableIs threeLengths (tableOf 5 0 []) Blank
     ∷ tableIs threeLengths (tableOf 3 0 []) TX
     ∷ tableIs threeLengths (tableOf 4 0 []) TX
     ∷ tableIs threeLengths (tableOf 5 1 (1 ∷ ascii "ab" ++ (0 ∷ 0 ∷ []))) Blank
-    -- "M from 0 to 4,096"
+    -- R12: the largest room
     ∷ tableIs (fieldCatalogue 0) (tableOf 2 0 (replicate 8192 0)) Blank
     ∷ tableIs (fieldCatalogue 0) (tableOf 2 0 (replicate 8194 0)) TX
-    -- "A cell is its type code, L data bytes, and zeros to C": each byte after L, in each cell
+    -- R13: each byte after L, in each cell
     ∷ tableIs threeLengths (tableOf 5 1 (1 ∷ ascii "ab" ++ (1 ∷ 0 ∷ []))) TX
     ∷ tableIs threeLengths (tableOf 5 1 (1 ∷ ascii "ab" ++ (0 ∷ 1 ∷ []))) TX
     ∷ tableIs threeLengths (tableOf 5 2 (1 ∷ ascii "ab" ++ (0 ∷ 0 ∷ []) ++ (1 ∷ ascii "ab" ++ (1 ∷ 0 ∷ [])))) TX
@@ -94,25 +94,25 @@ tableCases =
     ∷ badTab (benchOf 2 (unit "07A" ++ free))
     ∷ badTab (benchOf 2 (unit "07A" ++ (5 ∷ ascii "n" ++ (0 ∷ 0 ∷ []))))
     ∷ badTab (benchOf 1 free)
-    -- "Cells n and above are all zero": the first byte after the cells and the last of all
+    -- R13, free cells: the first byte after the cells and the last of all
     ∷ badTab (benchOf 1 (unit "07A" ++ unit "08A"))
     ∷ badTab (benchOf 1 (unit "07A" ++ (1 ∷ 0 ∷ 0 ∷ 0 ∷ []) ++ free))
     ∷ badTab (benchOf 1 (unit "07A" ++ free ++ (0 ∷ 0 ∷ 0 ∷ 1 ∷ [])))
     ∷ badTab (benchOf 0 (0 ∷ 0 ∷ 0 ∷ 1 ∷ []))
-    -- "The top is one group of type 1"
+    -- R14: the top
     ∷ badTab (benchOf 1 (step "13P"))
     ∷ badTab (benchOf 1 (note "n"))
     ∷ badTab (benchOf 2 (step "13P" ++ unit "07A"))
     ∷ goodTab (benchOf 2 (unit "07A" ++ unit "08A"))
-    -- "a segment is its cell followed by its groups of child types": no level is skipped, no other type's child stands there
+    -- R14: no level is skipped, no other type's child stands there
     ∷ badTab (benchOf 2 (unit "07A" ++ try "P1"))
     ∷ badTab (benchOf 3 (unit "07A" ++ note "n" ++ try "P1"))
     ∷ goodTab (benchOf 3 (unit "07A" ++ step "13P" ++ try "P1"))
-    -- "in ascending code", one group of each
+    -- R14: child types by their codes, one group of each
     ∷ goodTab (benchOf 3 (unit "07A" ++ step "13P" ++ note "n"))
     ∷ badTab (benchOf 3 (unit "07A" ++ note "n" ++ step "13P"))
     ∷ badTab (benchOf 4 (unit "07A" ++ step "13P" ++ note "n" ++ step "14P"))
-    -- "Twins with a unique key ascend strictly": equal, descending, with cells beneath between them, and at the top
+    -- R15, unique keys: equal, descending, with cells beneath between them, and at the top
     ∷ badTab (benchOf 3 (unit "07A" ++ step "13P" ++ step "13Q"))
     ∷ badTab (benchOf 3 (unit "07A" ++ step "14P" ++ step "13P"))
     ∷ badTab (benchOf 4 (unit "07A" ++ step "14P" ++ try "P1" ++ step "13P"))
@@ -121,7 +121,7 @@ tableCases =
     ∷ badTab (benchOf 2 (unit "08A" ++ unit "07B"))
     ∷ badTab (benchOf 3 (unit "07A" ++ unit "09A" ++ unit "08A"))
     ∷ goodTab (benchOf 4 (unit "07A" ++ step "14P" ++ unit "08A" ++ step "13P"))
-    -- "without a key any order stands"
+    -- R15, without a key
     ∷ goodTab (benchOf 4 (unit "07A" ++ note "n" ++ note "m" ++ note "m"))
     -- CX comes before TX
     ∷ tableIs (deepCatalogue 16) (take 7 table) CX
@@ -142,7 +142,7 @@ lentSlice k = replicate k 7
 
 unfoldable pub makerCases : List Case
 makerCases =
-    -- "else header and zeros", every byte: M = 0, 1 and 3, C = 4; and C = 5
+    -- every byte that the maker writes: M = 0, 1 and 3, C = 4; and C = 5
     makes catalogue (lentSlice 8) Blank (ascii "HDT" ++ (0 ∷ 1 ∷ 4 ∷ 0 ∷ 0 ∷ []))
     ∷ makes catalogue (lentSlice 12) Blank (ascii "HDT" ++ (0 ∷ 1 ∷ 4 ∷ 0 ∷ 0 ∷ 0 ∷ 0 ∷ 0 ∷ 0 ∷ []))
     ∷ makes catalogue (lentSlice 20) Blank (ascii "HDT" ++ (0 ∷ 1 ∷ 4 ∷ 0 ∷ 0 ∷ []) ++ free ++ free ++ free)
@@ -151,7 +151,7 @@ makerCases =
     ∷ makes catalogue table Blank (ascii "HDT" ++ (0 ∷ 1 ∷ 4 ∷ 0 ∷ 0 ∷ []) ++ replicate 48 0)
     -- what it made is a goodTab table of no cells
     ∷ calls catalogue (ascii "HDT" ++ (0 ∷ 1 ∷ 4 ∷ 0 ∷ 0 ∷ []) ++ free) (position (gap 0) Absent false) (gn [] (gives GB ∷ []) ∷ [])
-    -- "TX when the slice length fits no M, and then writes nothing"
+    -- TX: no M fits, and nothing is written
     ∷ makes catalogue [] TX []
     ∷ makes catalogue (lentSlice 7) TX (lentSlice 7)
     ∷ makes catalogue (lentSlice 9) TX (lentSlice 9)
