@@ -229,7 +229,7 @@ impl<'s> Comparison<'s> {
         Ok(expected.0)
     }
 
-    /// Something the stores agree on that document 01 rules out.
+    /// Something the stores agree on that the rules rule out.
     pub fn insist(&self, holds: bool, what: &str) -> Compared<()> {
         if holds {
             return Ok(());

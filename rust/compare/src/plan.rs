@@ -25,7 +25,7 @@ pub struct Plan {
 }
 
 impl Plan {
-    /// The bench catalogue of document 01.
+    /// The bench catalogue.
     pub fn bench() -> Plan {
         let types = [
             (0, 3, 1, 1, 2),

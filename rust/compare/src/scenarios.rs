@@ -15,7 +15,7 @@ type Played = Result<(), Box<Difference>>;
 const LONG_EVERY: u64 = 150;
 const HUGE_EVERY: u64 = 400;
 
-/// Plays one case. The first is always what document 01 says to run also.
+/// Plays one case. The first is always the same: borders, and the bench table.
 pub fn play(dice: &mut Dice, comparison: &mut Comparison, case: u64) -> Played {
     if case == 0 {
         return run_also(dice, comparison);
@@ -409,7 +409,7 @@ fn second_pass(
     comparison.insist(status == status::GB, "the second pass ends in GB")
 }
 
-/// What document 01 says to run also, and the bench table itself.
+/// Borders: no cells, a full table, levels 15 and 16, 4,096 and 4,097 cells; and the bench table itself.
 fn run_also(dice: &mut Dice, comparison: &mut Comparison) -> Played {
     bench(comparison)?;
     no_cells(comparison)?;

@@ -31,7 +31,7 @@ impl Base {
         }
     }
 
-    /// The bench table of document 01.
+    /// The bench table.
     pub fn bench() -> Base {
         let cells: [&[u8]; 9] = [
             b"\x0107A", b"\x0213P", b"\x03P1", b"\x0214T", b"\x03T1", b"\x03P2", b"\x04n",

@@ -44,7 +44,7 @@ impl Row {
     }
 }
 
-/// The column of a status: its place in the table of document 01.
+/// The column of a status: its place in the status table (R48).
 fn column(status: Status) -> usize {
     let is_it = |each: &Status| *each == status;
     Status::ALL.iter().position(is_it).expect("all are there")

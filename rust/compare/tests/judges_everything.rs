@@ -1,4 +1,4 @@
-//! A fixed run reaches every status that document 01 allows a call, and no other.
+//! A fixed run reaches every status that the rules allow a call, and no other.
 
 use compare::tally::Row;
 use compare::{run, JUDGE};

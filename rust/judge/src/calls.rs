@@ -87,7 +87,7 @@ impl<'a> Database<'a> {
         Ok(Database { catalogue, forest })
     }
 
-    /// One call on sound blocks and a good position; refusals in the order of document 01.
+    /// One call on sound blocks and a good position; refusals in the order of R61.
     pub fn call(
         &mut self,
         position: Position,

@@ -56,7 +56,7 @@ const FIELD_ENTRY: usize = 4;
 const DEEPEST_LEVEL: usize = 15;
 
 impl Catalogue {
-    /// Reads a block; `None` where document 01 calls it a bad catalogue.
+    /// Reads a block; `None` for a bad catalogue (R2 to R8).
     pub fn read(block: &[u8]) -> Option<Catalogue> {
         let (header, rest) = split(block, HEADER)?;
         let type_count = usize::from(header[5]);

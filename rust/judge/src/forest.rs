@@ -60,7 +60,7 @@ impl<'a> Forest<'a> {
         }
     }
 
-    /// Reads a table; `None` where document 01 calls it a bad table.
+    /// Reads a table; `None` for a bad table (R10 to R17).
     pub fn read(catalogue: &Catalogue, table: &'a [u8]) -> Option<Forest<'a>> {
         let cell_size = catalogue.cell_size();
         let capacity = capacity_of(catalogue, table.len())?;

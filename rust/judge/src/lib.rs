@@ -1,4 +1,4 @@
-//! A second reading of document 01: the catalogue as types, the table as a forest of segments, the calls as
+//! A second reading of the rules of docs/CALLS.md: the catalogue as types, the table as a forest of segments, the calls as
 //! searches along paths. It is the judge the store is compared with, so it shares nothing with it: no cell
 //! arithmetic, no runs counted by level. Cell numbers appear only where a block is read or written.
 //!

@@ -33,7 +33,7 @@ impl Position {
         }
     }
 
-    /// Reads a block; `None` where document 01 calls it a bad position.
+    /// Reads a block; `None` for a bad position (R18 to R23).
     pub fn read(forest: &Forest, block: &[u8]) -> Option<Position> {
         let &[kind, place_high, place_low, parented, parent_high, parent_low, hold, zero] = block
         else {

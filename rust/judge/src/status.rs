@@ -1,4 +1,4 @@
-//! The status table of document 01.
+//! The status table (R48 to R60).
 
 /// Every status, in the order of its number.
 #[derive(Clone, Copy, PartialEq, Eq, Debug)]

@@ -1,4 +1,4 @@
-//! The bench table of document 01, and a desk to work on it.
+//! The bench table, and a desk to work on it.
 
 pub use judge::calls::{DLET, GHN, GHNP, GHU, GN, GNP, GU, ISRT, REPL};
 

@@ -1,4 +1,4 @@
-//! The judge against document 01.
+//! The judge against the cases B1 to B10, and others that were asked for.
 
 mod bench;
 mod desk;

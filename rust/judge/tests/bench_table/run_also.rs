@@ -1,4 +1,4 @@
-//! The cases that document 01 asks to run besides.
+//! The cases to be run besides: borders of rooms, levels and cells.
 
 use crate::desk::*;
 
