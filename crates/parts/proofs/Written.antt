@@ -31,14 +31,14 @@ three-set b at x y z h =
     let e : at + 2 ≡ suc (suc at) = omega arith in
     rw (add-one at, e) (sets-eq (x ∷ y ∷ z ∷ []) b at h)
 
-module _ (b : Bytes) (at x y z : ℕ) (v w : Bytes) (room : at + 3 + length v ≤ length b) where
+module _ (b : Bytes) (at x y z : ℕ) (v : Bytes) (room : at + 3 + length v ≤ length b) where
   front : length (take at b ++ (x ∷ y ∷ z ∷ [])) ≡ at + 3
   front = omega (arith, length-append (take at b) (x ∷ y ∷ z ∷ []), length-take-le at b (omega arith))
 
-  pub test-written : w ≡ v ++ drop (length v) (take (length (threeSet b at x y z) - (at + 3)) (drop (at + 3) (threeSet b at x y z)))
+  pub test-written : (w : Bytes) → w ≡ v ++ drop (length v) (take (length (threeSet b at x y z) - (at + 3)) (drop (at + 3) (threeSet b at x y z)))
       → putMid (at + 3) (length (threeSet b at x y z) - (at + 3)) (threeSet b at x y z) w ≡ written b at (x ∷ y ∷ z ∷ v)
   unfolding written
-  test-written e =
+  test-written w e =
       let p : Bytes = take at b ++ (x ∷ y ∷ z ∷ []) in
       let s : threeSet b at x y z ≡ p ++ drop (at + 3) b = three-set b at x y z (omega arith) in
       let k : at + 3 + length v ≡ at + suc (suc (suc (length v))) = omega arith in

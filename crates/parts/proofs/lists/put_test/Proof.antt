@@ -47,23 +47,22 @@ part-put-end c = search needs
 -- src/lists.rt: put(&mut list[at..], value);
 put-requires : tie.Need-put-requires
 put-requires c κs = let ·args = c .before .before .before .args in let ·pre = c .before .before .before .pre in
-    test-room (·args .list .now) (·args .used) (·args .code) (·args .operator) (·args .field) (·args .value .now)
-    (·args .value .now) (·pre)
+    test-room (·args .list .now) (·args .used) (·args .code) (·args .operator) (·args .field) (·args .value .now) (·pre)
 
 -- src/lists.rt: fn put_test(list: &mut [u8], used: usize, code: u8, operator: u8, field: u8, value: &[u8])
 same-length : tie.Need-same-length
 same-length c = let ·args = c .before .before .before .before .before .before .args in
-    let ·put = c .before .before .put in let ·pre = c .before .before .before .before .before .before .pre in
+    let ·pre = c .before .before .before .before .before .before .pre in let ·put = c .before .before .put in
     ap length (test-written (·args .list .now) (·args .used) (·args .code) (·args .operator) (·args .field)
-    (·args .value .now) (·put .last .0) (·pre) (·put .ensures)) ∙ test-length (·args .list .now) (·args .used)
-    (·args .code) (·args .operator) (·args .field) (·args .value .now) (·put .last .0) (·pre)
+    (·args .value .now) (·pre) (·put .last .0) (·put .ensures)) ∙ test-length (·args .list .now) (·args .used)
+    (·args .code) (·args .operator) (·args .field) (·args .value .now) (·pre)
 
 -- src/lists.rt: fn put_test(list: &mut [u8], used: usize, code: u8, operator: u8, field: u8, value: &[u8])
 returns : tie.Need-returns
 returns c = let ·args = c .before .before .before .before .before .before .args in
-    let ·put = c .before .before .put in let ·pre = c .before .before .before .before .before .before .pre in
+    let ·pre = c .before .before .before .before .before .before .pre in let ·put = c .before .before .put in
     test-written (·args .list .now) (·args .used) (·args .code) (·args .operator) (·args .field) (·args .value .now)
-    (·put .last .0) (·pre) (·put .ensures)
+    (·pre) (·put .last .0) (·put .ensures)
 
 pub put-test-spec : {M : Type 1} → statement M
 put-test-spec =
