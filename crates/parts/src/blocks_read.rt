@@ -65,7 +65,7 @@ pub extern "C" fn umbristal_cell_type(tab: &[u8], cell: usize) -> u8
 pub extern "C" fn umbristal_data_start(tab: &[u8], cell: usize) -> usize
     ensures { λ r. ⌜ (r ≡ dataStart (now (tab .entry)) cell) × (r < 16777216) ⌝ }
 {
-    if count(tab) <= cell {
+    if cell >= count(tab) {
         return 0;
     }
     start_by_header(tab, cell) + 1
