@@ -10,6 +10,7 @@ ghost use Prim.Native.Nat.{_+_, _<_, _≤_};
 ghost use lib.ListN.{length, drop};
 ghost use Rattle.parts.specs.Lists.{built, written, listAll, listTest};
 
+// A list of one byte, 0: no type has that code, and an empty list would match every segment.
 fn spoil(list: &mut [u8]) -> usize
     requires { ⌜ 0 < length (now list) ⌝ }
     ensures { λ r. ⌜ (r ≡ 1) × (now (list .exit) ≡ 0 ∷ drop 1 (now (list .entry))) ⌝ }
