@@ -1,3 +1,4 @@
 pub mod Result
 pub mod Blocks
 pub mod Lists
+pub mod Spoiled

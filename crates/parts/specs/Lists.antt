@@ -1,6 +1,6 @@
 -- A list that grows argument by argument in a buffer that holds every list which can be right: 15 levels, each with a field of 120 bytes. What does not
 -- fit there spoils it: it begins with type 0 then, which is none, and whatever follows it is refused (R26). Assumes nothing: these are definitions.
-use mathlib.Core.Bool.{Bool, not, _&&_}
+use mathlib.Core.Bool.{not, _&&_}
 use mathlib.Core.List.{[], _∷_, _++_}
 use Prim.Native.Nat.{ℕ, _+_}
 use lib.Dec.{leb, eqb}

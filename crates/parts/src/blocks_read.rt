@@ -8,7 +8,8 @@ use cells::lookup::cell_size;
 use cells::lookup::count;
 use terms::TypeCode;
 ghost use mathlib.Core.Path.{_≡_};
-ghost use Prim.Native.Nat.{_<_};
+ghost use Prim.Native.Nat.{_+_, _*_, _<_};
+ghost use Rattle.rules.specs.Block.{byte};
 ghost use Rattle.rules.specs.Catalogue.{types, largest};
 ghost use Rattle.rules.specs.Table.{count};
 ghost use Rattle.parts.specs.Blocks.{tableSize, cellType, dataStart, dataLength};
@@ -40,6 +41,14 @@ pub extern "C" fn umbristal_count(tab: &[u8]) -> usize
     count(tab)
 }
 
+// Where a cell begins, by the cell size that the table's own header has.
+fn start_by_header(tab: &[u8], cell: usize) -> usize
+    requires { ⌜ cell < 65536 ⌝ }
+    ensures { λ r. ⌜ (r ≡ 8 + cell * byte (now (tab .entry)) 5) × (r < 16777215) ⌝ }
+{
+    8 + cell * wide(byte_at(tab, 5))
+}
+
 // The type of the segment in a cell; 0 where there is none.
 #[no_mangle]
 pub extern "C" fn umbristal_cell_type(tab: &[u8], cell: usize) -> u8
@@ -48,7 +57,7 @@ pub extern "C" fn umbristal_cell_type(tab: &[u8], cell: usize) -> u8
     if count(tab) <= cell {
         return 0;
     }
-    byte_at(tab, 8 + cell * wide(byte_at(tab, 5)))
+    byte_at(tab, start_by_header(tab, cell))
 }
 
 // At which byte of the table its data begin; 0 where there is no segment.
@@ -56,10 +65,10 @@ pub extern "C" fn umbristal_cell_type(tab: &[u8], cell: usize) -> u8
 pub extern "C" fn umbristal_data_start(tab: &[u8], cell: usize) -> usize
     ensures { λ r. ⌜ (r ≡ dataStart (now (tab .entry)) cell) × (r < 16777216) ⌝ }
 {
-    if count(tab) <= cell {
+    if cell >= count(tab) {
         return 0;
     }
-    9 + cell * wide(byte_at(tab, 5))
+    start_by_header(tab, cell) + 1
 }
 
 // How many bytes they have; 0 where there is no segment, or its data would not lie in the table.

@@ -5,15 +5,27 @@ use blocks::wide;
 use catalogue::fields::field_length;
 use terms::FieldNumber;
 ghost use mathlib.Core.Path.{_≡_};
-ghost use mathlib.Core.List.{_∷_};
-ghost use lib.ListN.{drop};
-ghost use Rattle.parts.specs.Lists.{built, listAll, listTest};
+ghost use mathlib.Core.List.{[], _∷_};
+ghost use Prim.Native.Nat.{_+_, _<_, _≤_};
+ghost use lib.ListN.{length, drop};
+ghost use Rattle.parts.specs.Lists.{built, written, listAll, listTest};
 
-fn spoil(list: &mut [u8; 1845]) -> usize
+// A list of one byte, 0: no type has that code, and an empty list would match every segment.
+fn spoil(list: &mut [u8]) -> usize
+    requires { ⌜ 0 < length (now list) ⌝ }
     ensures { λ r. ⌜ (r ≡ 1) × (now (list .exit) ≡ 0 ∷ drop 1 (now (list .entry))) ⌝ }
 {
     list[0] = 0;
     1
+}
+
+// The bytes of an argument without a test, where there is room for them.
+fn put_all(list: &mut [u8], used: usize, code: u8)
+    requires { ⌜ used + 2 ≤ length (now list) ⌝ }
+    ensures { λ _. ⌜ now (list .exit) ≡ written (now (list .entry)) used (code ∷ 0 ∷ []) ⌝ }
+{
+    list[used] = code;
+    list[used + 1] = 0;
 }
 
 // An argument that tests nothing: all segments of a type.
@@ -24,9 +36,20 @@ pub extern "C" fn umbristal_list_all(list: &mut [u8; 1845], used: usize, code: u
     if 1843 < used {
         return spoil(list);
     }
-    list[used] = code;
-    list[used + 1] = 0;
+    put_all(list, used, code);
     used + 2
+}
+
+// The bytes of an argument with a test, where there is room for them.
+fn put_test(list: &mut [u8], used: usize, code: u8, operator: u8, field: u8, value: &[u8])
+    requires { ⌜ used + 3 + length (now value) ≤ length (now list) ⌝ }
+    ensures { λ _. ⌜ now (list .exit) ≡ written (now (list .entry)) used (code ∷ operator ∷ field ∷ now (value .entry)) ⌝ }
+{
+    list[used] = code;
+    list[used + 1] = operator;
+    list[used + 2] = field;
+    let at = used + 3;
+    put(&mut list[at..], value);
 }
 
 // An argument that tests a field: with an operator other than 0, and a value as long as the field.
@@ -56,10 +79,6 @@ pub extern "C" fn umbristal_list_test(
     if 1842 - used < long {
         return spoil(list);
     }
-    list[used] = code;
-    list[used + 1] = operator;
-    list[used + 2] = field;
-    let at = used + 3;
-    put(&mut list[at..], value);
-    at + long
+    put_test(list, used, code, operator, field, value);
+    used + 3 + long
 }

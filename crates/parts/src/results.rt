@@ -83,7 +83,5 @@ pub extern "C" fn umbristal_letters(status: u8, letters: &mut [u8; 3])
     ensures { λ _. ⌜ now (letters .exit) ≡ lettersOf status ++ 0 ∷ [] ⌝ }
 {
     let two = letters_of(status);
-    letters[0] = two[0];
-    letters[1] = two[1];
-    letters[2] = 0;
+    *letters = [two[0], two[1], 0];
 }

@@ -24,12 +24,14 @@ pub fn tell(result: u64, told: &mut [u8; 8])
     let status = umbristal_status(result);
     let two = told_letters(status);
     let removed = umbristal_removed(result);
-    told[0] = two[0];
-    told[1] = two[1];
-    told[2] = status;
-    told[3] = umbristal_type(result);
-    told[4] = umbristal_level(result);
-    told[5] = umbristal_length(result);
-    told[6] = (removed / 256) as u8;
-    told[7] = (removed % 256) as u8;
+    *told = [
+        two[0],
+        two[1],
+        status,
+        umbristal_type(result),
+        umbristal_level(result),
+        umbristal_length(result),
+        (removed / 256) as u8,
+        (removed % 256) as u8,
+    ];
 }

@@ -2,8 +2,8 @@
 
 use compare::dice::Dice;
 use compare::drawing::{self, Word};
-use compare::plan::Plan;
-use compare::table::{Base, Size};
+use compare::plan::{FieldPlan, Plan, TypePlan};
+use compare::table::{table_of, Base, Size};
 use judge::Status;
 use linked::parts;
 
@@ -22,6 +22,30 @@ fn the_parts_of_a_result() {
         assert_eq!(parts::length(result), bytes[3]);
         assert_eq!(parts::removed(result), above);
         assert_eq!(parts::hits(result), above);
+    }
+}
+
+/// Each bit of a result stands in one part; the upper 16 are in none.
+#[test]
+fn no_part_of_a_result_reaches_into_another() {
+    for bit in 0..64 {
+        let result = 1 << bit;
+        let low = [
+            parts::status(result),
+            parts::r#type(result),
+            parts::level(result),
+            parts::length(result),
+        ];
+        assert_eq!(
+            u64::from(u32::from_le_bytes(low)),
+            result % (1 << 32),
+            "bit {bit}"
+        );
+        assert_eq!(
+            u64::from(parts::removed(result)),
+            (result >> 32) % (1 << 16)
+        );
+        assert_eq!(parts::hits(result), parts::removed(result));
     }
 }
 
@@ -55,6 +79,24 @@ fn the_parts_of_a_position() {
                 }
             }
         }
+    }
+}
+
+/// A flag is set by 1 and by nothing else, and a number may be any.
+#[test]
+fn the_parts_of_any_eight_bytes() {
+    let mut dice = Dice::new(18, 0);
+    for case in 0..10_000 {
+        let mut block: [u8; 8] = dice.bytes(8).try_into().expect("8 bytes");
+        for flag in [0, 3, 6] {
+            block[flag] = (case % 256) as u8;
+        }
+        let is_set = u8::from(case % 256 == 1);
+        assert_eq!(parts::on_cell(&block), is_set);
+        assert_eq!(parts::has_parentage(&block), is_set);
+        assert_eq!(parts::hold(&block), is_set);
+        assert_eq!(parts::cell(&block).to_be_bytes(), block[1..3]);
+        assert_eq!(parts::parentage(&block).to_be_bytes(), block[4..6]);
     }
 }
 
@@ -116,6 +158,55 @@ fn no_helper_leads_out_of_a_table() {
     }
 }
 
+#[test]
+fn data_may_end_where_the_table_ends() {
+    let Base {
+        catalogue, table, ..
+    } = Base::bench();
+    let last = parts::count(&table) - 1;
+    let long = parts::data_length(&catalogue, &table, last);
+    let end = parts::data_start(&table, last) + usize::from(long);
+    assert!(0 < long && end < table.len());
+    assert_eq!(parts::data_length(&catalogue, &table[..end], last), long);
+    assert_eq!(parts::data_length(&catalogue, &table[..end - 1], last), 0);
+    assert_eq!(
+        parts::cell_type(&table[..end - 1], last),
+        parts::cell_type(&table, last)
+    );
+}
+
+#[test]
+fn a_cell_of_no_type_has_no_data() {
+    let Base {
+        catalogue,
+        mut table,
+        ..
+    } = Base::bench();
+    let at = parts::data_start(&table, 2) - 1;
+    for none in [0, 5, 255] {
+        table[at] = none;
+        assert_eq!(parts::cell_type(&table, 2), none);
+        assert_eq!(parts::data_length(&catalogue, &table, 2), 0);
+    }
+}
+
+/// What a block has not reads as 0, and the highest numbers that a header can have lead to no overflow.
+#[test]
+fn blocks_that_are_cut_or_full() {
+    let cat = Plan::bench().block();
+    let full = [0xFF; 8];
+    assert_eq!(parts::count(&full), 65_535);
+    assert_eq!(parts::data_start(&full, 65_534), 9 + 65_534 * 255);
+    assert_eq!(parts::data_start(&full, 65_535), 0);
+    assert_eq!(parts::cell_type(&full, 65_534), 0);
+    assert_eq!(parts::data_length(&cat, &full, 65_534), 0);
+    assert_eq!(parts::count(&full[..7]), 255 * 256);
+    assert_eq!(parts::count(&full[..6]), 0);
+    assert_eq!(parts::count(b""), 0);
+    assert_eq!(parts::area_size(b""), 0);
+    assert_eq!(parts::data_start(b"", 0), 0);
+}
+
 fn added(cat: &[u8], list: &mut [u8; LIST], used: usize, word: &Word) -> usize {
     match word.operator {
         0 => parts::list_all(list, used, word.type_code),
@@ -149,20 +240,27 @@ fn answered(list: &[u8]) -> u8 {
 #[test]
 fn what_cannot_be_right_spoils_a_list_for_good() {
     let cat = Base::bench().catalogue;
-    let spoils: [fn(&[u8], &mut [u8; LIST]) -> usize; 6] = [
+    let spoils: [fn(&[u8], &mut [u8; LIST]) -> usize; 9] = [
         |cat, list| parts::list_test(cat, list, 0, 1, 1, 1, b"0"),
         |cat, list| parts::list_test(cat, list, 0, 1, 1, 1, b"071"),
         |cat, list| parts::list_test(cat, list, 0, 1, 0, 1, b"07"),
         |cat, list| parts::list_test(cat, list, LIST - 4, 1, 1, 1, b"07"),
+        |cat, list| parts::list_test(cat, list, LIST - 2, 1, 1, 1, b"07"),
         |cat, list| parts::list_test(cat, list, usize::MAX, 1, 1, 1, b"07"),
         |_, list| parts::list_all(list, LIST - 1, 1),
+        |_, list| parts::list_all(list, LIST, 1),
+        |_, list| parts::list_all(list, usize::MAX, 1),
     ];
     for (which, spoil) in spoils.iter().enumerate() {
         let mut list = [0x55; LIST];
         let used = spoil(&cat, &mut list);
         assert_eq!((used, list[0]), (1, 0), "fault {which}");
+        assert!(list[1..].iter().all(|&byte| byte == 0x55));
         assert_eq!(answered(&list[..used]), Status::AC.number());
         let used = parts::list_all(&mut list, used, 1);
+        assert_eq!(answered(&list[..used]), Status::AC.number());
+        let used = parts::list_test(&cat, &mut list, used, 2, 1, 2, b"12");
+        assert_eq!(used, 8, "fault {which}");
         assert_eq!(answered(&list[..used]), Status::AC.number());
     }
 }
@@ -178,4 +276,40 @@ fn a_list_may_fill_its_buffer_to_the_last_byte() {
         LIST
     );
     assert_eq!(list[LIST - 5..], *b"\x01\x06\x0107");
+}
+
+/// 15 types, each beneath the one before, and for each a field of all its 120 bytes.
+fn deepest() -> Plan {
+    let type_plan = |parent| TypePlan {
+        parent,
+        length: 120,
+        kind: 0,
+        key_start: 0,
+        key_length: 0,
+    };
+    let field_plan = |type_code| FieldPlan {
+        type_code,
+        start: 1,
+        length: 120,
+    };
+    Plan {
+        types: (0..15).map(type_plan).collect(),
+        fields: (1..=15).map(field_plan).collect(),
+    }
+}
+
+/// The buffer is as long as the longest list that can be right: one byte less would not do.
+#[test]
+fn the_longest_list_fills_the_buffer() {
+    let plan = deepest();
+    let (cat, mut tab) = (plan.block(), table_of(&plan, &[], 1));
+    let (mut list, mut used) = ([0x55; LIST], 0);
+    for level in 1..=15 {
+        used = parts::list_test(&cat, &mut list, used, level, 1, level, &[level; 120]);
+    }
+    assert_eq!(used, LIST);
+    let (mut pos, mut area) = ([0; 8], [0; 120]);
+    let result = linked::call(&cat, &mut tab, &mut pos, 1, &list, &mut area);
+    assert_eq!(parts::status(result), Status::GE.number());
+    assert_eq!(parts::list_all(&mut list, used, 1), 1);
 }

@@ -1,0 +1,4 @@
+pub mod Letters
+pub mod Headers
+pub mod Written
+pub mod Spoiled
