@@ -192,18 +192,25 @@ size_t umbristal_list_test(const uint8_t *cat, size_t cat_len, uint8_t list[UMBR
  * length. Bytes 6 and 7: removed, or hits, high byte first. */
 #define UMBRISTAL_ASK_SIZE 21
 #define UMBRISTAL_TOLD_SIZE 8
-void umbristal_cobol_check(const uint8_t ask[21], const uint8_t cat[521], const uint8_t tab[495625], uint8_t told[8]);
-void umbristal_cobol_make(const uint8_t ask[21], const uint8_t cat[521], uint8_t tab[495625], uint8_t told[8]);
-void umbristal_cobol_call(const uint8_t ask[21], const uint8_t cat[521], uint8_t tab[495625], uint8_t pos[8], const uint8_t list[1846],
-                          uint8_t area[120], uint8_t told[8]);
-void umbristal_cobol_call_sound(const uint8_t ask[21], const uint8_t cat[521], uint8_t tab[495625], uint8_t pos[8], const uint8_t list[1846],
-                                uint8_t area[120], uint8_t told[8]);
-void umbristal_cobol_report_nested(const uint8_t ask[21], const uint8_t cat[521], const uint8_t tab[495625], const uint8_t list1[1846],
-                                   const uint8_t list2[1846], uint8_t out[8192], uint8_t told[8]);
-void umbristal_cobol_report_joined(const uint8_t ask[21], const uint8_t cat[521], const uint8_t tab[495625], const uint8_t list1[1846],
-                                   const uint8_t list2[1846], uint8_t out[8192], uint8_t told[8]);
-void umbristal_cobol_report_plain(const uint8_t ask[21], const uint8_t cat[521], const uint8_t tab[495625], const uint8_t list1[1846],
-                                  const uint8_t list2[1846], uint8_t out[8192], uint8_t told[8]);
+void umbristal_cobol_check(const uint8_t ask[UMBRISTAL_ASK_SIZE], const uint8_t cat[521], const uint8_t tab[495625],
+                           uint8_t told[UMBRISTAL_TOLD_SIZE]);
+void umbristal_cobol_make(const uint8_t ask[UMBRISTAL_ASK_SIZE], const uint8_t cat[521], uint8_t tab[495625],
+                          uint8_t told[UMBRISTAL_TOLD_SIZE]);
+void umbristal_cobol_call(const uint8_t ask[UMBRISTAL_ASK_SIZE], const uint8_t cat[521], uint8_t tab[495625],
+                          uint8_t pos[UMBRISTAL_POSITION_SIZE], const uint8_t list[1846], uint8_t area[120],
+                          uint8_t told[UMBRISTAL_TOLD_SIZE]);
+void umbristal_cobol_call_sound(const uint8_t ask[UMBRISTAL_ASK_SIZE], const uint8_t cat[521], uint8_t tab[495625],
+                                uint8_t pos[UMBRISTAL_POSITION_SIZE], const uint8_t list[1846], uint8_t area[120],
+                                uint8_t told[UMBRISTAL_TOLD_SIZE]);
+void umbristal_cobol_report_nested(const uint8_t ask[UMBRISTAL_ASK_SIZE], const uint8_t cat[521], const uint8_t tab[495625],
+                                   const uint8_t list1[1846], const uint8_t list2[1846], uint8_t out[8192],
+                                   uint8_t told[UMBRISTAL_TOLD_SIZE]);
+void umbristal_cobol_report_joined(const uint8_t ask[UMBRISTAL_ASK_SIZE], const uint8_t cat[521], const uint8_t tab[495625],
+                                   const uint8_t list1[1846], const uint8_t list2[1846], uint8_t out[8192],
+                                   uint8_t told[UMBRISTAL_TOLD_SIZE]);
+void umbristal_cobol_report_plain(const uint8_t ask[UMBRISTAL_ASK_SIZE], const uint8_t cat[521], const uint8_t tab[495625],
+                                  const uint8_t list1[1846], const uint8_t list2[1846], uint8_t out[8192],
+                                  uint8_t told[UMBRISTAL_TOLD_SIZE]);
 
 #ifdef __cplusplus
 }

@@ -8,10 +8,14 @@ use Rattle.rules.specs.Block.{Bytes, byte}
 use Rattle.rules.specs.Outcome.{checkTable, makeStatus, madeTable}
 use Rattle.parts.specs.Result.{toldOf}
 use Rattle.umbristal.specs.Face.{HandedBack, handedBack, ReportedBack, reportedBack, reportFace}
+use Rattle.umbristal.specs.Session.{Face}
 
--- the number of four bytes at byte i, high byte first, but at most as much as the block has
+-- the number of four bytes at byte i, high byte first; as a length it counts at most as much as the block has
+abbrev pub written : Bytes → ℕ → ℕ
+written ask i = 16777216 * byte ask i + 65536 * byte ask (i + 1) + 256 * byte ask (i + 2) + byte ask (i + 3)
+
 unfoldable pub lengthAt : Bytes → ℕ → ℕ → ℕ
-lengthAt ask i most = min (16777216 * byte ask i + 65536 * byte ask (i + 1) + 256 * byte ask (i + 2) + byte ask (i + 3)) most
+lengthAt ask i most = min (written ask i) most
 
 -- the lengths of what is lent; each block has a byte more than any that is right, so that a length which is too great shows
 abbrev pub catLength : Bytes → ℕ
@@ -34,13 +38,13 @@ outLength ask = lengthAt ask 17 8192
 
 -- blocks that have these sizes, or more
 pub record Sizes (cat tab list area : Bytes) : Type 0 where
-  pub cat : 521 ≤ length cat
-  pub tab : 495625 ≤ length tab
-  pub list : 1846 ≤ length list
-  pub area : 120 ≤ length area
+  pub cat-long : 521 ≤ length cat
+  pub tab-long : 495625 ≤ length tab
+  pub list-long : 1846 ≤ length list
+  pub area-long : 120 ≤ length area
 
 -- what a call leaves of whole blocks, where `f` is what it leaves of their fronts
-unfoldable pub handedWhole : (Bytes → Bytes → Bytes → ℕ → Bytes → Bytes → HandedBack) → Bytes → Bytes → Bytes → Bytes → Bytes → Bytes → HandedBack
+unfoldable pub handedWhole : Face → Bytes → Bytes → Bytes → Bytes → Bytes → Bytes → HandedBack
 handedWhole f ask cat tab block list area =
     let h = f (take (catLength ask) cat) (take (tabLength ask) tab) block (byte ask 0) (take (listLength ask) list) (take (areaLength ask) area) in
     handedBack (h .result) (h .table ++ drop (tabLength ask) tab) (h .block) (h .area ++ drop (areaLength ask) area)
@@ -61,15 +65,17 @@ toldCall h = callLeft (toldOf (h .result)) (h .table) (h .block) (h .area)
 -- of a report likewise
 unfoldable pub reportedWhole : Bytes → Bytes → Bytes → Bytes → Bytes → Bytes → ReportedBack
 reportedWhole ask cat tab one two out =
-    let h = reportFace (take (catLength ask) cat) (take (tabLength ask) tab) (take (listLength ask) one) (take (secondLength ask) two) (take (outLength ask) out) in
+    let h =
+    reportFace (take (catLength ask) cat) (take (tabLength ask) tab) (take (listLength ask) one) (take (secondLength ask) two)
+    (take (outLength ask) out) in
     reportedBack (h .result) (h .out ++ drop (outLength ask) out)
 
 pub record ReportSizes (cat tab one two out : Bytes) : Type 0 where
-  pub cat : 521 ≤ length cat
-  pub tab : 495625 ≤ length tab
-  pub one : 1846 ≤ length one
-  pub two : 1846 ≤ length two
-  pub out : 8192 ≤ length out
+  pub cat-long : 521 ≤ length cat
+  pub tab-long : 495625 ≤ length tab
+  pub one-long : 1846 ≤ length one
+  pub two-long : 1846 ≤ length two
+  pub out-long : 8192 ≤ length out
 
 pub record ReportLeft : Type 0 where
   pub told : Bytes

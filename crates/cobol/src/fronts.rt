@@ -67,7 +67,8 @@ pub(crate) fn called_sound(
     list: &[u8],
     area: &mut [u8],
 ) -> u64
-    requires { ⌜ Sizes (now cat) (now tab) (now list) (now area) × SoundFor (take (catLength (now ask)) (now cat)) (take (tabLength (now ask)) (now tab)) (positionOf (now pos)) ⌝ }
+    requires { ⌜ Sizes (now cat) (now tab) (now list) (now area)
+        × SoundFor (take (catLength (now ask)) (now cat)) (take (tabLength (now ask)) (now tab)) (positionOf (now pos)) ⌝ }
     ensures { λ r. ⌜ handedBack r (now (tab .exit)) (now (pos .exit)) (now (area .exit))
         ≡ handedWhole soundFace (now (ask .entry)) (now (cat .entry)) (now (tab .entry)) (now (pos .entry)) (now (list .entry)) (now (area .entry)) ⌝ }
 {

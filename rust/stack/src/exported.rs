@@ -2,6 +2,14 @@
 
 use crate::asked::{Asked, Pair};
 use crate::blocks::Blocks;
+use crate::by_reference::{self, umbristal_cobol_call, umbristal_cobol_call_sound};
+use crate::by_reference::{umbristal_cobol_check, umbristal_cobol_make};
+use crate::by_reference::{
+    umbristal_cobol_report_joined, umbristal_cobol_report_nested, umbristal_cobol_report_plain,
+};
+use crate::helpers::{
+    self, umbristal_data_length, umbristal_letters, umbristal_list_test, umbristal_table_size,
+};
 use crate::painted::painted;
 use std::hint::black_box;
 
@@ -54,9 +62,19 @@ pub enum Exported {
     /// It is given only what is sound.
     CallSound(Call),
     Report(Report),
+    CobolCheck(by_reference::Check),
+    CobolMake(by_reference::Make),
+    CobolCall(by_reference::Call),
+    /// It too is given only what is sound.
+    CobolCallSound(by_reference::Call),
+    CobolReport(by_reference::Report),
+    TableSize(helpers::TableSize),
+    DataLength(helpers::DataLength),
+    ListTest(helpers::ListTest),
+    Letters(helpers::Letters),
 }
 
-pub const ALL: [(&str, Exported); 8] = [
+pub const ALL: [(&str, Exported); 19] = [
     (
         "umbristal_catalogue_check",
         Exported::CatalogueCheck(umbristal_catalogue_check),
@@ -86,20 +104,64 @@ pub const ALL: [(&str, Exported); 8] = [
         "umbristal_report_plain",
         Exported::Report(umbristal_report_plain),
     ),
+    (
+        "umbristal_cobol_check",
+        Exported::CobolCheck(umbristal_cobol_check),
+    ),
+    (
+        "umbristal_cobol_make",
+        Exported::CobolMake(umbristal_cobol_make),
+    ),
+    (
+        "umbristal_cobol_call",
+        Exported::CobolCall(umbristal_cobol_call),
+    ),
+    (
+        "umbristal_cobol_call_sound",
+        Exported::CobolCallSound(umbristal_cobol_call_sound),
+    ),
+    (
+        "umbristal_cobol_report_nested",
+        Exported::CobolReport(umbristal_cobol_report_nested),
+    ),
+    (
+        "umbristal_cobol_report_joined",
+        Exported::CobolReport(umbristal_cobol_report_joined),
+    ),
+    (
+        "umbristal_cobol_report_plain",
+        Exported::CobolReport(umbristal_cobol_report_plain),
+    ),
+    (
+        "umbristal_table_size",
+        Exported::TableSize(umbristal_table_size),
+    ),
+    (
+        "umbristal_data_length",
+        Exported::DataLength(umbristal_data_length),
+    ),
+    (
+        "umbristal_list_test",
+        Exported::ListTest(umbristal_list_test),
+    ),
+    ("umbristal_letters", Exported::Letters(umbristal_letters)),
 ];
 
 /// Words that a call passes in registers, and bytes of its return address on the stack.
 const REGISTERS: usize = if cfg!(target_arch = "x86_64") { 6 } else { 8 };
 const RETURN: usize = if cfg!(target_arch = "x86_64") { 8 } else { 0 };
 
+/// How deep the stack goes, and what the function answers.
+pub type Measured = (Option<usize>, u64);
+
 /// How deep the stack goes below the caller of a function with so many words of arguments, and what it answers.
 /// `work` calls the function that it is given; `idle` has the same signature and needs no stack of its own.
-fn below<F: Copy>(
+pub fn below<F: Copy>(
     function: F,
     idle: F,
     words: usize,
     work: &mut dyn FnMut(F) -> u64,
-) -> (Option<usize>, u64) {
+) -> Measured {
     let mut result = 0;
     let whole = painted(&mut || result = work(black_box(function)));
     let outside = painted(&mut || {
@@ -114,7 +176,7 @@ extern "C" fn idle_check(_: *const u8, _: usize) -> u8 {
     0
 }
 
-pub fn checked(check: Check, blocks: &Blocks) -> (Option<usize>, u64) {
+pub fn checked(check: Check, blocks: &Blocks) -> Measured {
     below(check, idle_check, 2, &mut |function| {
         let cat = &blocks.catalogue;
         // SAFETY: the pointer comes from a slice with its length.
@@ -126,7 +188,7 @@ extern "C" fn idle_table_check(_: *const u8, _: usize, _: *const u8, _: usize) -
     0
 }
 
-pub fn table_checked(check: TableCheck, blocks: &Blocks) -> (Option<usize>, u64) {
+pub fn table_checked(check: TableCheck, blocks: &Blocks) -> Measured {
     below(check, idle_table_check, 4, &mut |function| {
         let (cat, tab) = (&blocks.catalogue, &blocks.table);
         // SAFETY: each pointer comes from a slice with its length.
@@ -138,7 +200,7 @@ extern "C" fn idle_table_make(_: *const u8, _: usize, _: *mut u8, _: usize) -> u
     0
 }
 
-pub fn table_made(make: TableMake, blocks: &Blocks) -> (Option<usize>, u64) {
+pub fn table_made(make: TableMake, blocks: &Blocks) -> Measured {
     let mut table = blocks.table.clone();
     below(make, idle_table_make, 4, &mut |function| {
         let (cat, tab) = (&blocks.catalogue, &mut table);
@@ -155,7 +217,7 @@ extern "C" fn idle_call(
     0
 }
 
-pub fn called(call: Call, blocks: &Blocks, asked: &Asked) -> (Option<usize>, u64) {
+pub fn called(call: Call, blocks: &Blocks, asked: &Asked) -> Measured {
     let mut table = blocks.table.clone();
     let mut position = asked.position;
     let mut area = asked.area.clone();
@@ -189,7 +251,7 @@ extern "C" fn idle_report(
     0
 }
 
-pub fn reported(report: Report, blocks: &Blocks, pair: &Pair, room: usize) -> (Option<usize>, u64) {
+pub fn reported(report: Report, blocks: &Blocks, pair: &Pair, room: usize) -> Measured {
     let mut out = vec![0; room];
     below(report, idle_report, 10, &mut |function| {
         let (cat, tab, one, two) = (&blocks.catalogue, &blocks.table, &pair.one, &pair.two);

@@ -2,17 +2,20 @@
 
 mod asked;
 pub mod blocks;
+mod by_reference;
 mod exported;
+mod helpers;
 mod painted;
 
 use asked::{areas, lists, pairs, positions, Asked, Pair};
 use blocks::{Blocks, TABLES};
-use exported::Exported;
+use exported::{Exported, Measured};
 use face::number::DLET;
 use std::collections::BTreeSet;
 
 /// The deepest stack of a function on each table, in bytes, from its caller's frame down, with the return address
-/// and the arguments passed on the stack; none where it cannot be measured. And how its calls ended.
+/// and the arguments passed on the stack; none where it cannot be measured. And how its calls ended; of a helper, whether
+/// it had an answer.
 pub struct Depth {
     pub function: &'static str,
     pub bytes: [Option<usize>; TABLES],
@@ -53,7 +56,7 @@ impl Deepest<'_> {
         }
     }
 
-    fn note(&mut self, (bytes, result): (Option<usize>, u64)) {
+    fn note(&mut self, (bytes, result): Measured) {
         self.bytes = self.bytes.max(bytes);
         self.statuses.insert(result as u8);
     }
@@ -61,40 +64,81 @@ impl Deepest<'_> {
 
 /// The function on sound blocks, and where it takes any bytes on such as are refused late.
 fn measure(function: Exported, blocks: &Blocks, deepest: &mut Deepest) {
-    let refused = blocks.refused_late();
-    let any = || refused.iter().chain([blocks]);
     match function {
-        Exported::CatalogueCheck(check) => {
-            any().for_each(|blocks| deepest.note(exported::checked(check, blocks)));
+        Exported::CatalogueCheck(f) => any_blocks(&|b| exported::checked(f, b), blocks, deepest),
+        Exported::TableCheck(f) => any_blocks(&|b| exported::table_checked(f, b), blocks, deepest),
+        Exported::TableMake(f) => any_blocks(&|b| exported::table_made(f, b), blocks, deepest),
+        Exported::CobolCheck(f) => any_blocks(&|b| by_reference::checked(f, b), blocks, deepest),
+        Exported::CobolMake(f) => any_blocks(&|b| by_reference::made(f, b), blocks, deepest),
+        Exported::Call(f) => any_call(&|b, a| exported::called(f, b, a), blocks, deepest),
+        Exported::CobolCall(f) => any_call(&|b, a| by_reference::called(f, b, a), blocks, deepest),
+        Exported::CallSound(f) => every_call(&|b, a| exported::called(f, b, a), blocks, deepest),
+        Exported::CobolCallSound(f) => {
+            every_call(&|b, a| by_reference::called(f, b, a), blocks, deepest);
         }
-        Exported::TableCheck(check) => {
-            any().for_each(|blocks| deepest.note(exported::table_checked(check, blocks)));
+        Exported::Report(f) => {
+            any_report(
+                &|b, p, room| exported::reported(f, b, p, room),
+                blocks,
+                deepest,
+            );
         }
-        Exported::TableMake(make) => {
-            any().for_each(|blocks| deepest.note(exported::table_made(make, blocks)));
+        Exported::CobolReport(f) => {
+            any_report(
+                &|b, p, room| by_reference::reported(f, b, p, room),
+                blocks,
+                deepest,
+            );
         }
-        Exported::Call(call) => {
-            every_call(call, blocks, deepest);
-            any().for_each(|blocks| {
-                deepest.note(exported::called(call, blocks, &Asked::past_the_end()));
-            });
-        }
-        Exported::CallSound(call) => every_call(call, blocks, deepest),
-        Exported::Report(report) => {
-            for pair in pairs(blocks) {
-                for room in [2 * blocks.cells, 2, 0] {
-                    deepest.note(exported::reported(report, blocks, &pair, room));
-                }
-            }
-            refused.iter().for_each(|blocks| {
-                deepest.note(exported::reported(report, blocks, &Pair::roots(), 0));
-            });
+        helper => measure_helper(helper, blocks, deepest),
+    }
+}
+
+/// The helpers, each with an answer and without one.
+fn measure_helper(function: Exported, blocks: &Blocks, deepest: &mut Deepest) {
+    for number in [0, 1, 255, 4097] {
+        match function {
+            Exported::TableSize(f) => deepest.note(helpers::table_sized(f, blocks, number)),
+            Exported::DataLength(f) => deepest.note(helpers::data_measured(f, blocks, number)),
+            Exported::ListTest(f) => deepest.note(helpers::list_tested(f, blocks, number)),
+            Exported::Letters(f) => deepest.note(helpers::lettered(f, number as u8)),
+            _ => unreachable!("every other function is measured above"),
         }
     }
 }
 
+type OnBlocks<'a> = &'a dyn Fn(&Blocks) -> Measured;
+type OnCall<'a> = &'a dyn Fn(&Blocks, &Asked) -> Measured;
+type OnReport<'a> = &'a dyn Fn(&Blocks, &Pair, usize) -> Measured;
+
+fn any_blocks(run: OnBlocks, blocks: &Blocks, deepest: &mut Deepest) {
+    deepest.note(run(blocks));
+    blocks
+        .refused_late()
+        .iter()
+        .for_each(|blocks| deepest.note(run(blocks)));
+}
+
+fn any_call(run: OnCall, blocks: &Blocks, deepest: &mut Deepest) {
+    every_call(run, blocks, deepest);
+    any_blocks(
+        &|blocks| run(blocks, &Asked::past_the_end()),
+        blocks,
+        deepest,
+    );
+}
+
+fn any_report(run: OnReport, blocks: &Blocks, deepest: &mut Deepest) {
+    for pair in pairs(blocks) {
+        for room in [2 * blocks.cells, 2, 0] {
+            deepest.note(run(blocks, &pair, room));
+        }
+    }
+    any_blocks(&|blocks| run(blocks, &Pair::roots(), 0), blocks, deepest);
+}
+
 /// The nine calls and the numbers beside them, with every list, from every position, with every area.
-fn every_call(call: exported::Call, blocks: &Blocks, deepest: &mut Deepest) {
+fn every_call(run: OnCall, blocks: &Blocks, deepest: &mut Deepest) {
     for list in lists(blocks) {
         for position in positions(blocks) {
             for area in areas(blocks, position) {
@@ -105,7 +149,7 @@ fn every_call(call: exported::Call, blocks: &Blocks, deepest: &mut Deepest) {
                         list: list.clone(),
                         area: area.clone(),
                     };
-                    deepest.note(exported::called(call, blocks, &asked));
+                    deepest.note(run(blocks, &asked));
                 }
             }
         }

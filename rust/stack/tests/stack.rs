@@ -32,15 +32,23 @@ fn tell(depth: &Depth) {
 }
 
 /// What was measured came to every end that the function has, so that no refusal and no search is left out. A table as long
-/// as these has room for some number of cells, and the maker refuses none.
+/// as these has room for some number of cells, and the maker refuses none. A helper has an answer or none.
 fn ends(depth: &Depth) -> BTreeSet<u8> {
     use status::{AB, AC, BLANK, CX, PX, TX};
     let all = status::ALL.iter().map(|(_, number)| *number);
     match depth.function {
-        "umbristal_catalogue_check" | "umbristal_table_make" => BTreeSet::from([BLANK, CX]),
-        "umbristal_table_check" => BTreeSet::from([BLANK, CX, TX]),
-        "umbristal_call" => all.collect(),
-        "umbristal_call_sound" => all.filter(|number| !(CX..=PX).contains(number)).collect(),
+        "umbristal_catalogue_check" | "umbristal_table_make" | "umbristal_cobol_make" => {
+            BTreeSet::from([BLANK, CX])
+        }
+        "umbristal_table_check" | "umbristal_cobol_check" => BTreeSet::from([BLANK, CX, TX]),
+        "umbristal_call" | "umbristal_cobol_call" => all.collect(),
+        "umbristal_call_sound" | "umbristal_cobol_call_sound" => {
+            all.filter(|number| !(CX..=PX).contains(number)).collect()
+        }
+        "umbristal_table_size"
+        | "umbristal_data_length"
+        | "umbristal_list_test"
+        | "umbristal_letters" => BTreeSet::from([0, 1]),
         _ => BTreeSet::from([BLANK, CX, TX, AC, AB]),
     }
 }

@@ -56,6 +56,26 @@ fn each_kind_of_difference() {
 }
 
 #[test]
+fn arrays_by_their_size() {
+    let c = "#define UMBRISTAL_TOLD_SIZE 8\nvoid umbristal_c(const uint8_t ask[21],\n\
+             uint8_t told[UMBRISTAL_TOLD_SIZE]);";
+    let rust = "pub fn c = umbristal_c(ask: &[u8; 21], told: &mut [u8; 8]) -> ();";
+    assert_eq!(between(c, rust), [""; 0]);
+    assert_eq!(
+        between(c, &rust.replace("[u8; 8]", "[u8; 9]")),
+        ["umbristal_c: parameter 2 is `told: &mut [u8; 8]` in C, `told: &mut [u8; 9]` in Rust"]
+    );
+    assert_eq!(
+        between(&c.replace("const ", ""), rust),
+        ["umbristal_c: parameter 1 is `ask: &mut [u8; 21]` in C, `ask: &[u8; 21]` in Rust"]
+    );
+    assert_eq!(
+        between(c, &rust.replace("&[u8; 21]", "&[u8]")),
+        ["umbristal_c: parameter 1 is `ask: &[u8; 21]` in C, `ask: &[u8]` in Rust"]
+    );
+}
+
+#[test]
 fn a_function_that_is_missing() {
     assert_eq!(
         between(C, ""),
@@ -77,6 +97,10 @@ fn what_cannot_be_read_is_no_agreement() {
     assert_eq!(
         header(&C.replace("uint8_t number", "int number")),
         "umbristal_a: `int` is no kind that the face has"
+    );
+    assert_eq!(
+        header("void umbristal_c(uint8_t told[0]);"),
+        "umbristal_c: `&mut [u8; 0]` is no kind that the face has"
     );
     let exported = |text: &str| source::exported(text).unwrap_err();
     assert_eq!(

@@ -57,16 +57,15 @@ fn without_bodies(code: &str) -> String {
     })
 }
 
-/// The numbers for the names that stand as the size of an array.
+/// The number for each name that stands as the size of an array.
 fn with_sizes(text: &str, code: &str) -> String {
-    ["UMBRISTAL_TOLD_SIZE", "UMBRISTAL_LIST_SIZE"]
-        .iter()
-        .fold(code.to_string(), |code, name| {
-            match code.contains(&format!("[{name}]")) {
-                true => code.replace(name, &defined(text, name)),
-                false => code,
-            }
-        })
+    let mut parts = code.split("[UMBRISTAL_");
+    let first = parts.next().unwrap_or("").to_string();
+    parts.fold(first, |code, part| {
+        let (name, behind) = part.split_once(']').expect("a size ends");
+        let size = defined(text, &format!("UMBRISTAL_{name}"));
+        format!("{code}[{size}]{behind}")
+    })
 }
 
 /// Type and name, and the parameters, if the statement declares a function and does not define one here.
@@ -120,7 +119,7 @@ fn slices(inner: &str) -> Result<Vec<Parameter>, String> {
     Ok(all)
 }
 
-fn pointer(written: &str) -> Result<&'static str, String> {
+fn pointer(written: &str) -> Result<String, String> {
     match written.trim_end_matches([' ', '*']) {
         "const uint8_t" | "const void" => kind("&[u8]"),
         "uint8_t" => kind("&mut [u8]"),
@@ -128,7 +127,7 @@ fn pointer(written: &str) -> Result<&'static str, String> {
     }
 }
 
-fn array(written: &str, size: &str) -> Result<&'static str, String> {
+fn array(written: &str, size: &str) -> Result<String, String> {
     match written {
         "const uint8_t" => kind(&format!("&[u8; {size}]")),
         "uint8_t" | "char" => kind(&format!("&mut [u8; {size}]")),
@@ -136,7 +135,7 @@ fn array(written: &str, size: &str) -> Result<&'static str, String> {
     }
 }
 
-fn integer(written: &str) -> Result<&'static str, String> {
+fn integer(written: &str) -> Result<String, String> {
     match written.trim() {
         "uint8_t" => kind("u8"),
         "uint16_t" => kind("u16"),

@@ -2,6 +2,7 @@
 //! holds them together: a linker looks at names alone.
 
 mod constants;
+mod copybook;
 mod faults;
 mod header;
 mod signature;

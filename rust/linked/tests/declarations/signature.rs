@@ -6,14 +6,14 @@ use std::fmt;
 #[derive(Clone, PartialEq, Eq, Debug)]
 pub struct Parameter {
     pub name: String,
-    pub kind: &'static str,
+    pub kind: String,
 }
 
 #[derive(Clone, PartialEq, Eq, Debug)]
 pub struct Signature {
     pub name: String,
     pub parameters: Vec<Parameter>,
-    pub result: &'static str,
+    pub result: String,
 }
 
 /// What one place says.
@@ -22,14 +22,10 @@ pub struct Stated {
     pub functions: Vec<Signature>,
 }
 
-/// The kinds there are, as Rust writes them.
-const KINDS: [&str; 12] = [
+/// The kinds there are beside arrays, as Rust writes them.
+const KINDS: [&str; 8] = [
     "&[u8]",
     "&mut [u8]",
-    "&[u8; 8]",
-    "&mut [u8; 8]",
-    "&mut [u8; 3]",
-    "&mut [u8; 1845]",
     "u8",
     "u16",
     "u32",
@@ -38,9 +34,22 @@ const KINDS: [&str; 12] = [
     "()",
 ];
 
-pub fn kind(written: &str) -> Result<&'static str, String> {
-    let found = KINDS.into_iter().find(|kind| *kind == written);
-    found.ok_or_else(|| format!("`{written}` is no kind that the face has"))
+/// An array is lent by a pointer alone, so that its size is part of what must agree.
+fn is_array(written: &str) -> bool {
+    let inner = written
+        .strip_prefix("&[u8; ")
+        .or_else(|| written.strip_prefix("&mut [u8; "));
+    inner
+        .and_then(|rest| rest.strip_suffix(']'))
+        .and_then(|size| size.parse::<usize>().ok())
+        .is_some_and(|size| size > 0)
+}
+
+pub fn kind(written: &str) -> Result<String, String> {
+    match KINDS.contains(&written) || is_array(written) {
+        true => Ok(written.to_string()),
+        false => Err(format!("`{written}` is no kind that the face has")),
+    }
 }
 
 impl fmt::Display for Parameter {
@@ -98,7 +107,7 @@ fn between(at: &str, a: &Signature, elsewhere: &str, b: &Signature) -> Vec<Strin
         }
     }
     if a.result != b.result {
-        let (x, y) = (a.result, b.result);
+        let (x, y) = (&a.result, &b.result);
         found.push(format!(
             "{name}: `{x}` comes back in {at}, `{y}` in {elsewhere}"
         ));
