@@ -17,7 +17,7 @@ written ask i = 16777216 * byte ask i + 65536 * byte ask (i + 1) + 256 * byte as
 unfoldable pub lengthAt : Bytes → ℕ → ℕ → ℕ
 lengthAt ask i most = min (written ask i) most
 
--- the lengths of what is lent; each block has a byte more than any that is right, so that a length which is too great shows
+-- the lengths of what is lent; catalogue, table and lists have a byte more than any that is right, so that a length which is too great shows
 abbrev pub catLength : Bytes → ℕ
 catLength ask = lengthAt ask 1 521
 
