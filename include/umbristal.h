@@ -107,8 +107,8 @@ uint64_t umbristal_call(const uint8_t *cat, size_t cat_len, uint8_t *tab, size_t
 /* The same without testing catalogue, table and position again, and so much faster on a large table. Only for a catalogue and a table
  * that umbristal_table_check has answered with 0, and a position that is fresh or that umbristal_call has not answered with
  * UMBRISTAL_PX on them: each as it was then, but for what calls on that same table and that same position have changed since. A second
- * position on the same table is to be tested again (by umbristal_call) once a call through another position has inserted or deleted.
- * With anything else the call may read and write outside the slices. List, area and number may be anything here too. */
+ * position on the same table is to be made fresh once a call through another one has inserted or deleted: its cells are other ones then, and
+ * a test would not show it. With anything else the call may read and write outside the slices. List, area and number may be anything here too. */
 uint64_t umbristal_call_sound(const uint8_t *cat, size_t cat_len, uint8_t *tab, size_t tab_len, uint8_t *pos, size_t pos_len,
                               uint8_t number, const uint8_t *list, size_t list_len, uint8_t *area, size_t area_len);
 
@@ -163,7 +163,8 @@ void umbristal_letters(uint8_t status, char letters[3]);
 /* How long an area must be for this catalogue. */
 uint8_t umbristal_area_size(const uint8_t *cat, size_t cat_len);
 
-/* How many bytes a table of so many cells has; 0 for more than UMBRISTAL_CELLS_MOST. */
+/* How many bytes a table of so many cells has; 0 for more than UMBRISTAL_CELLS_MOST. The catalogue is one that a check accepts: of others the number
+ * means nothing. */
 size_t umbristal_table_size(const uint8_t *cat, size_t cat_len, size_t cells);
 
 /* How many segments a table has. */
@@ -174,10 +175,11 @@ uint8_t umbristal_cell_type(const uint8_t *tab, size_t tab_len, size_t cell);
 size_t umbristal_data_start(const uint8_t *tab, size_t tab_len, size_t cell);
 uint8_t umbristal_data_length(const uint8_t *cat, size_t cat_len, const uint8_t *tab, size_t tab_len, size_t cell);
 
-/* Argument lists, argument by argument. The buffer has room for every list that can be right. Each function is handed how many bytes the list has so
- * far, 0 at first, and answers how many it has then: pass buffer and number to a call. An argument without a test names all segments of a type; one
- * with a test has an operator from 1 to 6, a field of that type and a value of the field's length. What has no room, an operator of 0 and a value
- * of another length than the field's spoil the list: every call refuses it with UMBRISTAL_AC, whatever is added afterwards. */
+/* Argument lists, argument by argument. The buffer has UMBRISTAL_LIST_SIZE bytes, room for every list that can be right. Each function is handed how many
+ * bytes the list has so far, 0 at first, and answers how many it has then: pass buffer and number to a call. An argument without a test names all
+ * segments of a type; one with a test has an operator from 1 to 6, a field of that type and a value of the field's length. What has no room, an operator
+ * of 0, and a value of another length than the field's (also any value for a field that is none) spoil the list: every call refuses it with
+ * UMBRISTAL_AC, whatever is added afterwards. */
 #define UMBRISTAL_LIST_SIZE 1845
 size_t umbristal_list_all(uint8_t list[UMBRISTAL_LIST_SIZE], size_t used, uint8_t code);
 size_t umbristal_list_test(const uint8_t *cat, size_t cat_len, uint8_t list[UMBRISTAL_LIST_SIZE], size_t used, uint8_t code,

@@ -1,5 +1,7 @@
 /* console CAT.HDC TAB.HDT: DL/I calls on two files, a line each, from standard input. The files are read and never written.
  *
+ *   gcc -o console console.c $(pkg-config --cflags umbristal) $(pkg-config --variable=archive umbristal)
+ *
  *   GU 1/1=07 2/2=14      a call with a list: type, or type/field, an operator (= <> < <= > >=) and a value
  *   ISRT 1/1=07 2 : 15A   data behind a colon
  *   report 1/1=07 | 3     the segments that match two lists as one, by their cells
@@ -114,9 +116,10 @@ static void call(struct store *s, uint8_t number, char *text) {
     struct list list;
     uint8_t area[UMBRISTAL_DATA_MOST] = { 0 };
     char letters[3], *colon = strstr(text, ": ");
+    size_t given = 0;
     if (colon) {
         *colon = 0;
-        bytes_of(colon + 2, area, sizeof area);
+        given = bytes_of(colon + 2, area, sizeof area);
     }
     list_read(s, &list, text);
     uint64_t r = umbristal_call_sound(s->cat, s->cat_len, s->tab, s->tab_len, s->pos, sizeof s->pos, number, list.bytes, list.used, area,
@@ -130,6 +133,8 @@ static void call(struct store *s, uint8_t number, char *text) {
         data_print(area, umbristal_length(r));
     }
     position_print(s->pos);
+    if (umbristal_status(r) < UMBRISTAL_GB && (number == UMBRISTAL_ISRT || number == UMBRISTAL_REPL) && given != umbristal_length(r))
+        printf("(%u bytes were given, and %u are the segment's)\n", (unsigned)given, umbristal_length(r));
 }
 
 static void report(const struct store *s, char *text) {
@@ -180,7 +185,7 @@ static void obey(struct store *s, char *line) {
     else if (strcmp(line, "fresh") == 0)
         memset(s->pos, 0, sizeof s->pos);
     else if (n)
-        printf("%s: no such command\n", line);
+        printf("%s: no such command; there are the nine calls, report, tree and fresh\n", line);
 }
 
 int main(int argc, char **argv) {

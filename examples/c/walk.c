@@ -10,6 +10,7 @@
 /* The types and fields of the bench catalogue: units, beneath them steps, beneath these tries. */
 enum { UNIT = 1, STEP = 2, TRY = 3, UNIT_KEY = 1, STEP_KEY = 2, TRY_KIND = 3 };
 
+/* [store] */
 /* What a program holds of a store: catalogue, table, a position in it, and the area that data come and go by. Both blocks have room for the longest
  * and a byte more, by which a file that is too long shows. */
 struct store {
@@ -23,6 +24,7 @@ struct list {
     uint8_t bytes[UMBRISTAL_LIST_SIZE];
     size_t used;
 };
+/* [end] */
 
 /* [call] */
 /* The sound call will do: the blocks were checked, the position was fresh then, and nothing but calls has changed them since. */

@@ -19,7 +19,12 @@
       *> What is asked: the number of the call (of a call alone), and
       *> how many bytes of each block count. The bytes behind them
       *> stay as they are. A length above the block's size counts as
-      *> that size.
+      *> that size. UM-AREA-LEN and UM-OUT-LEN are the same bytes: set
+      *> the one that is meant before each call or report. A table of
+      *> so many cells has 8 + cells * (1 + longest type) bytes.
+      *> Numbers have their high byte first, as COMP has by default
+      *> (not with -fbinary-byteorder=native). Level 78 is known to
+      *> the dialects default, ibm and mf, not to cobol2014.
        01  UM-ASK.
            05  UM-CALL-NUMBER       BINARY-CHAR UNSIGNED VALUE 0.
            05  UM-CATALOGUE-LEN     PIC 9(9) COMP VALUE 0.

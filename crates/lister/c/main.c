@@ -5,9 +5,12 @@
 #include <stdio.h>
 #include <stdlib.h>
 #include <string.h>
+#include <sys/stat.h>
+#include <umbristal.h>
 #include <unistd.h>
 
 enum { LISTED = 0, REFUSED = 1, FAILED = 2 };
+enum { LONGEST_TABLE = 65536 }; /* that this program takes (R68) */
 
 static const char usage[] =
     "usage: umbristal-list [CATALOGUE TABLE]\n"
@@ -45,8 +48,11 @@ int rattle_open_to_read(const char *path)
     int fd = open(opened, O_RDONLY);
     if (fd < 0 && errno != ENOENT)
         fail(opened);
+    struct stat file;
     if (fd < 0)
         fprintf(stderr, "umbristal-list: %s: is not there, and counts as empty\n", opened);
+    else if (opened == table && fstat(fd, &file) == 0 && file.st_size > LONGEST_TABLE)
+        fprintf(stderr, "umbristal-list: %s: has more than %d bytes, too many for this program: that says nothing of the table\n", opened, LONGEST_TABLE);
     return fd;
 }
 
@@ -85,13 +91,19 @@ static int wrong_usage(void)
     return FAILED;
 }
 
+static int told(const char *words)
+{
+    if (fputs(words, stdout) < 0 || fflush(stdout) != 0)
+        fail("standard output");
+    return LISTED;
+}
+
 int __wrap_main(int argc, char **argv)
 {
-    if (argc == 2 && strcmp(argv[1], "--help") == 0) {
-        if (fputs(usage, stdout) < 0 || fflush(stdout) != 0)
-            fail("standard output");
-        return LISTED;
-    }
+    if (argc == 2 && (strcmp(argv[1], "--help") == 0 || strcmp(argv[1], "-h") == 0))
+        return told(usage);
+    if (argc == 2 && strcmp(argv[1], "--version") == 0)
+        return told("umbristal-list " UMBRISTAL_VERSION "\n");
     int first = argc > 1 && strcmp(argv[1], "--") == 0 ? 2 : 1;
     if (first == 1 && argc > 1 && argv[1][0] == '-')
         return wrong_usage();

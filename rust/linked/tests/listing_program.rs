@@ -131,7 +131,8 @@ fn as_the_judge(name: &str, catalogue: &[u8], table: &[u8]) -> String {
     let whole = ended.printed.ends_with("GB\n");
     let status = if whole { LISTED } else { REFUSED };
     assert_eq!(ended.status, Some(status), "{name}");
-    assert_eq!(ended.said, "", "{name}");
+    let too_long = table.len() > 65_536;
+    assert_eq!(ended.said.is_empty(), !too_long, "{name}: {}", ended.said);
     ended.printed
 }
 
@@ -223,6 +224,21 @@ fn the_longest_tables_and_a_byte_more() {
 }
 
 #[test]
+fn a_table_that_is_too_long_is_told_from_a_bad_one() {
+    let folder = Folder::new("too-long").with("CAT.HDC", &one_type(26));
+    let too_long = folder.with("TAB.HDT", &roots(26, 2427, 2427));
+    let ended = too_long.run(&[]);
+    assert_eq!((ended.status, &ended.printed[..]), (Some(REFUSED), "TX\n"));
+    assert!(
+        ended.said.contains("has more than 65536 bytes"),
+        "{}",
+        ended.said
+    );
+    let bad = too_long.with("TAB.HDT", b"HDT");
+    assert_eq!(bad.run(&[]).said, "");
+}
+
+#[test]
 fn names_as_arguments() {
     let folder = Folder::new("names")
         .with("a catalogue", &shipped("CAT.HDC"))
@@ -248,6 +264,10 @@ fn help_and_wrong_usage() {
     assert!(help
         .printed
         .starts_with("usage: umbristal-list [CATALOGUE TABLE]\n"));
+    assert_eq!(folder.run(&["-h"]).printed, help.printed);
+    let version = folder.run(&["--version"]);
+    assert_eq!(version.status, Some(LISTED));
+    assert!(version.printed.starts_with("umbristal-list 0."));
     for words in [
         &["CAT.HDC"][..],
         &["CAT.HDC", "TAB.HDT", "x"],
