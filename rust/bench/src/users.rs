@@ -26,7 +26,7 @@ impl<'s> Users<'s> {
 
     fn listing(&mut self) -> Result<Done, Error> {
         let mut done = Done { count: 0, sum: 0 };
-        while let Some(segment) = self.store.get_next(&[])?.segment() {
+        while let Some(segment) = self.store.get_next(&[]).segment()? {
             done.count += 1;
             done.sum += serial(segment.data);
         }
@@ -37,7 +37,7 @@ impl<'s> Users<'s> {
         let mut sum = 0;
         for (unit, step) in &self.sample.probes {
             let list = [is(UNIT, UNIT_KEY, unit), is(STEP, STEP_KEY, step)];
-            let segment = self.store.get_unique(black_box(&list))?.found()?;
+            let segment = self.store.get_unique(black_box(&list)).found()?;
             sum += serial(segment.data);
         }
         Ok(Done {
@@ -54,7 +54,7 @@ impl<'s> Users<'s> {
         let new = [step[0], step[1], Argument::all(TypeCode(TRY))];
         let get = [step[0], step[1], is(TRY, VERDICT, &data[..1])];
         self.store.insert(black_box(&new), data)?;
-        let got = self.store.get_hold_unique(black_box(&get))?.found()?;
+        let got = self.store.get_hold_unique(black_box(&get)).found()?;
         let cell = got.cell;
         Ok(Done {
             count: self.store.delete()?.removed,

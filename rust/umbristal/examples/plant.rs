@@ -3,6 +3,7 @@
 
 use std::error::Error;
 use std::path::Path;
+use std::process::ExitCode;
 use std::{env, fs, io};
 use umbristal::{Argument, FieldNumber, Op, Store, TypeCode};
 
@@ -17,18 +18,26 @@ const CATALOGUE: &[u8] = b"HDC\x00\x01\x02\x02\x00\
     \x01\x01\x02\x00\
     \x02\x01\x02\x00";
 
-fn main() -> Result<(), Box<dyn Error>> {
+fn main() -> ExitCode {
     let arguments: Vec<String> = env::args().skip(1).collect();
     let [folder, unit, step] = &arguments[..] else {
-        return Err("plant FOLDER UNIT STEP".into());
+        eprintln!("plant FOLDER UNIT STEP");
+        return ExitCode::from(2);
     };
-    let listing = run(Path::new(folder), unit.as_bytes(), step.as_bytes())?;
-    print!("{listing}");
-    Ok(())
+    match run(Path::new(folder), unit.as_bytes(), step.as_bytes()) {
+        Ok(listing) => {
+            print!("{listing}");
+            ExitCode::SUCCESS
+        }
+        Err(error) => {
+            eprintln!("plant: {error}");
+            ExitCode::FAILURE
+        }
+    }
 }
 
 /// The whole work; what is refused is not saved.
-pub fn run(folder: &Path, unit: &[u8], step: &[u8]) -> Result<String, Box<dyn Error>> {
+fn run(folder: &Path, unit: &[u8], step: &[u8]) -> Result<String, Box<dyn Error>> {
     let (catalogue, table) = (folder.join("CAT.HDC"), folder.join("TAB.HDT"));
     let mut store = match table.exists() {
         true => Store::open(fs::read(&catalogue)?, fs::read(&table)?)?,
@@ -44,7 +53,7 @@ pub fn run(folder: &Path, unit: &[u8], step: &[u8]) -> Result<String, Box<dyn Er
 fn record(store: &mut Store, unit: &[u8], step: &[u8]) -> Result<(), umbristal::Error> {
     let key = &unit[..unit.len().min(2)];
     let this = Argument::test(UNIT, UNIT_KEY, Op::Eq, key);
-    if store.get_unique(&[this])?.segment().is_none() {
+    if store.get_unique(&[this]).segment()?.is_none() {
         store.insert(&[Argument::all(UNIT)], unit)?;
     }
     store.insert(&[this, Argument::all(STEP)], step)?;

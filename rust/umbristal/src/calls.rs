@@ -21,18 +21,16 @@ impl Store {
     /// # fn main() -> Result<(), Box<dyn std::error::Error>> {
     /// # std::env::set_current_dir("../../crates/lister/data")?;
     /// # let mut store = umbristal::Store::open(std::fs::read("CAT.HDC")?, std::fs::read("TAB.HDT")?)?;
-    /// let unit = store.get_unique(&[Argument::test(UNIT, UNIT_KEY, Op::Ge, b"08")])?.found()?;
+    /// let unit = store.get_unique(&[Argument::test(UNIT, UNIT_KEY, Op::Ge, b"08")]).found()?;
     /// assert_eq!(unit.data, b"09B");
     /// # Ok(())
     /// # }
     /// ```
     ///
-    /// # Errors
-    ///
-    /// A faulty list: AC, AK, or a value of another length than its field.
+    /// A faulty list is refused: AC, AK, or a value of another length than its field.
     #[doc(alias = "GU")]
     #[inline]
-    pub fn get_unique(&mut self, list: &[Argument]) -> Result<Got<'_>, Error> {
+    pub fn get_unique(&mut self, list: &[Argument]) -> Got<'_> {
         self.get(GU, list)
     }
 
@@ -44,7 +42,7 @@ impl Store {
     /// # std::env::set_current_dir("../../crates/lister/data")?;
     /// # let mut store = umbristal::Store::open(std::fs::read("CAT.HDC")?, std::fs::read("TAB.HDT")?)?;
     /// let mut letters = Vec::new();
-    /// while let Some(segment) = store.get_next(&[])?.segment() {
+    /// while let Some(segment) = store.get_next(&[]).segment()? {
     ///     letters.push(segment.status.letters());
     /// }
     /// assert_eq!(letters, ["--", "--", "--", "GA", "--", "--", "GA", "GA", "--"]);
@@ -52,56 +50,46 @@ impl Store {
     /// # }
     /// ```
     ///
-    /// # Errors
-    ///
-    /// As [`get_unique`](Store::get_unique).
+    /// Refuses as [`get_unique`](Store::get_unique) does.
     #[doc(alias = "GN")]
     #[inline]
-    pub fn get_next(&mut self, list: &[Argument]) -> Result<Got<'_>, Error> {
+    pub fn get_next(&mut self, list: &[Argument]) -> Got<'_> {
         self.get(GN, list)
     }
 
     /// GNP: as [`get_next`](Store::get_next), and beneath the parentage (R35).
     ///
-    /// # Errors
-    ///
-    /// As [`get_unique`](Store::get_unique).
+    /// Refuses as [`get_unique`](Store::get_unique) does.
     #[doc(alias = "GNP")]
     #[inline]
-    pub fn get_next_within_parent(&mut self, list: &[Argument]) -> Result<Got<'_>, Error> {
+    pub fn get_next_within_parent(&mut self, list: &[Argument]) -> Got<'_> {
         self.get(GNP, list)
     }
 
     /// GHU: as [`get_unique`](Store::get_unique), and the segment is held (R38).
     ///
-    /// # Errors
-    ///
-    /// As [`get_unique`](Store::get_unique).
+    /// Refuses as [`get_unique`](Store::get_unique) does.
     #[doc(alias = "GHU")]
     #[inline]
-    pub fn get_hold_unique(&mut self, list: &[Argument]) -> Result<Got<'_>, Error> {
+    pub fn get_hold_unique(&mut self, list: &[Argument]) -> Got<'_> {
         self.get(GHU, list)
     }
 
     /// GHN: as [`get_next`](Store::get_next), and the segment is held (R38).
     ///
-    /// # Errors
-    ///
-    /// As [`get_unique`](Store::get_unique).
+    /// Refuses as [`get_unique`](Store::get_unique) does.
     #[doc(alias = "GHN")]
     #[inline]
-    pub fn get_hold_next(&mut self, list: &[Argument]) -> Result<Got<'_>, Error> {
+    pub fn get_hold_next(&mut self, list: &[Argument]) -> Got<'_> {
         self.get(GHN, list)
     }
 
     /// GHNP: as [`get_next_within_parent`](Store::get_next_within_parent), and the segment is held (R38).
     ///
-    /// # Errors
-    ///
-    /// As [`get_unique`](Store::get_unique).
+    /// Refuses as [`get_unique`](Store::get_unique) does.
     #[doc(alias = "GHNP")]
     #[inline]
-    pub fn get_hold_next_within_parent(&mut self, list: &[Argument]) -> Result<Got<'_>, Error> {
+    pub fn get_hold_next_within_parent(&mut self, list: &[Argument]) -> Got<'_> {
         self.get(GHNP, list)
     }
 
@@ -166,15 +154,15 @@ impl Store {
 
     /// Always inlined: an answer that goes through memory costs a step half its time more, as it waits for its own parts.
     #[inline(always)]
-    fn get(&mut self, number: u8, list: &[Argument]) -> Result<Got<'_>, Error> {
+    fn get(&mut self, number: u8, list: &[Argument]) -> Got<'_> {
         let wrong_value = self.take_list(list);
         let answer = self.call(number, LONGEST);
         if answer.status.is_done() {
-            return Ok(Got::Segment(self.segment(answer)));
+            return Got::Segment(self.segment(answer));
         }
         match Miss::of(answer.status) {
-            Some(miss) => Ok(Got::Nothing(miss)),
-            None => Err(Error::of(answer.status, &[wrong_value])),
+            Some(miss) => Got::Nothing(miss),
+            None => Got::Refused(Error::of(answer.status, &[wrong_value])),
         }
     }
 

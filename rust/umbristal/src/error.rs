@@ -71,6 +71,14 @@ impl Error {
     }
 }
 
+/// The word behind a number of bytes.
+fn bytes(count: usize) -> &'static str {
+    match count {
+        1 => "byte",
+        _ => "bytes",
+    }
+}
+
 impl fmt::Display for Error {
     fn fmt(&self, out: &mut fmt::Formatter) -> fmt::Result {
         let letters = self.status().letters();
@@ -84,7 +92,8 @@ impl fmt::Display for Error {
                 given,
             } => write!(
                 out,
-                "{letters}: type {type_code} has {needed} data bytes, not {given}"
+                "{letters}: type {type_code} has {needed} data {}, not {given}",
+                bytes(*needed)
             ),
             Error::ValueLength {
                 field,
@@ -92,7 +101,8 @@ impl fmt::Display for Error {
                 given,
             } => write!(
                 out,
-                "{letters}: field {field} has {needed} bytes, its value {given}"
+                "{letters}: field {field} has {needed} {}, its value {given}",
+                bytes(*needed)
             ),
             Error::TooManyCells { most, asked } => write!(
                 out,

@@ -17,12 +17,12 @@
 //! # std::env::set_current_dir("../../crates/lister/data")?;
 //! let mut store = Store::open(std::fs::read("CAT.HDC")?, std::fs::read("TAB.HDT")?)?;
 //!
-//! // GU: the step with key 14 of unit 07. The first `?` passes a refusal on, the second one a miss.
+//! // GU: the step with key 14 of unit 07. By `found` a miss is an error, as a refusal is.
 //! let step = [
 //!     Argument::test(UNIT, UNIT_KEY, Op::Eq, b"07"),
 //!     Argument::test(STEP, STEP_KEY, Op::Eq, b"14"),
 //! ];
-//! let found = store.get_unique(&step)?.found()?;
+//! let found = store.get_unique(&step).found()?;
 //! assert_eq!(found.data, b"14T");
 //!
 //! // ISRT: a try, under the step that the position is on.
@@ -46,12 +46,14 @@
 //! # }
 //! ```
 //!
-//! | call | here |
-//! |---|---|
-//! | GU, GHU | [`get_unique`](Store::get_unique), [`get_hold_unique`](Store::get_hold_unique) |
-//! | GN, GHN | [`get_next`](Store::get_next), [`get_hold_next`](Store::get_hold_next) |
-//! | GNP, GHNP | [`get_next_within_parent`](Store::get_next_within_parent), [`get_hold_next_within_parent`](Store::get_hold_next_within_parent) |
-//! | ISRT, REPL, DLET | [`insert`](Store::insert), [`replace`](Store::replace), [`delete`](Store::delete) |
+//! | call | here | answers |
+//! |---|---|---|
+//! | GU, GHU | [`get_unique`](Store::get_unique), [`get_hold_unique`](Store::get_hold_unique) | [`Got`] |
+//! | GN, GHN | [`get_next`](Store::get_next), [`get_hold_next`](Store::get_hold_next) | [`Got`] |
+//! | GNP, GHNP | [`get_next_within_parent`](Store::get_next_within_parent), [`get_hold_next_within_parent`](Store::get_hold_next_within_parent) | [`Got`] |
+//! | ISRT | [`insert`](Store::insert) | the new [`Segment`], or an [`Error`] |
+//! | REPL | [`replace`](Store::replace) | the [`Segment`] as it is now, or an [`Error`] |
+//! | DLET | [`delete`](Store::delete) | what was [`Deleted`], or an [`Error`] |
 
 #![deny(missing_docs)]
 #![deny(unsafe_op_in_unsafe_fn)]

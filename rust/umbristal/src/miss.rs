@@ -4,7 +4,7 @@ use crate::status::Status;
 use std::error::Error;
 use std::fmt;
 
-/// Why a get has found nothing. As an error it is passed on by `?`.
+/// Why a get has found nothing. As an error of the calls it is [`Error::Missed`](crate::Error::Missed).
 #[non_exhaustive]
 #[derive(Clone, Copy, PartialEq, Eq, Hash, Debug)]
 pub enum Miss {

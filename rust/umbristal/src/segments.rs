@@ -2,7 +2,6 @@
 
 use crate::argument::Argument;
 use crate::error::Error;
-use crate::got::Got;
 use crate::numbers::{CellNumber, TypeCode};
 use crate::segment::Segment;
 use crate::store::Store;
@@ -59,7 +58,7 @@ impl Store {
         let mut copy = self.clone();
         copy.rewind();
         let mut cells = Vec::new();
-        while let Got::Segment(root) = copy.get_next(list)? {
+        while let Some(root) = copy.get_next(list).segment()? {
             cells.push(root.cell);
         }
         Ok(cells)

@@ -65,8 +65,8 @@ statuses! {
     TX = TX, "TX", "the table is bad";
     PX = PX, "PX", "the position is bad";
     AD = AD, "AD", "there is no such call";
-    AC = AC, "AC", "a type in the list is none, or does not lie beneath the one before it";
-    AJ = AJ, "AJ", "an operator, field number or value in the list is missing or wrong, or no list may stand here";
+    AC = AC, "AC", "a type in the list is none or does not lie beneath the one before it, or a list of a report is empty";
+    AJ = AJ, "AJ", "an operator, field number or value in the list is missing or wrong, the last argument of an insert has a test, or no list may stand here";
     AK = AK, "AK", "a field in the list is none, or belongs to another type";
     AH = AH, "AH", "an insert needs a list";
     AB = AB, "AB", "the area is too short";

@@ -51,20 +51,20 @@ fn calls(store: &mut Store) -> Result<(), umbristal::Error> {
     let unit = Argument::test(UNIT, UNIT_KEY, Op::Eq, b"07");
     let step = Argument::test(STEP, STEP_KEY, Op::Eq, b"14");
     let wrong = Argument::test(STEP, STEP_KEY, Op::Eq, b"1");
-    while store.get_next(&[])?.segment().is_some() {}
-    store.get_unique(&[unit, step])?.found()?;
-    store.get_next_within_parent(&[])?.found()?;
-    store.get_unique(&[unit])?.found()?;
-    assert!(store.get_unique(&[unit, wrong]).is_err());
+    while store.get_next(&[]).segment()?.is_some() {}
+    store.get_unique(&[unit, step]).found()?;
+    store.get_next_within_parent(&[]).found()?;
+    store.get_unique(&[unit]).found()?;
+    assert!(store.get_unique(&[unit, wrong]).found().is_err());
     assert!(store.insert(&[Argument::all(STEP)], b"too long").is_err());
     store.insert(&[unit, Argument::all(STEP)], b"15P")?;
-    store.get_hold_unique(&[unit, step])?.found()?;
+    store.get_hold_unique(&[unit, step]).found()?;
     store.replace(b"14P")?;
-    store.get_unique(&[unit])?.found()?;
-    store.get_hold_next_within_parent(&[step])?.found()?;
+    store.get_unique(&[unit]).found()?;
+    store.get_hold_next_within_parent(&[step]).found()?;
     store.delete()?;
-    store.get_hold_next(&[Argument::all(STEP)])?.found()?;
-    assert!(store.get_next(&[unit])?.found().is_err());
+    store.get_hold_next(&[Argument::all(STEP)]).found()?;
+    assert!(store.get_next(&[unit]).found().is_err());
     Ok(())
 }
 
@@ -99,7 +99,7 @@ fn nor_does_the_longest_list() {
             let path = &path[..=level.into()];
             assert_eq!(store.insert(path, &data).unwrap().level, level + 1);
         }
-        let found = store.get_unique(&list).unwrap().found().unwrap();
+        let found = store.get_unique(&list).found().unwrap();
         assert_eq!((found.cell.0, found.data), (14, &data[..]));
     });
     assert_eq!(counted, 0);

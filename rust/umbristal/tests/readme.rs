@@ -1,12 +1,8 @@
 //! The README's program is the example, and the example does what the README says.
 
-// Its `main` reads the command line, which is the test's here.
-#[allow(dead_code)]
-#[path = "../examples/plant.rs"]
-mod plant;
-
-use std::fs;
 use std::path::{Path, PathBuf};
+use std::process::{Command, Output};
+use std::{env, fs};
 
 const README: &str = include_str!("../../README.md");
 const PROGRAM: &str = include_str!("../examples/plant.rs");
@@ -33,15 +29,42 @@ fn folder(name: &str) -> PathBuf {
     folder
 }
 
+/// The example as a program, which `cargo test` builds beside the tests.
+fn plant(folder: &Path, arguments: &[&str]) -> Output {
+    let test = env::current_exe().unwrap();
+    let built = test.parent().and_then(Path::parent).unwrap();
+    let program = built.join("examples/plant");
+    let mut command = Command::new(&program);
+    let ran = command.current_dir(folder).args(arguments).output();
+    ran.unwrap_or_else(|error| panic!("{}: {error}", program.display()))
+}
+
+/// What it prints where it succeeds.
+fn listing(folder: &Path, unit: &str, step: &str) -> String {
+    let ran = plant(folder, &[".", unit, step]);
+    assert!(ran.status.success() && ran.stderr.is_empty(), "{ran:?}");
+    String::from_utf8(ran.stdout).unwrap()
+}
+
+/// What it says where it fails: that, and nothing else.
+fn said(folder: &Path, unit: &str, step: &str) -> String {
+    let ran = plant(folder, &[".", unit, step]);
+    assert_eq!(ran.status.code(), Some(1), "{ran:?}");
+    assert!(ran.stdout.is_empty(), "{ran:?}");
+    String::from_utf8(ran.stderr).unwrap()
+}
+
 /// The session that the README shows.
 #[test]
 fn it_saves_and_loads() {
     let folder = folder("saves");
     let mut session = String::new();
     for (unit, step) in [("07A", "14T"), ("09B", "14P"), ("07A", "13P")] {
-        let listing = plant::run(&folder, unit.as_bytes(), step.as_bytes()).unwrap();
+        let listing = listing(&folder, unit, step);
         session += &format!("$ cargo run -- . {unit} {step}\n{listing}");
     }
+    let said = said(&folder, "07A", "13X");
+    session += &format!("$ cargo run -- . 07A 13X\n{said}");
     assert!(
         README.contains(&format!("```\n{session}```\n")),
         "{session}"
@@ -53,21 +76,28 @@ fn it_saves_and_loads() {
 #[test]
 fn what_is_refused_is_not_saved() {
     let folder = folder("refused");
-    plant::run(&folder, b"07A", b"14T").unwrap();
+    listing(&folder, "07A", "14T");
     let table = fs::read(folder.join("TAB.HDT")).unwrap();
-    let refused = |unit: &[u8], step: &[u8]| {
-        let error = plant::run(&folder, unit, step).unwrap_err();
+    let cases = [
+        ("07A", "14P", "plant: II: a twin has this unique key\n"),
+        ("07A", "14", "plant: AB: type 2 has 3 data bytes, not 2\n"),
+        ("08", "14T", "plant: AB: type 1 has 3 data bytes, not 2\n"),
+        ("8", "14T", "plant: AJ: field 1 has 2 bytes, its value 1\n"),
+    ];
+    for (unit, step, why) in cases {
+        assert_eq!(said(&folder, unit, step), why);
         assert_eq!(fs::read(folder.join("TAB.HDT")).unwrap(), table);
-        error.to_string()
-    };
-    assert_eq!(refused(b"07A", b"14P"), "II: a twin has this unique key");
-    assert_eq!(refused(b"07A", b"14"), "AB: type 2 has 3 data bytes, not 2");
-    assert_eq!(refused(b"08", b"14T"), "AB: type 1 has 3 data bytes, not 2");
-    assert_eq!(
-        refused(b"8", b"14T"),
-        "AJ: field 1 has 2 bytes, its value 1"
-    );
+    }
     fs::write(folder.join("TAB.HDT"), &table[1..]).unwrap();
-    let error = plant::run(&folder, b"07A", b"13P").unwrap_err();
-    assert_eq!(error.to_string(), "TX: the table is bad");
+    let why = said(&folder, "07A", "13P");
+    assert_eq!(why, "plant: TX: the table is bad\n");
+}
+
+#[test]
+fn it_says_how_it_is_called() {
+    for arguments in [&[][..], &["."], &[".", "07A", "14T", "P1"]] {
+        let ran = plant(&folder("called"), arguments);
+        assert_eq!(ran.status.code(), Some(2), "{ran:?}");
+        assert_eq!(ran.stderr, b"plant FOLDER UNIT STEP\n");
+    }
 }

@@ -17,7 +17,7 @@ fn the_readme_shows_this() -> Result<(), Box<dyn std::error::Error>> {
         Argument::test(UNIT, UNIT_KEY, Op::Eq, b"07"),
         Argument::test(STEP, STEP_KEY, Op::Eq, b"14"),
     ];
-    let found = store.get_unique(&step)?.found()?; // GU; the second `?` passes a miss on
+    let found = store.get_unique(&step).found()?; // GU; a miss is an error here
     assert_eq!(found.data, b"14T");
     store.insert(&[Argument::all(TRY)], b"S3")?; // ISRT, under that step
     for found in store.segments(&[Argument::all(TRY)])? {

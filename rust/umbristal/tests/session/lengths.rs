@@ -1,7 +1,7 @@
 //! Data and values of another length than they must have: never cut, never filled up.
 
 use crate::bench::*;
-use umbristal::{Argument, Error, Op, Status, Store};
+use umbristal::{Argument, Error, Got, Op, Status, Store};
 
 /// What a store shows of itself.
 fn seen(store: &Store) -> (Vec<u8>, String) {
@@ -32,14 +32,14 @@ fn wrong_value(error: Error) -> (u8, usize, usize) {
     }
 }
 
+fn refused(got: Got) -> (u8, usize, usize) {
+    wrong_value(got.found().unwrap_err())
+}
+
 #[test]
 fn an_insert_wants_the_length_of_its_type() {
     let mut store = store();
-    assert!(store
-        .get_hold_unique(&[step(b"14")])
-        .unwrap()
-        .found()
-        .is_ok());
+    assert!(store.get_hold_unique(&[step(b"14")]).found().is_ok());
     let before = seen(&store);
     for given in [0, 1, 2, 4, 120, 121, 500] {
         let data = vec![b'0'; given];
@@ -59,11 +59,7 @@ fn an_insert_wants_the_length_of_its_type() {
 #[test]
 fn a_replace_wants_the_length_of_what_is_held() {
     let mut store = store();
-    assert!(store
-        .get_hold_unique(&[step(b"14")])
-        .unwrap()
-        .found()
-        .is_ok());
+    assert!(store.get_hold_unique(&[step(b"14")]).found().is_ok());
     let before = seen(&store);
     for given in [0, 2, 4, 120, 121, 500] {
         let mut data = b"14P".to_vec();
@@ -101,11 +97,7 @@ fn what_comes_before_the_length() {
 #[test]
 fn a_value_wants_the_length_of_its_field() {
     let mut store = store();
-    assert!(store
-        .get_hold_unique(&[step(b"14")])
-        .unwrap()
-        .found()
-        .is_ok());
+    assert!(store.get_hold_unique(&[step(b"14")]).found().is_ok());
     let before = seen(&store);
     for value in [&b""[..], b"0", b"071", b"07\x02\x00"] {
         let lists: [&[Argument]; 3] = [
@@ -116,8 +108,8 @@ fn a_value_wants_the_length_of_its_field() {
         ];
         for list in lists {
             let expected = (1, 2, value.len());
-            assert_eq!(wrong_value(store.get_next(list).unwrap_err()), expected);
-            assert_eq!(wrong_value(store.get_unique(list).unwrap_err()), expected);
+            assert_eq!(refused(store.get_next(list)), expected);
+            assert_eq!(refused(store.get_unique(list)), expected);
             assert_eq!(
                 wrong_value(store.insert(list, b"14P").unwrap_err()),
                 expected
@@ -130,12 +122,24 @@ fn a_value_wants_the_length_of_its_field() {
             Argument::test(STEP, STEP_KEY, Op::Eq, value),
         ];
         assert_eq!(
-            store.get_next(&late).unwrap_err(),
-            Error::Refused(Status::AC)
+            store.get_next(&late),
+            Got::Refused(Error::Refused(Status::AC))
         );
     }
-    let error = store.get_next(&[unit(b"7")]).unwrap_err();
+    let error = store.get_next(&[unit(b"7")]).found().unwrap_err();
     assert_eq!(error.to_string(), "AJ: field 1 has 2 bytes, its value 1");
     assert_eq!(error.status(), Status::AJ);
     assert_eq!(seen(&store), before);
+}
+
+/// One byte is said as one.
+#[test]
+fn of_one_byte() {
+    let mut store = store();
+    let error = store.insert(&[unit(b"07"), Argument::all(NOTE)], b"nn");
+    let said = error.unwrap_err().to_string();
+    assert_eq!(said, "AB: type 4 has 1 data byte, not 2");
+    let tested = Argument::test(TRY, VERDICT, Op::Eq, b"PP");
+    let said = store.get_next(&[tested]).found().unwrap_err().to_string();
+    assert_eq!(said, "AJ: field 3 has 1 byte, its value 2");
 }

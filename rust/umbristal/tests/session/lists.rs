@@ -4,7 +4,7 @@ use crate::bench::*;
 use umbristal::{Argument, FieldNumber, Op, Status, Store, TypeCode};
 
 fn refused(list: &[Argument]) -> Status {
-    store().get_next(list).unwrap_err().status()
+    store().get_next(list).found().unwrap_err().status()
 }
 
 #[test]
@@ -41,9 +41,21 @@ fn reports_refuse_and_agree() {
             report(&store, upper, lower).unwrap_err().status()
         };
         assert_eq!(status(&steps, &units), Status::AC);
-        assert_eq!(status(&units, &[]), Status::AC);
-        assert_eq!(status(&[], &steps), Status::AC);
+        for (upper, lower) in [(&units[..], &[][..]), (&[], &steps), (&[], &[])] {
+            let error = report(&store, upper, lower).unwrap_err();
+            assert_eq!(error.status(), Status::AC);
+            let said = error.to_string();
+            assert!(said.ends_with("or a list of a report is empty"), "{said}");
+        }
         assert_eq!(status(&[unit(b"0")], &steps), Status::AJ);
         assert_eq!(status(&units, &[step(b"1")]), Status::AJ);
     }
+}
+
+#[test]
+fn an_insert_tests_no_field_of_what_is_new() {
+    let error = store().insert(&[unit(b"08")], b"08C").unwrap_err();
+    assert_eq!(error.status(), Status::AJ);
+    let said = error.to_string();
+    assert!(said.contains("the last argument of an insert has a test"));
 }

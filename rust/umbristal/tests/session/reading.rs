@@ -39,11 +39,7 @@ fn from_two_places_at_once() {
 #[test]
 fn the_position_stays() {
     let mut store = store();
-    assert!(store
-        .get_hold_unique(&[step(b"14")])
-        .unwrap()
-        .found()
-        .is_ok());
+    assert!(store.get_hold_unique(&[step(b"14")]).found().is_ok());
     let place = store.place();
     assert_eq!(store.segments(&[Argument::all(NOTE)]).unwrap().len(), 1);
     assert_eq!(store.segments(&[unit(b"08")]).unwrap().len(), 0);
@@ -58,8 +54,8 @@ fn by_get_next(store: &Store, list: &[Argument]) -> Result<Vec<OwnedSegment>, St
     copy.rewind();
     let mut found = Vec::new();
     loop {
-        let got = copy.get_next(list).map_err(|error| error.status())?;
-        let Some(segment) = got.segment() else {
+        let got = copy.get_next(list).segment();
+        let Some(segment) = got.map_err(|error| error.status())? else {
             return Ok(found);
         };
         let mut segment = segment.to_owned();

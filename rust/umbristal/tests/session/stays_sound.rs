@@ -34,12 +34,12 @@ fn step_by_chance(dice: &mut Dice, store: &mut Store) {
     let data = &data[..dice.below(20).min(3) as usize];
     // Whether it is refused does not matter here.
     let _ = match dice.below(10) {
-        0 => store.get_unique(list).is_ok(),
-        1 => store.get_next(list).is_ok(),
-        2 => store.get_next_within_parent(list).is_ok(),
-        3 => store.get_hold_unique(list).is_ok(),
-        4 => store.get_hold_next(list).is_ok(),
-        5 => store.get_hold_next_within_parent(list).is_ok(),
+        0 => store.get_unique(list).found().is_ok(),
+        1 => store.get_next(list).found().is_ok(),
+        2 => store.get_next_within_parent(list).found().is_ok(),
+        3 => store.get_hold_unique(list).found().is_ok(),
+        4 => store.get_hold_next(list).found().is_ok(),
+        5 => store.get_hold_next_within_parent(list).found().is_ok(),
         6 => store.replace(data).is_ok(),
         7 => store.delete().is_ok(),
         _ => store.insert(list, data).is_ok(),
