@@ -13,7 +13,7 @@ const COLUMNS: usize = 2;
 
 /// What stands above the panels: a heading and a line, and a legend above those that share one.
 const HEAD: f64 = 60.0;
-const LEGEND: f64 = 24.0;
+const LEGEND: f64 = 44.0;
 
 /// The rows of the worst tables that share a panel.
 const TOGETHER: [(&str, &[Row]); 4] = [
@@ -81,7 +81,11 @@ fn heading(words: &str, below: &str) -> String {
 fn everybody() -> String {
     let entries = ALL.iter().enumerate();
     entries
-        .map(|(index, name)| entry(20.0 + 116.0 * index as f64, 68.0, STYLES[index], name))
+        .map(|(index, name)| {
+            let (column, row) = ((index % 4) as f64, (index / 4) as f64);
+            let (x, y) = (20.0 + 200.0 * column, 68.0 + 20.0 * row);
+            entry(x, y, STYLES[index], name)
+        })
         .collect()
 }
 
