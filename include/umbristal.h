@@ -1,5 +1,5 @@
 /* Umbristal: a hierarchical store that speaks DL/I. What C and other languages link: the checks, the maker of empty tables, the nine calls, the
- * reports, and helpers. What the calls do is told in docs/CALLS.md; R33 and the like are rules of it.
+ * reports, and helpers. What the calls do is told in the manual, docs/CALLS.md (installed: share/doc/umbristal); R33 and the like are rules of it.
  *
  * Every slice is lent as a pointer and its length, in bytes. For each call the caller sees to it that
  *   - each pointer is not null and has as many bytes behind it as its length says; a length of 0 is fine (with any pointer but null);
@@ -100,14 +100,14 @@ uint8_t umbristal_table_make(const uint8_t *cat, size_t cat_len, uint8_t *tab, s
 
 /* The call of this number. The table, the position's block and the area are left as the call leaves them; the rest of the answer
  * comes back in one number, which umbristal_status and its like take apart. The area has umbristal_area_size bytes or more, whichever
- * segment is meant. */
+ * segment is meant; DLET takes any area. */
 uint64_t umbristal_call(const uint8_t *cat, size_t cat_len, uint8_t *tab, size_t tab_len, uint8_t *pos, size_t pos_len, uint8_t number,
                         const uint8_t *list, size_t list_len, uint8_t *area, size_t area_len);
 
 /* The same without testing catalogue, table and position again, and so much faster on a large table. Only for a catalogue and a table
  * that umbristal_table_check has answered with 0, and a position that is fresh or that umbristal_call has not answered with
  * UMBRISTAL_PX on them: each as it was then, but for what calls on that same table and that same position have changed since. A second
- * position on the same table is to be made fresh once a call through another one has inserted or deleted: its cells are other ones then, and
+ * position on the same table is to be made fresh once a call through another one has inserted or deleted: its cells may be other ones then, and
  * a test would not show it. With anything else the call may read and write outside the slices. List, area and number may be anything here too. */
 uint64_t umbristal_call_sound(const uint8_t *cat, size_t cat_len, uint8_t *tab, size_t tab_len, uint8_t *pos, size_t pos_len,
                               uint8_t number, const uint8_t *list, size_t list_len, uint8_t *area, size_t area_len);
@@ -160,17 +160,18 @@ UMBRISTAL_HELPER uint8_t umbristal_hold(const uint8_t pos[8]) UMBRISTAL_BODY({ r
 /* The two letters of a status number and a zero behind them: "--" for blank, "??" for a number that is no status. */
 void umbristal_letters(uint8_t status, char letters[3]);
 
-/* How long an area must be for this catalogue. */
+/* How long an area must be. Of a catalogue that a check would refuse, this and the next number mean nothing; of such a table, neither do the next but one
+ * and a data_start. */
 uint8_t umbristal_area_size(const uint8_t *cat, size_t cat_len);
 
-/* How many bytes a table of so many cells has; 0 for more than UMBRISTAL_CELLS_MOST. The catalogue is one that a check accepts: of others the number
- * means nothing. */
+/* How many bytes a table of so many cells has; 0 for more than UMBRISTAL_CELLS_MOST. */
 size_t umbristal_table_size(const uint8_t *cat, size_t cat_len, size_t cells);
 
 /* How many segments a table has. */
 size_t umbristal_count(const uint8_t *tab, size_t tab_len);
 
-/* The segment in a cell: its type, at which byte of the table its data begin, and how many bytes they are. All 0 where there is no segment. */
+/* The segment in a cell: its type, at which byte of the table its data begin, and how many bytes they are. All 0 where there is no segment. Data that
+ * would not lie within the table have the length 0. */
 uint8_t umbristal_cell_type(const uint8_t *tab, size_t tab_len, size_t cell);
 size_t umbristal_data_start(const uint8_t *tab, size_t tab_len, size_t cell);
 uint8_t umbristal_data_length(const uint8_t *cat, size_t cat_len, const uint8_t *tab, size_t tab_len, size_t cell);
@@ -178,14 +179,14 @@ uint8_t umbristal_data_length(const uint8_t *cat, size_t cat_len, const uint8_t 
 /* Argument lists, argument by argument. The buffer has UMBRISTAL_LIST_SIZE bytes, room for every list that can be right. Each function is handed how many
  * bytes the list has so far, 0 at first, and answers how many it has then: pass buffer and number to a call. An argument without a test names all
  * segments of a type; one with a test has an operator from 1 to 6, a field of that type and a value of the field's length. What has no room, an operator
- * of 0, and a value of another length than the field's (also any value for a field that is none) spoil the list: every call refuses it with
- * UMBRISTAL_AC, whatever is added afterwards. */
+ * of 0, and a value of another length than the field's (a field that is none has 0 bytes) spoil the list: every call refuses it with UMBRISTAL_AC,
+ * whatever is added afterwards. */
 #define UMBRISTAL_LIST_SIZE 1845
 size_t umbristal_list_all(uint8_t list[UMBRISTAL_LIST_SIZE], size_t used, uint8_t code);
 size_t umbristal_list_test(const uint8_t *cat, size_t cat_len, uint8_t list[UMBRISTAL_LIST_SIZE], size_t used, uint8_t code,
                            uint8_t operation, uint8_t field, const void *value, size_t value_len);
 
-/* The functions above for languages that pass by reference and take no result but an int, as COBOL does: examples/cobol/umbristal.cpy declares every
+/* The functions above for languages that pass by reference and take no result but an int, as COBOL does: the copybook umbristal.cpy declares every
  * block as it must be. Each block is lent by its address alone and must have the size that stands here. How much of each counts is said in `ask`, and the
  * bytes behind that stay: byte 0, the call's number; then numbers of four bytes, high byte first, the lengths of catalogue (from byte 1), table (5),
  * list or list 1 (9), list 2 (13), and of area or out (17). A length above the block's size counts as that size. Where a block must be no longer than

@@ -44,20 +44,36 @@ static size_t file_read(const char *name, uint8_t *to, size_t most) {
     return read;
 }
 
-/* Text, or the bytes of X'..'; the number of bytes. */
-static size_t bytes_of(const char *text, uint8_t *to, size_t most) {
-    size_t n = 0;
-    unsigned byte;
-    if (strncmp(text, "X'", 2) == 0) {
-        for (text += 2; n < most && sscanf(text, "%2x", &byte) == 1; text += 2)
-            to[n++] = (uint8_t)byte;
+/* Text, or the bytes of X'..', into room for one byte more than there can be; the number of bytes, or -1 for what is no hex. */
+static long bytes_of(const char *text, uint8_t *to)
+{
+    static const char digits[] = "0123456789ABCDEF";
+    long n = 0;
+    if (strncmp(text, "X'", 2) != 0) {
+        while (n <= UMBRISTAL_DATA_MOST && text[n]) {
+            to[n] = (uint8_t)text[n];
+            n++;
+        }
         return n;
     }
-    while (n < most && text[n]) {
-        to[n] = (uint8_t)text[n];
-        n++;
+    for (text += 2; n <= UMBRISTAL_DATA_MOST && strcmp(text, "'") != 0; text += 2) {
+        const char *high = text[0] ? strchr(digits, text[0]) : NULL, *low = high && text[1] ? strchr(digits, text[1]) : NULL;
+        if (low == NULL)
+            return -1;
+        to[n++] = (uint8_t)(16 * (high - digits) + (low - digits));
     }
     return n;
+}
+
+/* A number of a byte, and what follows it; -1 for anything else. */
+static int number_at(const char **at)
+{
+    char *rest;
+    unsigned long n = isdigit((unsigned char)**at) ? strtoul(*at, &rest, 10) : 256;
+    if (n > 255)
+        return -1;
+    *at = rest;
+    return (int)n;
 }
 
 /* The number of the longest operator that stands here, and what follows it. */
@@ -70,25 +86,36 @@ static uint8_t operator_at(const char **at) {
     return best;
 }
 
-/* One word of a list: 2 or 2/2=14. */
-static void argument_add(const struct store *s, struct list *list, const char *word) {
-    char *rest;
-    uint8_t code = (uint8_t)strtoul(word, &rest, 10), value[UMBRISTAL_DATA_MOST + 1];
-    if (*rest != '/') {
-        list->used = umbristal_list_all(list->bytes, list->used, code);
-        return;
+/* One word of a list: 2 or 2/2=14. 0 for what is none. */
+static int argument_add(const struct store *s, struct list *list, const char *word)
+{
+    uint8_t value[UMBRISTAL_DATA_MOST + 1];
+    const char *at = word;
+    int code = number_at(&at);
+    if (code >= 0 && *at == 0) {
+        list->used = umbristal_list_all(list->bytes, list->used, (uint8_t)code);
+        return 1;
     }
-    uint8_t field = (uint8_t)strtoul(rest + 1, &rest, 10);
-    const char *at = rest;
-    uint8_t operation = operator_at(&at);
-    size_t n = bytes_of(at, value, sizeof value);
-    list->used = umbristal_list_test(s->cat, s->cat_len, list->bytes, list->used, code, operation, field, value, n);
+    if (code < 0 || *at++ != '/')
+        return 0;
+    int field = number_at(&at);
+    uint8_t operation = field < 0 ? 0 : operator_at(&at);
+    long n = operation == 0 ? -1 : bytes_of(at, value);
+    if (n < 0)
+        return 0;
+    list->used = umbristal_list_test(s->cat, s->cat_len, list->bytes, list->used, (uint8_t)code, operation, (uint8_t)field, value, (size_t)n);
+    return 1;
 }
 
-static void list_read(const struct store *s, struct list *list, char *text) {
+static int list_read(const struct store *s, struct list *list, char *text)
+{
     list->used = 0;
     for (char *word = strtok(text, " "); word; word = strtok(NULL, " "))
-        argument_add(s, list, word);
+        if (!argument_add(s, list, word)) {
+            printf("%s: no argument; write 2 or 2/2=14, with = <> < <= > or >=\n", word);
+            return 0;
+        }
+    return 1;
 }
 
 static void data_print(const uint8_t *data, size_t n) {
@@ -112,16 +139,22 @@ static void position_print(const uint8_t *pos) {
     puts(umbristal_hold(pos) ? ", held" : "");
 }
 
-static void call(struct store *s, uint8_t number, char *text) {
+static void call(struct store *s, uint8_t number, char *text)
+{
     struct list list;
-    uint8_t area[UMBRISTAL_DATA_MOST] = { 0 };
-    char letters[3], *colon = strstr(text, ": ");
-    size_t given = 0;
+    uint8_t area[UMBRISTAL_DATA_MOST + 1] = { 0 };
+    char letters[3], *colon = strchr(text, ':');
+    long given = 0;
     if (colon) {
         *colon = 0;
-        given = bytes_of(colon + 2, area, sizeof area);
+        given = bytes_of(colon + (colon[1] == ' ' ? 2 : 1), area);
     }
-    list_read(s, &list, text);
+    if (given < 0 || given > UMBRISTAL_DATA_MOST) {
+        printf("these are no data\n");
+        return;
+    }
+    if (!list_read(s, &list, text))
+        return;
     uint64_t r = umbristal_call_sound(s->cat, s->cat_len, s->tab, s->tab_len, s->pos, sizeof s->pos, number, list.bytes, list.used, area,
                                       sizeof area);
     umbristal_letters(umbristal_status(r), letters);
@@ -134,7 +167,7 @@ static void call(struct store *s, uint8_t number, char *text) {
     }
     position_print(s->pos);
     if (umbristal_status(r) < UMBRISTAL_GB && (number == UMBRISTAL_ISRT || number == UMBRISTAL_REPL) && given != umbristal_length(r))
-        printf("(%u bytes were given, and %u are the segment's)\n", (unsigned)given, umbristal_length(r));
+        printf("(%ld bytes were given, and %u are the segment's)\n", given, umbristal_length(r));
 }
 
 static void report(const struct store *s, char *text) {
@@ -142,11 +175,10 @@ static void report(const struct store *s, char *text) {
     static uint8_t out[2 * UMBRISTAL_CELLS_MOST];
     char letters[3], *bar = strchr(text, '|');
     two.used = 0;
-    if (bar) {
+    if (bar)
         *bar = 0;
-        list_read(s, &two, bar + 1);
-    }
-    list_read(s, &one, text);
+    if ((bar && !list_read(s, &two, bar + 1)) || !list_read(s, &one, text))
+        return;
     uint64_t r = umbristal_report_nested(s->cat, s->cat_len, s->tab, s->tab_len, one.bytes, one.used, two.bytes, two.used, out, sizeof out);
     umbristal_letters(umbristal_status(r), letters);
     printf("%s %u shown:", letters, (unsigned)umbristal_hits(r));

@@ -17,6 +17,7 @@
        78  STEP-KEY                 VALUE 2.
       *> Argument lists, to the byte (R24): type, operator and, behind
       *> an operator other than none, field and value.
+      *> [unit]
        01  UNIT-07.
            05  FILLER               BINARY-CHAR UNSIGNED
                                     VALUE UNIT-TYPE.
@@ -25,6 +26,7 @@
            05  FILLER               BINARY-CHAR UNSIGNED
                                     VALUE UNIT-KEY.
            05  FILLER               PIC XX VALUE "07".
+      *> [end]
        01  STEP-14.
            05  FILLER               BINARY-CHAR UNSIGNED
                                     VALUE STEP-TYPE.

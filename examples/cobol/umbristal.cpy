@@ -36,7 +36,7 @@
                                     PIC 9(9) COMP.
       *> The result (R72). Of a report UM-HITS is what it shows.
        01  UM-TOLD.
-           05  UM-LETTERS           PIC XX.
+           05  UM-LETTERS           PIC XX VALUE "??".
                88  UM-DONE          VALUE SPACES "GA" "GK".
                88  UM-AT-END        VALUE "GB".
                88  UM-NOT-FOUND     VALUE "GE" "GP".
@@ -64,6 +64,9 @@
        01  UM-LIST-2                PIC X(1846).
        01  UM-AREA                  PIC X(120).
       *> What a report shows: the number of a cell for each segment.
+      *> The type of cell N is the byte UM-TABLE(9 + N * C : 1), and
+      *> its data begin behind it, at UM-TABLE(10 + N * C : length),
+      *> with C one more than the longest type has bytes.
        01  UM-OUT.
            05  UM-OUT-CELL          PIC 9(4) COMP OCCURS 4096 TIMES.
       *> The calls (R32).

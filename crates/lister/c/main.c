@@ -15,9 +15,9 @@ enum { LONGEST_TABLE = 65536 }; /* that this program takes (R68) */
 static const char usage[] =
     "usage: umbristal-list [CATALOGUE TABLE]\n"
     "\n"
-    "Lists the segments of a table, a line each: cell, type, level, status and data in hex. The last line is GB.\n"
-    "Without names it reads CAT.HDC and TAB.HDT of the folder that it is called in. A file that is not there counts\n"
-    "as an empty one. A catalogue has at most 520 bytes, a table at most 65,536.\n"
+    "Lists the segments of a table, a line each: cell, type, level, status and data in hex. The last line is GB, or CX\n"
+    "or TX where the files are refused. Without names it reads CAT.HDC and TAB.HDT of the folder that it is called in.\n"
+    "A file that is not there counts as an empty one. A catalogue has at most 520 bytes, a table at most 65,536.\n"
     "\n"
     "Status 0: the listing is whole. 1: the files are refused, by CX (catalogue) or TX (table). 2: wrong usage, a\n"
     "file that cannot be read, or an output that cannot be written.\n";

@@ -33,7 +33,7 @@
 //! let tries: Vec<&[u8]> = store.segments(&[Argument::all(TRY)])?.map(|found| found.data).collect();
 //! assert_eq!(tries, [b"P1", b"T1", b"P2", b"S3"]);
 //!
-//! // An error has the letters of the status table, and has changed nothing.
+//! // An error has the letters of the status table, and has changed nothing in the table.
 //! let error = store.insert(&[Argument::all(UNIT)], b"07Z").unwrap_err();
 //! assert_eq!(error.status(), Status::II);
 //! assert_eq!(error.to_string(), "II: a twin has this unique key");

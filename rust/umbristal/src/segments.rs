@@ -24,7 +24,8 @@ impl Store {
     /// It only reads, so that several places can do it at once, and the position stays.
     ///
     /// It is no loop of calls, since a call wants the table for itself. An empty list shows the cells in order, a list the
-    /// plain report of it, and it is proved that this is the same. As no call is made, the status of each is blank.
+    /// plain report of it, and it is proved that this is the same. Roots alone, which no report shows, are got by calls on
+    /// a copy of the table. The status of each is blank.
     ///
     /// ```
     /// # fn main() -> Result<(), Box<dyn std::error::Error>> {

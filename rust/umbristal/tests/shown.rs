@@ -1,6 +1,6 @@
-//! What the repository's README shows of the crate, run on the bench table; `tools/manual` cuts it out.
+//! What the READMEs show of the crate, run on the bench table; `tools/manual` cuts it out.
 
-use umbristal::{Argument, FieldNumber, Op, Store, TypeCode};
+use umbristal::{Argument, Error, FieldNumber, Op, Status, Store, TypeCode};
 
 const UNIT: TypeCode = TypeCode(1);
 const STEP: TypeCode = TypeCode(2);
@@ -27,5 +27,23 @@ fn the_readme_shows_this() -> Result<(), Box<dyn std::error::Error>> {
     assert_eq!(error.to_string(), "II: a twin has this unique key");
     // [end]
     assert_eq!(store.count(), 10);
+    replaced(&mut store)
+}
+
+fn replaced(store: &mut Store) -> Result<(), Box<dyn std::error::Error>> {
+    // [replace]
+    let step = [
+        Argument::test(UNIT, UNIT_KEY, Op::Eq, b"07"),
+        Argument::test(STEP, STEP_KEY, Op::Eq, b"14"),
+    ];
+    let mut data = store.get_hold_unique(&step).found()?.to_owned().data; // GHU
+    data[2] = b'P';
+    match store.replace(&data) {
+        Ok(segment) => println!("now {:?}", segment.data), // REPL
+        Err(Error::Refused(Status::DA)) => println!("the key must stay"),
+        Err(other) => return Err(other.into()),
+    }
+    // [end]
+    assert_eq!(store.get_unique(&step).found()?.data, b"14P");
     Ok(())
 }

@@ -31,7 +31,7 @@ fn size(name: &str, clauses: &str) -> usize {
         _ if clauses.starts_with("BINARY-CHAR UNSIGNED") => 1,
         _ if clauses.starts_with("PIC 9(4) COMP") => 2,
         _ if clauses.starts_with("PIC 9(9) COMP") => 4,
-        "PIC XX" => 2,
+        _ if clauses.starts_with("PIC XX") => 2,
         _ if clauses.starts_with("PIC X(") => number(&clauses["PIC X(".len()..]),
         _ => panic!("{name}: how long is {clauses}?"),
     };
