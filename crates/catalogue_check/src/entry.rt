@@ -24,7 +24,7 @@ ghost use Rattle.rules.specs.Catalogue.{lengthOf, goodSpan, goodKey, goodParent
 ghost use Rattle.catalogue_check.specs.Levelled.{Ready, Next};
 
 // R5: a span within the data. The sum is taken in wide numbers, where it cannot wrap.
-fn good_span(start: u8, long: u8, most: u8) -> bool
+pub fn good_span(start: u8, long: u8, most: u8) -> bool
     ensures { λ r. ⌜ r ≡ goodSpan start long most ⌝ }
 {
     if start == 0 {
