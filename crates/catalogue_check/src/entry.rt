@@ -81,7 +81,7 @@ fn good_length(cat: &[u8], t: TypeCode) -> bool
 }
 
 // R4: the last bytes of a type's entry.
-fn ends_in_zeros(cat: &[u8], t: TypeCode) -> bool
+pub fn ends_in_zeros(cat: &[u8], t: TypeCode) -> bool
     ensures { λ r. ⌜ r ≡ zeros (part (now (cat .entry)) (8 * t .0 + 5) 3) ⌝ }
 {
     if type_byte(cat, t, 5) != 0 {

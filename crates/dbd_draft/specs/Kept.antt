@@ -9,7 +9,7 @@ use Rattle.terms.specs.Choice.{pick}
 use Rattle.rules.specs.Block.{Bytes, byte, part}
 use Rattle.rules.specs.Catalogue.{types, fields}
 use Rattle.catalogue_check.specs.Levelled.{Ready}
-use Rattle.statements.specs.Draft.{Draft, rows, Taken, goes, bad, misplaced, twice, orphan, unruled}
+use Rattle.statements.specs.Draft.{Draft, header, rows, Taken, goes, bad, misplaced, twice, orphan, unruled}
 use Rattle.dbd_draft.specs.declared.Judged.{Judged}
 use Rattle.dbd_draft.specs.declared.Judged.the-variants.{Good, Misplaced, Twice, Orphan, Unruled}
 
@@ -24,13 +24,16 @@ draftOf b = record {
   fieldNames = rows 8 b 784 (fields b);
 }
 
--- what is kept besides: no more than there is room for, the levels of the types, and an L that lets no number above 255 pass
+-- what is kept besides: the header, no more than there is room for, the levels of the types, an L that lets no number above 120 pass, and no type
+-- without DBD
 pub record Sound (b levels : Bytes) : Type 0 where
   pub long : length b ≡ 1296
   pub few : types b ≤ 32
   pub fewFields : fields b ≤ 64
+  pub headed : part b 0 8 ≡ header 0x43 (types b) (fields b)
   pub ready : Ready b levels (types b)
   pub low : byte b (8 * types b + 1) ≤ 120
+  pub based : 0 < types b → 0 < byte b 520
 
 -- a name, or the word 0
 pub record Named (w : Bytes) : Type 0 where

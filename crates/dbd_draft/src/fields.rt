@@ -1,10 +1,10 @@
 // FIELD: one field more, of the last type, and that type's key where it has SEQ.
 use crate::Judged;
-use crate::names::filled;
-use crate::names::is_own;
-use crate::names::write;
 use blocks::wide;
 use catalogue_check::entry::good_span;
+use dbd_names::filled;
+use dbd_names::is_own;
+use dbd_names::write;
 ghost use mathlib.Core.Path.{_≡_};
 ghost use mathlib.Core.Bool.{true};
 ghost use Prim.Native.Nat.{_<_};
@@ -44,7 +44,14 @@ fn add_field(draft: &mut [u8], levels: &[u8; 33], name: &[u8; 8], long: u8, star
 }
 
 // R78: its faults, in their order.
-pub(crate) fn take_field(draft: &mut [u8], levels: &[u8; 33], word: &[u8], kind: u8, long: u8, start: u8) -> Judged
+pub(crate) fn take_field(
+    draft: &mut [u8],
+    levels: &[u8; 33],
+    word: &[u8],
+    kind: u8,
+    long: u8,
+    start: u8,
+) -> Judged
     requires { ⌜ Sound (now draft) (now levels) × Named (now word) ⌝ }
     ensures { λ r. ⌜ Left r (now (draft .exit)) (now (levels .entry)) (taken (draftOf (now (draft .entry))) (field (now (word .entry)) kind long start)) ⌝ }
 {

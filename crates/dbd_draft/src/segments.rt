@@ -1,11 +1,11 @@
 // DBD and SEGM: the data base's name, and one type more.
 use crate::Judged;
-use crate::names::filled;
-use crate::names::place_of;
-use crate::names::write;
 use blocks::slices::are_same;
 use blocks::wide;
 use catalogue_check::entry::good_type;
+use dbd_names::filled;
+use dbd_names::place_of;
+use dbd_names::write;
 use terms::TypeCode;
 ghost use mathlib.Core.Path.{_≡_};
 ghost use Prim.Native.Nat.{_≤_};
@@ -50,7 +50,13 @@ fn add_type(draft: &mut [u8], levels: &mut [u8; 33], name: &[u8; 8], above: u8, 
 }
 
 // R78: its faults, in their order.
-pub(crate) fn take_segm(draft: &mut [u8], levels: &mut [u8; 33], word: &[u8], parent: &[u8], long: u8) -> Judged
+pub(crate) fn take_segm(
+    draft: &mut [u8],
+    levels: &mut [u8; 33],
+    word: &[u8],
+    parent: &[u8],
+    long: u8,
+) -> Judged
     requires { ⌜ Sound (now draft) (now levels) × Named (now word) × Named (now parent) ⌝ }
     ensures { λ r. ⌜ Left r (now (draft .exit)) (now (levels .exit))
         (taken (draftOf (now (draft .entry))) (segm (now (word .entry)) (now (parent .entry)) long)) ⌝ }

@@ -1,3 +1,1 @@
-pub mod Capped
-pub mod Row
 pub mod Meant

@@ -8,12 +8,12 @@ use Rattle.rules.specs.Block.{Bytes}
 use Rattle.statements.specs.Words.{Token, tokens, value}
 use Rattle.statements.specs.Statement.{Statement, dbd, segm, field, Slot, spanForm, formed, wordAt}
 use Rattle.statements.specs.Draft.{Draft, misplaced, bad, taken, lineTaken}
-use Rattle.dbd_line.specs.declared.Span.{Span}
+use Rattle.dbd_words.specs.declared.Span.{Span}
 use Rattle.dbd_line.specs.declared.Line.{Line}
 use Rattle.dbd_line.specs.declared.Line.the-variants.{Empty, Wrong, IsDbd, IsSegm, IsField}
 use Rattle.dbd_line.specs.declared.forms.Extent.{Extent}
-use Rattle.dbd_line.specs.Capped.{capped}
-use Rattle.dbd_line.specs.Row.{cut}
+use Rattle.dbd_words.specs.Capped.{capped}
+use Rattle.dbd_words.specs.Row.{cut}
 
 -- a name of 1 to 8 bytes, or the word 0, in its line
 pub record InLine (line : Bytes) (s : Span) (w : Bytes) : Type 0 where

@@ -1,15 +1,14 @@
 // The four forms of a statement (R76), each tried on the whole line.
-use crate::Asks;
 use crate::Line;
-use crate::Span;
-use crate::slots::assigned;
-use crate::slots::ends;
-use crate::slots::held;
-use crate::slots::keyword;
-use crate::slots::operand;
-use crate::slots::sign;
-use crate::words::number;
-use crate::words::past_blanks;
+use dbd_words::Asks;
+use dbd_words::slots::assigned;
+use dbd_words::slots::ends;
+use dbd_words::slots::held;
+use dbd_words::slots::keyword;
+use dbd_words::slots::operand;
+use dbd_words::slots::sign;
+use dbd_words::words::number;
+use dbd_words::words::past_blanks;
 ghost use mathlib.Core.Path.{_≡_};
 ghost use Prim.Native.Nat.{_≤_};
 ghost use lib.ListN.{length};
@@ -66,13 +65,21 @@ fn rest(line: &[u8], at: usize) -> Extent
     let at = operand(line, start.to, b"TYPE");
     let letter = held(line, at, Asks::OneOf(b'C', b'X'));
     if !ends(line, letter) {
-        return Extent { good: false, long: 0, start: 0 };
+        return Extent {
+            good: false,
+            long: 0,
+            start: 0,
+        };
     }
     let a = long.from;
     let b = long.to;
     let c = start.from;
     let d = start.to;
-    Extent { good: true, long: number(&line[a..b]), start: number(&line[c..d]) }
+    Extent {
+        good: true,
+        long: number(&line[a..b]),
+        start: number(&line[c..d]),
+    }
 }
 
 fn field(line: &[u8]) -> Line

@@ -43,6 +43,10 @@ readFrom d n (l ∷ ls) = elim (lineTaken d l) [ bad k ↦ refused k n | goes e 
 unfoldable pub dbdRead : Bytes → Reading
 dbdRead text = readFrom blank 1 (linesOf text)
 
+-- R81: a statement as a line of the writer
+unfoldable pub spelled : Statement → Bytes
+spelled s = spell (tokensOf s)
+
 -- the name at place i of the list: the data base at 0, then the segments, then the fields
 unfoldable pub nameAt : Bytes → ℕ → Bytes
 nameAt names i = part names (8 + 8 * i) 8
@@ -64,27 +68,40 @@ unfoldable pub those : (ℕ → Bool) → List ℕ → List ℕ
 those p [] = []
 those p (i ∷ is) = elim (p i) [ true ↦ i ∷ those p is | false ↦ those p is ]
 
-module _ (cat : Bytes) (names : Bytes) where
-  unfoldable pub segmentName : ℕ → Bytes
-  segmentName k = nameAt names k
-
-  unfoldable pub fieldName : ℕ → Bytes
-  fieldName f = nameAt names (types cat + f)
-
+module _ (cat : Bytes) where
   -- the numbers of the fields of type k
   unfoldable pub ownFields : ℕ → List ℕ
   ownFields k = those (λ f. eqb (fieldType cat (fieldOf f) .0) k) (range 1 (fields cat))
 
+  -- field f has the start and the length of the key of type k
+  unfoldable pub isKeyOf : ℕ → ℕ → Bool
+  isKeyOf k f = eqb (fieldStart cat (fieldOf f)) (keyStart cat (code k)) && eqb (fieldLength cat (fieldOf f)) (keyLength cat (code k))
+
   -- R81: the field that gets SEQ: the first one of its type with the key's start and length; 0 for none
   unfoldable pub keyField : ℕ → ℕ
-  keyField k =
-      firstOf (λ f. eqb (fieldStart cat (fieldOf f)) (keyStart cat (code k)) && eqb (fieldLength cat (fieldOf f)) (keyLength cat (code k))) (ownFields k)
+  keyField k = firstOf (isKeyOf k) (ownFields k)
 
   -- R82: version 1, and every value type 0
   unfoldable pub isPlain : Bool
   isPlain =
       eqb (word cat 3) 1 && every (λ k. zeros (part cat (8 * k + 5) 3)) (range 1 (types cat))
       && every (λ f. eqb (fieldByte cat (fieldOf f) 3) 0) (range 1 (fields cat))
+
+  -- R82: fields stand by their types
+  unfoldable pub ascending : Bool
+  ascending = every (λ f. leb (fieldType cat (fieldOf f) .0) (fieldType cat (fieldOf (suc f)) .0)) (range 1 (fields cat - 1))
+
+  -- R82: every key is a field too
+  unfoldable pub keysListed : Bool
+  keysListed = every (λ k. eqb (keyKind cat (code k)) 0 || ltb 0 (keyField k)) (range 1 (types cat))
+
+-- the name of type k
+unfoldable pub segmentName : Bytes → ℕ → Bytes
+segmentName names k = nameAt names k
+
+module _ (cat names : Bytes) where
+  unfoldable pub fieldName : ℕ → Bytes
+  fieldName f = nameAt names (types cat + f)
 
   -- R82: the list fits the block, and every name in it is one
   unfoldable pub goodNames : Bool
@@ -99,35 +116,29 @@ module _ (cat : Bytes) (names : Bytes) where
       distinct (rows 8 names 16 (types cat))
       && every (λ k. distinct (ownNames k (rows 4 cat (8 + 8 * types cat) (fields cat)) (rows 8 names (16 + 8 * types cat) (fields cat)))) (range 1 (types cat))
 
-  -- R82: fields stand by their types
-  unfoldable pub ascending : Bool
-  ascending = every (λ f. leb (fieldType cat (fieldOf f) .0) (fieldType cat (fieldOf (suc f)) .0)) (range 1 (fields cat - 1))
-
-  -- R82: every key is a field too
-  unfoldable pub keysListed : Bool
-  keysListed = every (λ k. eqb (keyKind cat (code k)) 0 || ltb 0 (keyField k)) (range 1 (types cat))
-
   -- R82: a block and a list that the reader could have given; nothing is read of a catalogue that is not good
   unfoldable pub couldGive : Bool
   couldGive =
-      elim (goodCatalogue cat && isPlain && goodNames) [
-        | true ↦ differ && ascending && keysListed
+      elim (goodCatalogue cat && isPlain cat && goodNames) [
+        | true ↦ differ && ascending cat && keysListed cat
         | false ↦ false
       ]
 
-  -- the SEGM of type k, and its FIELDs by number
+  -- R81: the parent's name in the SEGM of type k, and the FIELDs of that type
   unfoldable pub parentWord : ℕ → Bytes
-  parentWord k = elim (parentOf cat (code k) .0) [ zero ↦ noParent | suc p ↦ trimmed (segmentName (suc p)) ]
+  parentWord k = elim (parentOf cat (code k) .0) [ zero ↦ noParent | suc p ↦ trimmed (segmentName names (suc p)) ]
+
+  unfoldable pub segmStatement : ℕ → Statement
+  segmStatement k = segm (trimmed (segmentName names k)) (parentWord k) (lengthOf cat (code k))
 
   unfoldable pub fieldStatement : ℕ → ℕ → Statement
   fieldStatement k f =
-      field (trimmed (fieldName f)) (pick (eqb f (keyField k)) (keyKind cat (code k)) 0)
+      field (trimmed (fieldName f)) (pick (eqb f (keyField cat k)) (keyKind cat (code k)) 0)
       (fieldLength cat (fieldOf f)) (fieldStart cat (fieldOf f))
 
   unfoldable pub typeStatements : List ℕ → List Statement
   typeStatements [] = []
-  typeStatements (k ∷ ks) =
-      (segm (trimmed (segmentName k)) (parentWord k) (lengthOf cat (code k)) ∷ map (fieldStatement k) (ownFields k)) ++ typeStatements ks
+  typeStatements (k ∷ ks) = (segmStatement k ∷ map (fieldStatement k) (ownFields cat k)) ++ typeStatements ks
 
   -- R81: DBD, then each type with its fields by number
   unfoldable pub statements : List Statement
@@ -135,4 +146,4 @@ module _ (cat : Bytes) (names : Bytes) where
 
   -- the writer: none for CX
   unfoldable pub dbdWrite : Option Bytes
-  dbdWrite = elim couldGive [ true ↦ some (textOf (map (λ s. spell (tokensOf s)) statements)) | false ↦ none ]
+  dbdWrite = elim couldGive [ true ↦ some (textOf (map spelled statements)) | false ↦ none ]

@@ -27,9 +27,8 @@ pub record WrittenInto : Type 0 where
   pub text : Bytes
 
 -- R80: the fault and its line, or T and F; AB for a short buffer comes behind every fault of the text
-unfoldable pub readInto : Bytes → Bytes → Bytes → ReadInto
-readInto text cat names =
-    let r = dbdRead text in
+unfoldable pub handedOut : Reading → Bytes → Bytes → ReadInto
+handedOut r cat names =
     elim (eqb (r .fault) 0) [
       | true ↦ elim (leb (length (r .catalogue)) (length cat) && leb (length (r .names)) (length names)) [
         | true ↦ record { result = 256 * r .types + 65536 * r .fields; catalogue = onto (r .catalogue) cat; names = onto (r .names) names }
@@ -37,6 +36,13 @@ readInto text cat names =
       ]
       | false ↦ record { result = r .fault + high (r .line); catalogue = cat; names = names }
     ]
+
+unfoldable pub readInto : Bytes → Bytes → Bytes → ReadInto
+readInto text cat names = handedOut (dbdRead text) cat names
+
+-- a number and two buffers, as the reader's answer
+abbrev pub readBack : ℕ → Bytes → Bytes → ReadInto
+readBack r cat names = record { result = r; catalogue = cat; names = names }
 
 unfoldable pub textInto : Option Bytes → Bytes → WrittenInto
 textInto none text = record { result = 20; text = text }
@@ -49,3 +55,7 @@ textInto (some t) text =
 -- R83: CX, then AB, or the text and its length
 unfoldable pub writeInto : Bytes → Bytes → Bytes → WrittenInto
 writeInto cat names text = textInto (dbdWrite cat names) text
+
+-- a number and a buffer, as the writer's answer
+abbrev pub writtenBack : ℕ → Bytes → WrittenInto
+writtenBack r text = record { result = r; text = text }

@@ -6,8 +6,8 @@ ghost use Prim.Native.Nat.{_+_, _-_, _*_, _≤_};
 ghost use lib.ListN.{length};
 ghost use Rattle.rules.specs.Block.{every};
 ghost use Rattle.statements.specs.Words.{isDigit, isLetter, inWord, isBlank, isName, isNumber, value};
-ghost use Rattle.dbd_line.specs.Row.{PastBlanks, WordEnd, NextWord};
-ghost use Rattle.dbd_line.specs.Capped.{capped};
+ghost use Rattle.dbd_words.specs.Row.{PastBlanks, WordEnd, NextWord};
+ghost use Rattle.dbd_words.specs.Capped.{capped};
 
 pub fn is_digit(b: u8) -> bool
     ensures { λ r. ⌜ r ≡ isDigit b ⌝ }

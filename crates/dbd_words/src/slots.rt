@@ -14,7 +14,7 @@ ghost use lib.ListN.{length};
 ghost use Rattle.rules.specs.Block.{every};
 ghost use Rattle.statements.specs.Words.{inWord, isBlank};
 ghost use Rattle.statements.specs.Statement.{only, mark, suits, comma, equals};
-ghost use Rattle.dbd_line.specs.Row.{asked, Reached, Held, Ends};
+ghost use Rattle.dbd_words.specs.Row.{asked, Reached, Held, Ends};
 
 // This word.
 pub fn keyword(line: &[u8], at: usize, word: &[u8]) -> usize
@@ -24,7 +24,11 @@ pub fn keyword(line: &[u8], at: usize, word: &[u8]) -> usize
     let w = next_word(line, at);
     let from = w.from;
     let to = w.to;
-    if are_same(word, &line[from..to]) { to } else { line.len() }
+    if are_same(word, &line[from..to]) {
+        to
+    } else {
+        line.len()
+    }
 }
 
 // This sign.

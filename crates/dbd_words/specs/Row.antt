@@ -9,9 +9,9 @@ use Rattle.terms.specs.Choice.{pick}
 use Rattle.rules.specs.Block.{Bytes, byte, part, every}
 use Rattle.statements.specs.Words.{Token, word, inWord, isBlank, inFront, tokens}
 use Rattle.statements.specs.Statement.{Slot, name, number, parent, either, suits, fits, formed}
-use Rattle.dbd_line.specs.declared.Span.{Span}
-use Rattle.dbd_line.specs.declared.Asks.{Asks}
-use Rattle.dbd_line.specs.declared.Asks.the-variants.{AName, ANumber, AParent, OneOf}
+use Rattle.dbd_words.specs.declared.Span.{Span}
+use Rattle.dbd_words.specs.declared.Asks.{Asks}
+use Rattle.dbd_words.specs.declared.Asks.the-variants.{AName, ANumber, AParent, OneOf}
 
 -- the word of a span
 abbrev pub cut : Bytes → Span → Bytes

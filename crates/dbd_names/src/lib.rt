@@ -1,4 +1,4 @@
-// Names of 8 bytes, one behind another.
+// Names of 8 bytes (R79), one behind another.
 use blocks::moves::put;
 use blocks::slices::are_same;
 use blocks::wide;
@@ -6,7 +6,8 @@ ghost use mathlib.Core.Path.{_≡_};
 ghost use Prim.Native.Nat.{_+_, _*_, _≤_};
 ghost use lib.ListN.{length};
 ghost use lib.Seq.{sets};
-ghost use Rattle.statements.specs.Words.{filled};
+ghost use Rattle.rules.specs.Block.{part};
+ghost use Rattle.statements.specs.Words.{filled, trimmed};
 ghost use Rattle.statements.specs.Draft.{rows, placeOf, has, ownNames};
 
 // Bytes that go over those from a place on.
@@ -25,6 +26,20 @@ pub fn filled(word: &[u8]) -> [u8; 8]
     let mut name = [0x20u8; 8];
     put(&mut name, word);
     name
+}
+
+// Where the spaces behind a name begin: how long its word is.
+pub fn name_end(name: &[u8]) -> usize
+    ensures { λ r. ⌜ (r ≤ length (now (name .entry))) × (part (now (name .entry)) 0 r ≡ trimmed (now (name .entry))) ⌝ }
+{
+    let mut i = 0;
+    while i < name.len() {
+        if name[i] == 0x20 {
+            return i;
+        }
+        i += 1;
+    }
+    i
 }
 
 // Where a name stands among the first n, from 1; 0 where it does not.
