@@ -1,7 +1,7 @@
 // The writer of DBD statements: a text from a catalogue and its names (R81 to R83).
 mod lines;
-mod statements;
 mod text;
+mod whole;
 
 use dbd_given::could_give;
 ghost use mathlib.Core.Path.{_≡_};
@@ -16,10 +16,10 @@ pub extern "C" fn umbristal_dbd_write(cat: &[u8], names: &[u8], text: &mut [u8])
     if !could_give(cat, names) {
         return 20;
     }
-    let long = statements::put_statements(&mut text[..0], cat, names);
+    let long = whole::put_statements(&mut text[..0], cat, names);
     if text.len() < long {
         return 28;
     }
-    statements::put_statements(text, cat, names);
+    whole::put_statements(text, cat, names);
     4294967296 * long as u64
 }
