@@ -46,6 +46,13 @@ enum umbristal_statuses {
     UMBRISTAL_FX = 32    /* ISRT: no cell is free */
 };
 
+/* The faults of DBD statements, by number (R78); beside them umbristal_dbd_read answers UMBRISTAL_CX and UMBRISTAL_AB. */
+enum umbristal_dbd_faults {
+    UMBRISTAL_DBD_STATEMENT = 1, /* no statement, or none that can stand here; a second key */
+    UMBRISTAL_DBD_NAME = 2,      /* a name that a segment has already, or a field of the same segment */
+    UMBRISTAL_DBD_PARENT = 3     /* PARENT= a name that no segment before has */
+};
+
 /* The calls, by number. */
 enum umbristal_calls {
     UMBRISTAL_GU = 1,
@@ -78,6 +85,8 @@ enum umbristal_operators {
 #define UMBRISTAL_CELLS_MOST 4096
 #define UMBRISTAL_CATALOGUE_MOST 520
 #define UMBRISTAL_TABLE_MOST 495624
+#define UMBRISTAL_NAMES_MOST 784 /* a list of names */
+#define UMBRISTAL_DBD_MOST 4651  /* the statements that umbristal_dbd_write writes */
 
 /* The position's block: 8 bytes. Byte 0: place, 0 in the gap before a cell, 1 on a cell. Bytes 1 and 2: that cell's number, high byte
  * first. Byte 3: parentage, 0 absent, 1 present. Bytes 4 and 5: its cell number, 0 if absent. Byte 6: hold, 0 or 1. Byte 7: zero.
@@ -126,6 +135,25 @@ uint64_t umbristal_report_joined(const uint8_t *cat, size_t cat_len, const uint8
                                  size_t list1_len, const uint8_t *list2, size_t list2_len, uint8_t *out, size_t out_len);
 uint64_t umbristal_report_plain(const uint8_t *cat, size_t cat_len, const uint8_t *tab, size_t tab_len, const uint8_t *list1,
                                 size_t list1_len, const uint8_t *list2, size_t list2_len, uint8_t *out, size_t out_len);
+
+/* DBD statements (R73 to R84). Reads a text of any length, and writes the catalogue to the front of `cat` and its list of names to the front of `names`;
+ * UMBRISTAL_CATALOGUE_MOST and UMBRISTAL_NAMES_MOST bytes are always enough. In the result umbristal_status is 0, a fault of the text, UMBRISTAL_CX where
+ * a line breaks a rule of catalogues, or UMBRISTAL_AB where the text is right and a buffer too short; of a fault and CX umbristal_dbd_line is the first bad
+ * line, counted from 1, the end counting as one. Of 0 umbristal_dbd_types and umbristal_dbd_fields are how many there are, and
+ * umbristal_dbd_catalogue_size and umbristal_dbd_names_size how many bytes were written. Bytes behind them stay; but for 0 nothing is written. */
+uint64_t umbristal_dbd_read(const uint8_t *text, size_t text_len, uint8_t *cat, size_t cat_len, uint8_t *names, size_t names_len);
+
+/* Writes the statements of a catalogue and its names to the front of `text`; UMBRISTAL_DBD_MOST bytes are always enough. Reading them gives both blocks
+ * again. In the result umbristal_status is 0, UMBRISTAL_CX for blocks that no text reads to, or UMBRISTAL_AB; umbristal_dbd_length is how many bytes were
+ * written. Bytes behind them stay; but for 0 nothing is written. */
+uint64_t umbristal_dbd_write(const uint8_t *cat, size_t cat_len, const uint8_t *names, size_t names_len, uint8_t *text, size_t text_len);
+
+#define umbristal_dbd_line(result) ((uint32_t)((uint64_t)(result) >> 32))
+#define umbristal_dbd_length(result) ((size_t)((uint64_t)(result) >> 32))
+#define umbristal_dbd_types(result) ((uint8_t)((uint64_t)(result) >> 8))
+#define umbristal_dbd_fields(result) ((uint8_t)((uint64_t)(result) >> 16))
+#define umbristal_dbd_catalogue_size(result) ((size_t)8 + 8 * (size_t)umbristal_dbd_types(result) + 4 * (size_t)umbristal_dbd_fields(result))
+#define umbristal_dbd_names_size(result) ((size_t)16 + 8 * (size_t)umbristal_dbd_types(result) + 8 * (size_t)umbristal_dbd_fields(result))
 
 /* The helpers below are functions of the library, for every language. Those with a body here may be taken in by a C or C++ compiler instead: the body
  * says what the function does. They need no check before them: on any bytes they answer, and read nothing outside of what is lent. */

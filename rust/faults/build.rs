@@ -3,7 +3,6 @@
 //! or no longer the only one stops the build.
 
 use std::env;
-use std::fmt::Write;
 use std::fs;
 use std::path::Path;
 
@@ -12,11 +11,12 @@ mod changes;
 
 use changes::{Change, CHANGES};
 
-const MODULES: [&str; 10] = [
+const MODULES: [&str; 11] = [
     "lib",
     "arguments",
     "calls",
     "catalogue",
+    "dbd",
     "forest",
     "lent",
     "listing",
@@ -35,19 +35,25 @@ fn main() {
         .map(|module| read(&sources.join(format!("{module}.rs"))))
         .collect();
     let mut all = copy("faultless", &texts, None);
-    let mut stores = String::new();
+    let (mut stores, mut readers) = (Vec::new(), Vec::new());
     for (number, change) in CHANGES.iter().enumerate() {
         let module = format!("fault_{number}");
         all += &copy(&module, &texts, Some(change));
-        writeln!(stores, "{module}::STORE,").expect("a string takes all");
+        match change.module {
+            "dbd" => readers.push(format!("{module}::STATEMENTS")),
+            _ => stores.push(format!("{module}::STORE")),
+        }
     }
-    writeln!(
-        all,
+    all += &format!(
         "/// The faulty copies, in the order of the changes.\n\
-         pub const FAULTY: [face::Functions; {}] = [{stores}];",
-        CHANGES.len()
-    )
-    .expect("a string takes all");
+         pub const FAULTY: [face::Functions; {}] = [{}];\n\
+         /// Those of the reader and the writer of DBD statements.\n\
+         pub const FAULTY_STATEMENTS: [face::Statements; {}] = [{}];\n",
+        stores.len(),
+        stores.join(", "),
+        readers.len(),
+        readers.join(", "),
+    );
     let folder = env::var("OUT_DIR").expect("cargo names it");
     fs::write(Path::new(&folder).join("copies.rs"), all).expect("the folder is cargo's own");
 }
@@ -91,7 +97,8 @@ fn copy(module: &str, texts: &[String], change: Option<&Change>) -> String {
     let name = change.map_or("the faultless copy", |change| change.name);
     format!(
         "#[allow(warnings, clippy::all)]\nmod {module} {{\n{whole}\n\
-         pub const STORE: face::Functions = face::functions!({name:?}, lent);\n}}\n"
+         pub const STORE: face::Functions = face::functions!({name:?}, lent);\n\
+         pub const STATEMENTS: face::Statements = face::statements!({name:?}, lent);\n}}\n"
     )
 }
 

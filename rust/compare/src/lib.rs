@@ -7,6 +7,7 @@
 pub mod command;
 pub mod comparison;
 pub mod damage;
+pub mod dbd;
 pub mod dice;
 pub mod drawing;
 pub mod plan;
@@ -17,10 +18,13 @@ pub mod tally;
 pub use comparison::{Comparison, Difference};
 pub use tally::Tally;
 
-use face::Functions;
+use face::{Functions, Statements};
 
 /// The table of functions, filled with the judge.
 pub const JUDGE: Functions = face::functions!("judge", judge::lent);
+
+/// The reader and the writer of DBD statements, those of the judge.
+pub const JUDGED_STATEMENTS: Statements = face::statements!("judge", judge::lent);
 
 /// Compares until that many calls were compared, or to the first difference.
 pub fn run(

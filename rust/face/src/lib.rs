@@ -93,3 +93,28 @@ macro_rules! functions {
         }
     };
 }
+
+/// The reader and the writer of DBD statements, over any bytes.
+#[derive(Clone, Copy)]
+pub struct Statements {
+    /// Whose they are.
+    pub name: &'static str,
+    /// A text, and where catalogue and names go. In the low byte of the result the fault and in the high half its line; or 0,
+    /// and in the next two bytes how many types and fields there are.
+    pub dbd_read: fn(&[u8], &mut [u8], &mut [u8]) -> u64,
+    /// A catalogue and its names, and where the text goes. In the low byte of the result the status, in the high half the
+    /// text's length.
+    pub dbd_write: fn(&[u8], &[u8], &mut [u8]) -> u64,
+}
+
+/// The same table of a module that has both: `statements!("store", some::module)`.
+#[macro_export]
+macro_rules! statements {
+    ($name:expr, $($module:ident)::+) => {
+        $crate::Statements {
+            name: $name,
+            dbd_read: $($module)::+::dbd_read,
+            dbd_write: $($module)::+::dbd_write,
+        }
+    };
+}

@@ -629,4 +629,140 @@ pub const CHANGES: &[Change] = &[
         ".flat_map(|&cell| (cell as u16).to_be_bytes())",
         ".flat_map(|&cell| (cell as u16).to_le_bytes())",
     ),
+    // DBD statements: lines and words.
+    change(
+        "dbd",
+        "lines counted from 0",
+        "let mut line = 1;",
+        "let mut line = 0;",
+    ),
+    change(
+        "dbd",
+        "the end told as the last line",
+        "kind: STATEMENT, line, });",
+        "kind: STATEMENT, line: line - 1, });",
+    ),
+    change(
+        "dbd",
+        "a line behind the last LF, though it is empty",
+        "lines.pop();",
+        "",
+    ),
+    change("dbd", "a tab that is no blank", "' ', '\\t',", "' ', ' ',"),
+    change("dbd", "a CR that is no blank", "'\\t', '\\r'", "'\\t', '\\t'"),
+    change("dbd", "a semicolon that is a sign", "'=' | ','", "'=' | ';' | ','"),
+    change("dbd", "a name of nine bytes", "word.len() <= 8", "word.len() <= 9"),
+    change(
+        "dbd",
+        "a name that begins with a digit",
+        "first.is_ascii_alphabetic()",
+        "first.is_ascii_alphanumeric()",
+    ),
+    change(
+        "dbd",
+        "a great number refused as no number",
+        "digits.then(|| word.parse().unwrap_or(u64::MAX / 4))",
+        "if digits { word.parse().ok() } else { None }",
+    ),
+    // Their forms.
+    change("dbd", "a keyword in small letters", r#"["DBD","#, r#"["DBD" | "dbd","#),
+    change("dbd", "TYPE=P taken", r#""C" | "X""#, r#""C" | "X" | "P""#),
+    change("dbd", "PARENT=00 for the root", r#""0" => None"#, r#""0" | "00" => None"#),
+    change("dbd", "U and M exchanged", r#""U" => 1, "M" => 2"#, r#""U" => 2, "M" => 1"#),
+    // What a line may say, and the order of its faults.
+    change("dbd", "a second DBD", "if self.base.is_some()", "if false"),
+    change("dbd", "no DBD asked for", "self.base.is_none() ||", "false ||"),
+    change(
+        "dbd",
+        "a second root told as CX",
+        "|| (above.is_none() && !self.segments.is_empty())",
+        "",
+    ),
+    change(
+        "dbd",
+        "a second key",
+        "if kind.is_some() && segment.key.is_some()",
+        "if false",
+    ),
+    change(
+        "dbd",
+        "a second key told behind its name",
+        "if kind.is_some() && segment.key.is_some() { return Err(STATEMENT); }
+         let twice = |other: &Field| other.owner == owner && other.name == name;
+         if self.fields.iter().any(twice) { return Err(NAME); }",
+        "let twice = |other: &Field| other.owner == owner && other.name == name;
+         if self.fields.iter().any(twice) { return Err(NAME); }
+         if kind.is_some() && segment.key.is_some() { return Err(STATEMENT); }",
+    ),
+    change(
+        "dbd",
+        "the parent looked for before the name",
+        "if self.segments.iter().any(|other| other.name == name)",
+        "if above.iter().any(|named| self.segments.iter().all(|other| other.name != *named)) { return Err(PARENT); }
+         if self.segments.iter().any(|other| other.name == name)",
+    ),
+    change(
+        "dbd",
+        "segments named alike but for small letters",
+        "|other| other.name == name)",
+        "|other| other.name.eq_ignore_ascii_case(&name))",
+    ),
+    change(
+        "dbd",
+        "fields of two segments may not share a name",
+        "other.owner == owner && other.name == name",
+        "other.name == name",
+    ),
+    change("dbd", "an unknown parent told as CX", "place.ok_or(PARENT)?", "place.ok_or(RULE)?"),
+    change(
+        "dbd",
+        "the key of the first segment",
+        "self.segments.last_mut()",
+        "self.segments.first_mut()",
+    ),
+    change("dbd", "33 segments", "self.segments.len() == 32", "self.segments.len() == 33"),
+    change("dbd", "65 fields", "self.fields.len() == 64", "self.fields.len() == 65"),
+    change("dbd", "level 16", "level > 15", "level > 16"),
+    change("dbd", "121 bytes", "(1..=120)", "(1..=121)"),
+    change("dbd", "a field from byte 0", "start >= 1 &&", ""),
+    change(
+        "dbd",
+        "a field one byte too long",
+        "start + length - 1 <= segment.length",
+        "start + length - 2 <= segment.length",
+    ),
+    change("dbd", "any earlier segment as a parent", "|| !open ||", "||"),
+    // What the reader and the writer hand out.
+    change("dbd", "a key of other bytes", "(kind, start, length))", "(kind, start, 1))"),
+    change(
+        "dbd",
+        "the catalogue written though there is no room for the names",
+        "if cat.len() < pair.catalogue.len() || names.len()",
+        "if cat.len() < pair.catalogue.len() { return 28; }
+         cat[..pair.catalogue.len()].copy_from_slice(&pair.catalogue); if names.len()",
+    ),
+    change(
+        "dbd",
+        "something written before a fault",
+        "Err(fault) => return",
+        "Err(fault) if cat.first_mut().map(|byte| *byte = b'H').is_some() && false => return 0, Err(fault) => return",
+    ),
+    change(
+        "dbd",
+        "SEQ on a field of another length",
+        "if span == field[1..3]",
+        "if span[0] == field[1]",
+    ),
+    change("dbd", "TYPE=X written", "TYPE=C", "TYPE=X"),
+    change("dbd", "fields in any order", "if !ascend ||", "if"),
+    change("dbd", "a key that no field has", "if key.is_some() { return None; }", ""),
+    change(
+        "dbd",
+        "two fields of one name",
+        "if has_twice(entries.iter().map(|entry| entry[0]).zip(fields)) { return None; }",
+        "",
+    ),
+    change("dbd", "a list with a byte too many", "rest.len() != 8 *", "rest.len() < 8 *"),
+    change("dbd", "a name behind spaces", "trim_end_matches(' ')", "trim_matches(' ')"),
+    change("dbd", "a text of other length", "<< 32 }", "<< 33 }"),
 ];

@@ -7,3 +7,6 @@ include!(concat!(env!("OUT_DIR"), "/copies.rs"));
 
 /// A copy of the judge without a fault.
 pub const FAULTLESS: face::Functions = faultless::STORE;
+
+/// Its reader and writer of DBD statements.
+pub const FAULTLESS_STATEMENTS: face::Statements = faultless::STATEMENTS;

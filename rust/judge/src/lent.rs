@@ -3,6 +3,7 @@
 
 use super::reports::Way;
 
+pub use super::dbd::{dbd_read, dbd_write};
 pub use super::{catalogue_check, table_check};
 
 /// As `umbristal_table_make`.

@@ -8,6 +8,7 @@
 pub mod arguments;
 pub mod calls;
 pub mod catalogue;
+pub mod dbd;
 pub mod forest;
 pub mod lent;
 pub mod listing;

@@ -8,7 +8,7 @@ mod declare;
 pub mod cobol;
 pub mod parts;
 
-use face::Functions;
+use face::{Functions, Statements};
 
 declare! {
     /// 0, or CX.
@@ -49,7 +49,16 @@ declare! {
     pub fn report_plain = umbristal_report_plain(
         cat: &[u8], tab: &[u8], list1: &[u8], list2: &[u8], out: &mut [u8]
     ) -> u64;
+
+    /// A catalogue and its names from DBD statements; the result is packed as [`face::Statements::dbd_read`] says.
+    pub fn dbd_read = umbristal_dbd_read(text: &[u8], cat: &mut [u8], names: &mut [u8]) -> u64;
+
+    /// DBD statements from a catalogue and its names; the result is packed as [`face::Statements::dbd_write`] says.
+    pub fn dbd_write = umbristal_dbd_write(cat: &[u8], names: &[u8], text: &mut [u8]) -> u64;
 }
 
 /// The table, filled with the proved store.
 pub const STORE: Functions = face::functions!("store", crate);
+
+/// The reader and the writer of DBD statements, those of the proved store.
+pub const STATEMENTS: Statements = face::statements!("store", crate);

@@ -62,6 +62,7 @@
 mod argument;
 mod calls;
 mod catalogue;
+mod dbd;
 mod error;
 mod got;
 mod miss;
@@ -73,8 +74,10 @@ mod segment;
 mod segments;
 mod status;
 mod store;
+mod unknown;
 
 pub use argument::{Argument, Op};
+pub use dbd::{Catalogue, DbdError, DbdFault, PairError};
 pub use error::Error;
 pub use got::Got;
 pub use miss::Miss;
@@ -85,3 +88,4 @@ pub use segment::{Deleted, OwnedSegment, Segment};
 pub use segments::Segments;
 pub use status::Status;
 pub use store::Store;
+pub use unknown::UnknownName;

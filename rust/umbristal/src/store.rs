@@ -2,6 +2,7 @@
 
 use crate::argument::LONGEST_LIST;
 use crate::catalogue;
+use crate::dbd::Names;
 use crate::error::Error;
 use crate::numbers::{CellNumber, TypeCode};
 use crate::position::{Place, Position};
@@ -26,6 +27,8 @@ pub struct Store {
     pub(crate) list: Vec<u8>,
     /// What gets write to, and inserts and replaces read from.
     pub(crate) area: [u8; LONGEST],
+    /// Of a store that was opened or made by a `Catalogue`.
+    pub(crate) names: Option<Names>,
 }
 
 /// The parts of a call's result.
@@ -113,6 +116,7 @@ impl Store {
             position: Position::FRESH,
             list: Vec::with_capacity(LONGEST_LIST),
             area: [0; LONGEST],
+            names: None,
         }
     }
 
@@ -199,6 +203,7 @@ impl Clone for Store {
     fn clone(&self) -> Store {
         Store {
             position: self.position,
+            names: self.names.clone(),
             ..Store::of_sound(self.catalogue.clone(), self.table.clone())
         }
     }
