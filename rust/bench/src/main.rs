@@ -20,6 +20,7 @@ mod sample;
 mod shapes;
 #[cfg(sqlite)]
 mod sqlite;
+mod statements;
 mod targets;
 mod users;
 mod work;
@@ -39,10 +40,12 @@ fn main() -> ExitCode {
     let run = run();
     let depths = stack::depths();
     println!("{}", page::depths(&depths));
+    let statements = statements::figures();
+    println!("{statements}");
     let Some(folder) = std::env::args().nth(1) else {
         return ExitCode::SUCCESS;
     };
-    match written(Path::new(&folder), &run, &depths) {
+    match written(Path::new(&folder), &run, &depths, &statements) {
         Ok(()) => {
             println!("{folder}: BENCHMARK.md and benchmark.svg are written");
             ExitCode::SUCCESS
@@ -73,8 +76,11 @@ fn run() -> Run {
     run
 }
 
-fn written(folder: &Path, run: &Run, depths: &[Depth]) -> std::io::Result<()> {
+fn written(folder: &Path, run: &Run, depths: &[Depth], statements: &str) -> std::io::Result<()> {
     std::fs::create_dir_all(folder)?;
-    std::fs::write(folder.join("BENCHMARK.md"), page::page(run, depths))?;
+    std::fs::write(
+        folder.join("BENCHMARK.md"),
+        page::page(run, depths, statements),
+    )?;
     std::fs::write(folder.join("benchmark.svg"), chart::chart(run))
 }

@@ -16,7 +16,7 @@ use stack::Depth;
 const TEMPLATE: &str = include_str!("page.md");
 
 /// BENCHMARK.md.
-pub fn page(run: &Run, depths: &[Depth]) -> String {
+pub fn page(run: &Run, depths: &[Depth], statements: &str) -> String {
     let costs: Vec<String> = SIZES
         .iter()
         .map(|&size| {
@@ -33,6 +33,7 @@ pub fn page(run: &Run, depths: &[Depth]) -> String {
         .replace("{{worst}}", worst(&run.worst).trim_end())
         .replace("{{targets}}", targets(run).trim_end())
         .replace("{{without_target}}", without_target(run).trim_end())
+        .replace("{{statements}}", statements.trim_end())
         .replace("{{depths}}", self::depths(depths).trim_end())
 }
 

@@ -650,7 +650,6 @@ pub const CHANGES: &[Change] = &[
     ),
     change("dbd", "a tab that is no blank", "' ', '\\t',", "' ', ' ',"),
     change("dbd", "a CR that is no blank", "'\\t', '\\r'", "'\\t', '\\t'"),
-    change("dbd", "a semicolon that is a sign", "'=' | ','", "'=' | ';' | ','"),
     change("dbd", "a name of nine bytes", "word.len() <= 8", "word.len() <= 9"),
     change(
         "dbd",

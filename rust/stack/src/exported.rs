@@ -11,6 +11,7 @@ use crate::helpers::{
     self, umbristal_data_length, umbristal_letters, umbristal_list_test, umbristal_table_size,
 };
 use crate::painted::painted;
+use crate::statements::{self, umbristal_dbd_read, umbristal_dbd_write};
 use std::hint::black_box;
 
 pub type Check = unsafe extern "C" fn(*const u8, usize) -> u8;
@@ -68,13 +69,15 @@ pub enum Exported {
     /// It too is given only what is sound.
     CobolCallSound(by_reference::Call),
     CobolReport(by_reference::Report),
+    DbdRead(statements::DbdRead),
+    DbdWrite(statements::DbdWrite),
     TableSize(helpers::TableSize),
     DataLength(helpers::DataLength),
     ListTest(helpers::ListTest),
     Letters(helpers::Letters),
 }
 
-pub const ALL: [(&str, Exported); 19] = [
+pub const ALL: [(&str, Exported); 21] = [
     (
         "umbristal_catalogue_check",
         Exported::CatalogueCheck(umbristal_catalogue_check),
@@ -131,6 +134,11 @@ pub const ALL: [(&str, Exported); 19] = [
     (
         "umbristal_cobol_report_plain",
         Exported::CobolReport(umbristal_cobol_report_plain),
+    ),
+    ("umbristal_dbd_read", Exported::DbdRead(umbristal_dbd_read)),
+    (
+        "umbristal_dbd_write",
+        Exported::DbdWrite(umbristal_dbd_write),
     ),
     (
         "umbristal_table_size",

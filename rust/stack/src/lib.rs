@@ -6,6 +6,7 @@ mod by_reference;
 mod exported;
 mod helpers;
 mod painted;
+mod statements;
 
 use asked::{areas, lists, pairs, positions, Asked, Pair};
 use blocks::{Blocks, TABLES};
@@ -89,6 +90,16 @@ fn measure(function: Exported, blocks: &Blocks, deepest: &mut Deepest) {
                 blocks,
                 deepest,
             );
+        }
+        Exported::DbdRead(f) => {
+            for text in statements::texts(blocks) {
+                [784, 0].map(|room| deepest.note(statements::read(f, &text, room)));
+            }
+        }
+        Exported::DbdWrite(f) => {
+            for (short, room) in [(0, 4651), (1, 4651), (0, 0)] {
+                deepest.note(statements::write(f, blocks, short, room));
+            }
         }
         helper => measure_helper(helper, blocks, deepest),
     }

@@ -45,6 +45,8 @@ fn ends(depth: &Depth) -> BTreeSet<u8> {
         "umbristal_call_sound" | "umbristal_cobol_call_sound" => {
             all.filter(|number| !(CX..=PX).contains(number)).collect()
         }
+        "umbristal_dbd_read" => BTreeSet::from([BLANK, 1, 2, 3, CX, AB]),
+        "umbristal_dbd_write" => BTreeSet::from([BLANK, CX, AB]),
         "umbristal_table_size"
         | "umbristal_data_length"
         | "umbristal_list_test"

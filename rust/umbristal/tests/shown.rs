@@ -1,6 +1,6 @@
 //! What the READMEs show of the crate, run on the bench table; `tools/manual` cuts it out.
 
-use umbristal::{Argument, Error, FieldNumber, Op, Status, Store, TypeCode};
+use umbristal::{Argument, Catalogue, Error, FieldNumber, Op, Status, Store, TypeCode};
 
 const UNIT: TypeCode = TypeCode(1);
 const STEP: TypeCode = TypeCode(2);
@@ -45,5 +45,34 @@ fn replaced(store: &mut Store) -> Result<(), Box<dyn std::error::Error>> {
     }
     // [end]
     assert_eq!(store.get_unique(&step).found()?.data, b"14P");
+    Ok(())
+}
+
+#[test]
+fn the_manual_shows_this() -> Result<(), Box<dyn std::error::Error>> {
+    let folder = std::path::Path::new(env!("CARGO_MANIFEST_DIR")).join("../..");
+    let statements = folder.join("examples/bench.dbd");
+    let table = folder.join("crates/lister/data/TAB.HDT");
+    // [names]
+    let catalogue = Catalogue::from_dbd(&std::fs::read(statements)?)?; // an error says: line N, and what is wrong
+    let mut store = catalogue.open(std::fs::read(table)?)?;
+    let step = [
+        store.argument("UNIT", "UNO", Op::Eq, b"07")?,
+        store.argument("STEP", "SNO", Op::Eq, b"14")?,
+    ];
+    assert_eq!(store.get_unique(&step).found()?.data, b"14T");
+    let unknown = store.argument("STEP", "VERDIKT", Op::Eq, b"P").unwrap_err();
+    assert_eq!(
+        unknown.to_string(),
+        "AK: segment STEP has no field VERDIKT; there is SNO, VERDICT"
+    );
+    // [end]
+    let tries = [store.all("TRY")?];
+    assert_eq!(store.segments(&tries)?.count(), 3);
+    assert_eq!(store.segment_name(TypeCode(4)), Some("NOTE"));
+    assert_eq!(
+        store.all("STOP").unwrap_err().to_string(),
+        "AC: no segment STOP; there is UNIT, STEP, TRY, NOTE"
+    );
     Ok(())
 }

@@ -45,7 +45,9 @@ pub fn damage(dice: &mut Dice, pair: &mut Pair) {
         0 => scratch(dice, &mut pair.catalogue),
         1 | 2 => scratch(dice, &mut pair.names),
         3 => repeat(dice, &mut pair.names),
-        4 => pair.names.push(b' '),
+        4 => pair
+            .names
+            .extend(&b"EXTRA   "[..dice.pick(&[1, 8]).to_owned()]),
         5 => drop(pair.names.pop()),
         6 => swap_fields(dice, pair),
         _ => spread_key(dice, &mut pair.catalogue),

@@ -109,7 +109,7 @@ fn digits(dice: &mut Dice, number: u8) -> String {
 /// One thing wrong, or at least other.
 fn damage(dice: &mut Dice, lines: &mut Vec<Line>) {
     let at = dice.below(lines.len());
-    match dice.below(16) {
+    match dice.below(17) {
         0 => drop(lines.remove(at)),
         1 => lines.insert(at, lines[at].clone()),
         2 => {
@@ -137,6 +137,7 @@ fn damage(dice: &mut Dice, lines: &mut Vec<Line>) {
         10 => change_parent(dice, lines, at),
         11 | 12 => change_word(dice, &mut lines[at]),
         13 => give_key(&mut lines[at]),
+        14 => change_last(dice, &mut lines[at]),
         _ => change_sign(dice, &mut lines[at]),
     }
     if lines.is_empty() {
@@ -261,6 +262,13 @@ fn give_key(line: &mut Line) {
     if line[0] == "FIELD" && line.get(3).is_some_and(|word| word != "(") {
         let own = line[3].clone();
         line.splice(3..4, words(&format!("( {own} , SEQ , U )")));
+    }
+}
+
+/// Another letter for the type, where the line has one.
+fn change_last(dice: &mut Dice, line: &mut Line) {
+    if let Some(last) = line.last_mut() {
+        *last = dice.pick(&["P", "c", "CX", "X", "0", "1"]).to_string();
     }
 }
 
