@@ -113,6 +113,22 @@ unfoldable pub manyFields : ℕ → ℕ → Bytes
 manyFields i zero = []
 manyFields i (suc k) = bytesOf "FIELD NAME=F" ++ decimal i ++ bytesOf ",BYTES=1,START=1,TYPE=C\n" ++ manyFields (suc i) k
 
+-- k lines of SEGM from number i on, each beneath the one before it
+unfoldable pub deepSegments : ℕ → ℕ → Bytes
+deepSegments i zero = []
+deepSegments i (suc k) =
+    bytesOf "SEGM NAME=S" ++ decimal (suc i) ++ bytesOf ",PARENT=S" ++ decimal i ++ bytesOf ",BYTES=1\n" ++ deepSegments (suc i) k
+
+-- two types of 12 bytes, and a field of each, that of the second type first
+unfoldable pub descending : Bytes
+descending =
+    0x48 ∷ 0x44 ∷ 0x43 ∷ 0 ∷ 1 ∷ 2 ∷ 2 ∷ 0 ∷ 0 ∷ 12 ∷ 0 ∷ 0 ∷ 0 ∷ 0 ∷ 0 ∷ 0 ∷ 1 ∷ 12 ∷ 0 ∷ 0 ∷ 0 ∷ 0 ∷ 0 ∷ 0
+    ∷ 2 ∷ 1 ∷ 1 ∷ 0 ∷ 1 ∷ 1 ∷ 1 ∷ 0 ∷ []
+
+-- a text whose first line is this one
+unfoldable pub only : String → Bytes
+only s = bytesOf s
+
 unfoldable pub cases : List Case
 cases =
     -- the example
@@ -174,4 +190,105 @@ cases =
     ∷ lentRead (after "X") [] [] (1 + 3 * 4294967296) [] []
     ∷ lentWrite (oneType 0 0 0 0 []) (named 1 0 "P       Q       ") (replicate 42 0x2E) (41 * 4294967296) (after "" ++ (0x2E ∷ []))
     ∷ lentWrite (oneType 0 0 0 0 []) (named 1 0 "P       Q       ") (replicate 40 0x2E) 28 (replicate 40 0x2E)
+    ∷ []
+
+-- R73: a fault in a last line without LF; lines of blanks count; a statement does not go on behind a comma; no labels
+unfoldable pub lineCases : List Case
+lineCases =
+    refuses (after "END") 1 3
+    ∷ refuses (bytesOf "\n \t\nDBD NAME=P\n\nDBD NAME=P\n") 1 5
+    ∷ refuses (after "SEGM NAME=R,\nPARENT=Q,BYTES=1\n") 1 3
+    ∷ refuses (only "A DBD NAME=P\n") 1 1
+    ∷ []
+
+-- R74: a vertical tab is no blank; two words are parted; a word is not; quotes and high bytes
+unfoldable pub wordCases : List Case
+wordCases =
+    refuses (bytesOf "DBD" ++ (0x0B ∷ bytesOf "NAME=P\n")) 1 1
+    ∷ refuses (only "DBDNAME=P\n") 1 1
+    ∷ refuses (only "DBD NA ME=P\n") 1 1
+    ∷ refuses (only "DBD NAME='P'\n") 1 1
+    ∷ refuses (bytesOf "DBD NAME=P" ++ (0x80 ∷ 0x0A ∷ [])) 1 1
+    ∷ refuses (only "DBD NAME=P;\n") 1 1
+    ∷ reads (bytesOf "DBD NAME=P\nSEGM\tNAME\t=\tQ\t,PARENT=0\t, BYTES=12 ") (oneType 0 0 0 0 []) (named 1 0 "P       Q       ")
+    ∷ []
+
+-- R75: names of 1 and 8 bytes; an underscore; keywords in capitals, which may be names; numbers
+unfoldable pub nameCases : List Case
+nameCases =
+    reads (bytesOf "DBD NAME=ABCDEFG8\nSEGM NAME=z,PARENT=0,BYTES=12\n") (oneType 0 0 0 0 []) (named 1 0 "ABCDEFG8z       ")
+    ∷ refuses (only "DBD NAME=A_B\n") 1 1
+    ∷ refuses (only "dbd NAME=P\n") 1 1
+    ∷ refuses (only "DBD Name=P\n") 1 1
+    ∷ reads (bytesOf "DBD NAME=DBD\nSEGM NAME=PARENT,PARENT=0,BYTES=12\n") (oneType 0 0 0 0 []) (named 1 0 "DBD     PARENT  ")
+    ∷ refuses (bytesOf "DBD NAME=P\nSEGM NAME=Q,PARENT=0,BYTES=1A\n") 1 2
+    ∷ refuses (bytesOf "DBD NAME=P\nSEGM NAME=Q,PARENT=0,BYTES=\n") 1 2
+    ∷ refuses (bytesOf "DBD NAME=P\nSEGM NAME=Q,PARENT=0,BYTES=" ++ replicate 300 0x39) 20 2
+    ∷ []
+
+-- R76: no operand twice or left out; 00 is no parent; a name in brackets; other operands
+unfoldable pub formCases : List Case
+formCases =
+    refuses (bytesOf "DBD NAME=P\nSEGM NAME=Q,PARENT=00,BYTES=1\n") 1 2
+    ∷ refuses (bytesOf "DBD NAME=P\nSEGM NAME=Q,BYTES=1\n") 1 2
+    ∷ refuses (bytesOf "DBD NAME=P\nSEGM NAME=Q,PARENT=0,BYTES=1,BYTES=1\n") 1 2
+    ∷ refuses (only "DBD NAME=P,ACCESS=HDAM\n") 1 1
+    ∷ refuses (after "FIELD NAME=(G),BYTES=1,START=1,TYPE=C\n") 1 3
+    ∷ refuses (after "FIELD NAME=(G,SEQ,X),BYTES=1,START=1,TYPE=C\n") 1 3
+    ∷ refuses (after "FIELD NAME=G,START=1,BYTES=1,TYPE=C\n") 1 3
+    ∷ refuses (after "FIELD NAME=G,BYTES=1,START=1\n") 1 3
+    ∷ []
+
+-- R77: SEGM before DBD, FIELD before SEGM; a key of kind 2 in the second of three fields
+unfoldable pub placeCases : List Case
+placeCases =
+    refuses (only "SEGM NAME=Q,PARENT=0,BYTES=1\n") 1 1
+    ∷ refuses (only "DBD NAME=P\nFIELD NAME=G,BYTES=1,START=1,TYPE=C\n") 1 2
+    ∷ reads (after "FIELD NAME=G,BYTES=1,START=1,TYPE=C\nFIELD NAME=(H,SEQ,M),BYTES=3,START=10,TYPE=C\nFIELD NAME=I,BYTES=12,START=1,TYPE=C\n")
+    (oneType 3 2 10 3 (1 ∷ 1 ∷ 1 ∷ 0 ∷ 1 ∷ 10 ∷ 3 ∷ 0 ∷ 1 ∷ 1 ∷ 12 ∷ 0 ∷ [])) (named 1 3 "P       Q       G       H       I       ")
+    ∷ []
+
+-- R78: the first line, not the smallest fault of all; of one line the smallest; a name before the parent, the parent before the rules
+unfoldable pub orderCases : List Case
+orderCases =
+    refuses (after "SEGM NAME=R,PARENT=Q,BYTES=0\nDBD NAME=P\n") 20 3
+    ∷ refuses (after "SEGM NAME=Q,PARENT=Z,BYTES=0\n") 2 3
+    ∷ refuses (after "SEGM NAME=R,PARENT=Z,BYTES=0\n") 3 3
+    ∷ refuses (bytesOf "DBD NAME=P\nSEGM NAME=Q,PARENT=Q,BYTES=1\n") 3 2
+    ∷ refuses (after "" ++ manySegments 2 31 ++ bytesOf "SEGM NAME=Q,PARENT=Q,BYTES=1\n") 2 34
+    ∷ []
+
+-- R78: lengths of 0, 120 and 121; levels 15 and 16; spans that end with the segment and behind it
+unfoldable pub ruleCases : List Case
+ruleCases =
+    refuses (bytesOf "DBD NAME=P\nSEGM NAME=Q,PARENT=0,BYTES=0\n") 20 2
+    ∷ refuses (bytesOf "DBD NAME=P\nSEGM NAME=Q,PARENT=0,BYTES=121\n") 20 2
+    ∷ reads (bytesOf "DBD NAME=P\nSEGM NAME=Q,PARENT=0,BYTES=120\n")
+    (0x48 ∷ 0x44 ∷ 0x43 ∷ 0 ∷ 1 ∷ 1 ∷ 0 ∷ 0 ∷ 0 ∷ 120 ∷ 0 ∷ 0 ∷ 0 ∷ 0 ∷ 0 ∷ 0 ∷ []) (named 1 0 "P       Q       ")
+    ∷ refuses (bytesOf "DBD NAME=P\nSEGM NAME=S1,PARENT=0,BYTES=1\n" ++ deepSegments 1 15) 20 17
+    ∷ refuses (after "FIELD NAME=G,BYTES=1,START=0,TYPE=C\n") 20 3
+    ∷ refuses (after "FIELD NAME=G,BYTES=0,START=1,TYPE=C\n") 20 3
+    ∷ refuses (after "FIELD NAME=G,BYTES=12,START=1,TYPE=C\nFIELD NAME=H,BYTES=12,START=2,TYPE=C\n") 20 4
+    ∷ []
+
+-- R82: a value type, a field of an earlier type behind one of a later, a key of another start, names that are none, and other headers
+unfoldable pub pairCases : List Case
+pairCases =
+    unwritten (oneType 1 0 0 0 (1 ∷ 2 ∷ 3 ∷ 1 ∷ [])) (named 1 1 "P       Q       G       ")
+    ∷ unwritten (oneType 1 2 3 3 (1 ∷ 2 ∷ 3 ∷ 0 ∷ [])) (named 1 1 "P       Q       G       ")
+    ∷ unwritten descending (named 2 2 "P       Q       R       G       H       ")
+    ∷ unwritten (oneType 0 0 0 0 []) (named 1 0 "P       7       ")
+    ∷ unwritten (oneType 0 0 0 0 []) (named 1 0 "        Q       ")
+    ∷ unwritten (oneType 0 0 0 0 []) (0x48 ∷ 0x44 ∷ 0x43 ∷ 0 ∷ 1 ∷ 1 ∷ 0 ∷ 0 ∷ bytesOf "P       Q       ")
+    ∷ unwritten (oneType 0 0 0 0 []) (0x48 ∷ 0x44 ∷ 0x4E ∷ 0 ∷ 2 ∷ 1 ∷ 0 ∷ 0 ∷ bytesOf "P       Q       ")
+    ∷ unwritten (oneType 0 0 0 0 []) (0x48 ∷ 0x44 ∷ 0x4E ∷ 0 ∷ 1 ∷ 1 ∷ 0 ∷ 1 ∷ bytesOf "P       Q       ")
+    ∷ []
+
+-- R80, R83: a catalogue that has room, names that have not; a pair that is refused, though there is room
+unfoldable pub lentCases : List Case
+lentCases =
+    lentRead (after "") (replicate 16 0xFF) (replicate 24 0xFF) 256 (oneType 0 0 0 0 []) (named 1 0 "P       Q       ")
+    ∷ lentRead (after "") (replicate 15 0xFF) (replicate 24 0xFF) 28 (replicate 15 0xFF) (replicate 24 0xFF)
+    ∷ lentWrite (oneType 0 0 0 0 []) (named 1 0 "P       q Q     ") (replicate 42 0x2E) 20 (replicate 42 0x2E)
+    ∷ lentWrite (oneType 0 0 0 0 []) (named 1 0 "P       Q       ") (replicate 41 0x2E) (41 * 4294967296) (after "")
     ∷ []

@@ -93,7 +93,9 @@ fn measure(function: Exported, blocks: &Blocks, deepest: &mut Deepest) {
         }
         Exported::DbdRead(f) => {
             for text in statements::texts(blocks) {
-                [784, 0].map(|room| deepest.note(statements::read(f, &text, room)));
+                for room in [784, 0] {
+                    deepest.note(statements::read(f, &text, room));
+                }
             }
         }
         Exported::DbdWrite(f) => {
