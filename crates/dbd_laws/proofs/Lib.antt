@@ -1,1 +1,2 @@
 pub mod AgainRows
+pub mod AgainGood
