@@ -1,2 +1,4 @@
 pub mod AgainRows
 pub mod AgainGood
+pub mod AgainBlock
+pub mod AgainFacts
