@@ -2,3 +2,4 @@ pub mod AgainRows
 pub mod AgainGood
 pub mod AgainBlock
 pub mod AgainFacts
+pub mod AgainTaken
