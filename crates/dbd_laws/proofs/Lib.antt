@@ -3,3 +3,4 @@ pub mod AgainGood
 pub mod AgainBlock
 pub mod AgainFacts
 pub mod AgainTaken
+pub mod AgainSegment
