@@ -4,3 +4,4 @@ pub mod AgainBlock
 pub mod AgainFacts
 pub mod AgainTaken
 pub mod AgainSegment
+pub mod AgainField

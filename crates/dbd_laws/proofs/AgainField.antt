@@ -1,0 +1,151 @@
+-- FIELD as the writer has it (R77, R78, R81): its name is new in its type, SEQ comes once, at the first field with the key's bytes. Assumes nothing.
+use mathlib.Core.Path.{_≡_, refl, ap, sym, _∙_}
+use mathlib.Core.Bool.{Bool, true, false, _&&_}
+use mathlib.Core.List.{List, [], _∷_, _++_}
+use Prim.Native.Nat.{ℕ, zero, suc, _+_, _-_, _*_, _<_, _≤_}
+use native.Mathlib.Omega.{arith}
+use lib.Dec.{ltb, leb, eqb}
+use borrow.Author.Tests.{eqb-true, eqb-false, le-leb, lt-leb, le-ltb, eq-eqb, ne-eqb}
+use lib.ListN.{length, take}
+use Rattle.terms.specs.Choice.{pick}
+use Rattle.terms.specs.Names.{code, field as fieldOf}
+use Rattle.forest.specs.Good.{on, off, is}
+use Rattle.forest.specs.Forest.{inside, outside, side}
+use Rattle.forest.specs.Numbers.{range}
+use Rattle.rules.specs.Block.{Bytes, byte, part}
+use Rattle.rules.specs.Catalogue.{types, fields, typeByte, lengthOf, keyKind, keyStart, keyLength, fieldByte, fieldType, fieldStart, fieldLength, goodField}
+use Rattle.rules.proofs.Joined.{two}
+use Rattle.rules.proofs.Entries.{header-facts, type-facts, field-facts}
+use Rattle.statements.specs.Words.{filled, trimmed}
+use Rattle.statements.specs.Draft.{Draft, catalogueOf, rows, has, ownNames, withKey, withField, goes, ruledField, isKeyed, taken}
+use Rattle.statements.specs.Dbd.{nameAt, goodName, distinct, firstOf, those, fieldName, ownFields, isKeyOf, keyField, fieldStatement}
+use Rattle.statements.proofs.Written.{Good}
+use Rattle.statements.proofs.Named.{name-trimmed, filled-trimmed}
+use Rattle.dbd_laws.proofs.AgainRows.{length-rows, rows-last, rows-split, own-differs}
+use Rattle.dbd_laws.proofs.AgainGood.{field-again}
+use Rattle.dbd_laws.proofs.AgainBlock.{part-four, part-byte, within, within-types, block-types, block-entry, block-field}
+use Rattle.dbd_laws.proofs.AgainFacts.{Facts}
+use Rattle.dbd_laws.proofs.AgainTaken.{taken-field, ruled-field, and-left, and-right, opened, keyed, entryAt, entry-long, entry-length, types-size}
+
+-- numbers that pass a test
+pub those-on : (p : ℕ → Bool) (i : ℕ) (is : List ℕ) → p i ≡ true → those p (i ∷ is) ≡ i ∷ those p is
+unfolding those
+those-on p i is h = rw (those, h)
+
+pub those-off : (p : ℕ → Bool) (i : ℕ) (is : List ℕ) → p i ≡ false → those p (i ∷ is) ≡ those p is
+unfolding those
+those-off p i is h = rw (those, h)
+
+first-on : (q : ℕ → Bool) (i : ℕ) (is : List ℕ) → q i ≡ true → firstOf q (i ∷ is) ≡ i
+unfolding firstOf
+first-on q i is h = rw (firstOf, h)
+
+first-off : (q : ℕ → Bool) (i : ℕ) (is : List ℕ) → q i ≡ false → firstOf q (i ∷ is) ≡ firstOf q is
+unfolding firstOf
+first-off q i is h = rw (firstOf, h)
+
+-- the first one, where there is one, passes both tests
+first-those : (p q : ℕ → Bool) (i r x : ℕ) → firstOf q (those p (range i r)) ≡ x → 0 < x → (p x ≡ true) × (q x ≡ true) × (i ≤ x) × (x < i + r)
+unfolding firstOf those
+first-those p q i zero x e l = absurd (omega arith)
+first-those p q i (suc r) x e l = elim (is (p i)) [
+  | on h ↦ elim (is (q i)) [
+    | on g ↦
+        let z : i ≡ x = sym (ap (firstOf q) (those-on p i (range (suc i) r) h) ∙ first-on q i (those p (range (suc i) r)) g) ∙ e in
+        (rw z at h, rw z at g, omega arith, omega arith)
+    | off g ↦
+        let w = first-those p q (suc i) r x (sym (ap (firstOf q) (those-on p i (range (suc i) r) h) ∙ first-off q i (those p (range (suc i) r)) g) ∙ e) l in
+        (w .0, w .1, omega (arith, w .2), omega (arith, w .3))
+  ]
+  | off h ↦
+      let w = first-those p q (suc i) r x (sym (ap (firstOf q) (those-off p i (range (suc i) r) h)) ∙ e) l in
+      (w .0, w .1, omega (arith, w .2), omega (arith, w .3))
+]
+
+-- the key goes to the last entry
+key-last : (kind start long : ℕ) (es : List Bytes) (e : Bytes)
+    → withKey kind start long (es ++ (e ∷ [])) ≡ es ++ ((take 2 e ++ (kind ∷ start ∷ long ∷ 0 ∷ 0 ∷ 0 ∷ [])) ∷ [])
+unfolding withKey
+key-last kind start long [] e = refl
+key-last kind start long (x ∷ []) e = refl
+key-last kind start long (x ∷ y ∷ es) e = ap (_∷_ x) (key-last kind start long (y ∷ es) e)
+
+-- a FIELD without SEQ, and one with it
+with-none : (d : Draft) (w : Bytes) (kind l s : ℕ) → kind ≡ 0 → withField d w kind l s ≡ record {
+  base = d .base;
+  types = d .types;
+  fields = d .fields ++ ((length (d .types) ∷ s ∷ l ∷ 0 ∷ []) ∷ []);
+  segmentNames = d .segmentNames;
+  fieldNames = d .fieldNames ++ (w ∷ []);
+}
+unfolding withField
+with-none d w kind l s h = rw (withField, h)
+
+with-seq : (d : Draft) (w : Bytes) (kind l s : ℕ) → eqb kind 0 ≡ false → withField d w kind l s ≡ record {
+  base = d .base;
+  types = withKey kind s l (d .types);
+  fields = d .fields ++ ((length (d .types) ∷ s ∷ l ∷ 0 ∷ []) ∷ []);
+  segmentNames = d .segmentNames;
+  fieldNames = d .fieldNames ++ (w ∷ []);
+}
+unfolding withField
+with-seq d w kind l s h = rw (withField, h)
+
+module _ (c n : Bytes) where
+  abbrev pub typeOf : ℕ → ℕ
+  typeOf f = fieldType c (fieldOf f) .0
+
+  -- the kind that the FIELD of field m + 1 shows in type k + 1
+  abbrev kindAt : ℕ → ℕ → ℕ
+  kindAt k m = pick (eqb (suc m) (keyField c (suc k))) (keyKind c (code (suc k))) 0
+
+  pub key-own : (k : ℕ) → 0 < keyField c k → (typeOf (keyField c k) ≡ k) × (isKeyOf c k (keyField c k) ≡ true) × (1 ≤ keyField c k) × (keyField c k ≤ fields c)
+  unfolding keyField ownFields
+  key-own k l =
+      let w = first-those (λ f. eqb (fieldType c (fieldOf f) .0) k) (isKeyOf c k) 1 (fields c) (keyField c k) refl l in
+      (eqb-true (fieldType c (fieldOf (keyField c k)) .0) k (w .0), w .1, w .2, omega (arith, w .3))
+
+  key-bytes : (k f : ℕ) → isKeyOf c k f ≡ true → (fieldStart c (fieldOf f) ≡ keyStart c (code k)) × (fieldLength c (fieldOf f) ≡ keyLength c (code k))
+  unfolding isKeyOf
+  key-bytes k f e =
+      let p = two _ _ e in
+      (eqb-true (fieldStart c (fieldOf f)) (keyStart c (code k)) (p .0), eqb-true (fieldLength c (fieldOf f)) (keyLength c (code k)) (p .1))
+
+  entry-opened : (k m : ℕ) → m < keyField c (suc k) → entryAt c n k m ≡ opened c n k
+  entry-opened k m l = rw (lt-leb (keyField c (suc k)) m l)
+
+  entry-keyed : (k m : ℕ) → keyField c (suc k) ≤ m → entryAt c n k m ≡ keyed c n k
+  entry-keyed k m l = rw (le-leb (keyField c (suc k)) m l)
+
+  module _ (facts : Facts c n) where
+    -- a type without key is the same before and behind
+    keyed-opened : (k : ℕ) → k < types c → keyKind c (code (suc k)) ≡ 0 → keyed c n k ≡ opened c n k
+    keyed-opened k l z =
+        let p = type-facts c (facts .good) (code (suc k)) (omega arith) (omega arith) .no-key z in
+        rw (z, p .0, p .1)
+
+    pub entry-begins : (k m : ℕ) → k < types c → ((f : ℕ) → 1 ≤ f → f ≤ m → typeOf f ≤ k) → entryAt c n k m ≡ opened c n k
+    entry-begins k m l h = elim (side m (keyField c (suc k))) [
+      | inside a ↦ entry-opened k m a
+      | outside a ↦ entry-keyed k m a ∙ elim (is (eqb (keyKind c (code (suc k))) 0)) [
+        | on z ↦ keyed-opened k l (eqb-true (keyKind c (code (suc k))) 0 z)
+        | off z ↦ absurd (
+            let b : 0 < keyField c (suc k) = facts .listed (suc k) (omega arith) (omega arith) (eqb-false (keyKind c (code (suc k))) 0 z) in
+            let o = key-own (suc k) b in
+            let q : typeOf (keyField c (suc k)) ≤ k = h (keyField c (suc k)) (omega arith) a in
+            omega (arith, o .0))
+      ]
+    ]
+
+    pub entry-ends : (k m : ℕ) → k < types c → ((f : ℕ) → m < f → f ≤ fields c → suc k < typeOf f) → entryAt c n k m ≡ keyed c n k
+    entry-ends k m l h = elim (side m (keyField c (suc k))) [
+      | inside a ↦ entry-opened k m a ∙ elim (is (eqb (keyKind c (code (suc k))) 0)) [
+        | on z ↦ sym (keyed-opened k l (eqb-true (keyKind c (code (suc k))) 0 z))
+        | off z ↦ absurd (
+            let b : 0 < keyField c (suc k) = facts .listed (suc k) (omega arith) (omega arith) (eqb-false (keyKind c (code (suc k))) 0 z) in
+            let o = key-own (suc k) b in
+            let q : suc k < typeOf (keyField c (suc k)) = h (keyField c (suc k)) a (o .3) in
+            omega (arith, o .0))
+      ]
+      | outside a ↦ entry-keyed k m a
+    ]
