@@ -149,3 +149,97 @@ module _ (c n : Bytes) where
       ]
       | outside a ↦ entry-keyed k m a
     ]
+
+    -- what the FIELD of field m + 1 does to the entry of type k + 1: nothing, or the key
+    data Shown (k m : ℕ) : Type 0 where
+      none : kindAt k m ≡ 0 → entryAt c n k (suc m) ≡ entryAt c n k m → Shown k m
+      seq : suc m ≡ keyField c (suc k) → kindAt k m ≡ keyKind c (code (suc k)) → eqb (kindAt k m) 0 ≡ false → entryAt c n k m ≡ opened c n k
+          → entryAt c n k (suc m) ≡ keyed c n k → Shown k m
+
+    shown : (k m : ℕ) → k < types c → Shown k m
+    shown k m l = elim (is (eqb (suc m) (keyField c (suc k)))) [
+      | on h ↦
+          let z : suc m ≡ keyField c (suc k) = eqb-true (suc m) (keyField c (suc k)) h in
+          let a : kindAt k m ≡ keyKind c (code (suc k)) = rw h in
+          let b : entryAt c n k m ≡ opened c n k = entry-opened k m (omega arith) in
+          let d : entryAt c n k (suc m) ≡ keyed c n k = entry-keyed k (suc m) (omega arith) in
+          elim (is (eqb (keyKind c (code (suc k))) 0)) [
+            | on q ↦ (let y : keyKind c (code (suc k)) ≡ 0 = eqb-true (keyKind c (code (suc k))) 0 q in none (a ∙ y) (d ∙ keyed-opened k l y ∙ sym b))
+            | off q ↦ seq z a (ap (λ (x : ℕ). eqb x 0) a ∙ q) b d
+          ]
+      | off h ↦ none (rw h) (elim (side m (keyField c (suc k))) [
+        | inside a ↦ (let z : suc m ≡ keyField c (suc k) → ⊥ = eqb-false (suc m) (keyField c (suc k)) h in
+            entry-opened k (suc m) (omega arith) ∙ sym (entry-opened k m a))
+        | outside a ↦ entry-keyed k (suc m) (omega arith) ∙ sym (entry-keyed k m a)
+      ])
+    ]
+
+    name-at : (m : ℕ) → part n (16 + 8 * types c + 8 * m) 8 ≡ fieldName c n (suc m)
+    unfolding fieldName nameAt
+    name-at m = let z : 16 + 8 * types c + 8 * m ≡ 8 + 8 * (types c + suc m) = omega arith in ap (λ (x : ℕ). part n x 8) z
+
+    name-good : (m : ℕ) → m < fields c → goodName (fieldName c n (suc m)) ≡ true
+    unfolding fieldName
+    name-good m l = facts .name (types c + suc m) (omega arith)
+
+    fields-size : (m : ℕ) → m < fields c → 8 + 8 * types c + 4 * m + 4 ≤ length c
+    fields-size m l = let h = header-facts c (facts .good) in omega arith
+
+    field-at : (m j : ℕ) → byte c (8 + 8 * types c + 4 * m + j) ≡ fieldByte c (fieldOf (suc m)) j
+    unfolding fieldByte
+    field-at m j = let z : 8 + 8 * types c + 4 * m + j ≡ 4 + 8 * types c + 4 * suc m + j = omega arith in ap (byte c) z
+
+    field-entry : (k m : ℕ) → m < fields c → typeOf (suc m) ≡ suc k
+        → part c (8 + 8 * types c + 4 * m) 4 ≡ suc k ∷ fieldStart c (fieldOf (suc m)) ∷ fieldLength c (fieldOf (suc m)) ∷ 0 ∷ []
+    unfolding fieldType fieldStart fieldLength
+    field-entry k m l t =
+        part-four c (8 + 8 * types c + 4 * m) (fields-size m l)
+        ∙ rw (field-at m 0, field-at m 1, field-at m 2, field-at m 3, t, facts .field-zero (suc m) (omega arith) (omega arith))
+
+    field-new : (k m : ℕ) → k < types c → m < fields c → typeOf (suc m) ≡ suc k
+        → has (fieldName c n (suc m)) (ownNames (suc k) (rows 4 c (8 + 8 * types c) m) (rows 8 n (16 + 8 * types c) m)) ≡ false
+    unfolding fieldType
+    field-new k m a b t =
+        let i : ℕ = 8 + 8 * types c in
+        let j : ℕ = 16 + 8 * types c in
+        let r : ℕ = fields c - suc m in
+        let z : fields c ≡ m + suc (fields c - suc m) = omega arith in
+        let p : rows 4 c (8 + 8 * types c) (fields c) ≡ rows 4 c i m ++ (part c (i + 4 * m) 4 ∷ rows 4 c (i + 4 * m + 4) r) = ap (rows 4 c i) z ∙ rows-split 4 c i m r in
+        let q : rows 8 n (16 + 8 * types c) (fields c) ≡ rows 8 n j m ++ (part n (j + 8 * m) 8 ∷ rows 8 n (j + 8 * m + 8) r) = ap (rows 8 n j) z ∙ rows-split 8 n j m r in
+        let f : byte (part c (i + 4 * m) 4) 0 ≡ suc k = part-byte c (i + 4 * m) 4 0 (omega arith) ∙ field-at m 0 ∙ t in
+        rw (← name-at m)
+        (own-differs (suc k) (rows 4 c i m) (part c (i + 4 * m) 4) (rows 4 c (i + 4 * m + 4) r) (rows 8 n j m) (part n (j + 8 * m) 8) (rows 8 n (j + 8 * m + 8) r)
+        (length-rows 4 c i m ∙ sym (length-rows 8 n j m)) f
+        (sym (ap (λ (x : List Bytes). distinct (ownNames (suc k) x (rows 8 n j (fields c)))) p
+        ∙ ap (λ (x : List Bytes). distinct (ownNames (suc k) (rows 4 c i m ++ (part c (i + 4 * m) 4 ∷ rows 4 c (i + 4 * m + 4) r)) x)) q) ∙ facts .fields-differ (suc k) (omega arith) (omega arith)))
+
+    -- the draft with one field more
+    draft-more : (k m : ℕ) (ts : List Bytes) (e w : Bytes) → m < fields c → typeOf (suc m) ≡ suc k → ts ≡ rows 8 c 8 k ++ (e ∷ []) → w ≡ fieldName c n (suc m)
+        → _≡_ {A = Draft} (record {
+          base = nameAt n 0;
+          types = ts;
+          fields = rows 4 c (8 + 8 * types c) m ++ ((suc k ∷ fieldStart c (fieldOf (suc m)) ∷ fieldLength c (fieldOf (suc m)) ∷ 0 ∷ []) ∷ []);
+          segmentNames = rows 8 n 16 (suc k);
+          fieldNames = rows 8 n (16 + 8 * types c) m ++ (w ∷ []);
+        }) (within c n k e (suc m))
+    draft-more k m ts e w l t a b =
+        rw (a, b, rows-last 4 c (8 + 8 * types c) m, rows-last 8 n (16 + 8 * types c) m, field-entry k m l t, name-at m)
+
+    with-field : (k m : ℕ) (w : Bytes) → k < types c → m < fields c → typeOf (suc m) ≡ suc k → w ≡ fieldName c n (suc m)
+        → withField (within c n k (entryAt c n k m) m) w (kindAt k m) (fieldLength c (fieldOf (suc m))) (fieldStart c (fieldOf (suc m)))
+        ≡ within c n k (entryAt c n k (suc m)) (suc m)
+    with-field k m w l h t e =
+        let d : Draft = within c n k (entryAt c n k m) m in
+        let u : length (rows 8 c 8 k ++ (entryAt c n k m ∷ [])) ≡ suc k = within-types c n k (entryAt c n k m) m in
+        elim (shown k m l) [
+          | none z s ↦
+              with-none d w (kindAt k m) (fieldLength c (fieldOf (suc m))) (fieldStart c (fieldOf (suc m))) z
+              ∙ rw u (draft-more k m (rows 8 c 8 k ++ (entryAt c n k m ∷ [])) (entryAt c n k (suc m)) w h t (rw s) e)
+          | seq z a q o s ↦
+              let y : keyField c (suc k) ≡ suc m = sym z in
+              let v : isKeyOf c (suc k) (suc m) ≡ true = rw y at (key-own (suc k) (omega arith) .1) in
+              let g = key-bytes (suc k) (suc m) v in
+              with-seq d w (kindAt k m) (fieldLength c (fieldOf (suc m))) (fieldStart c (fieldOf (suc m))) q
+              ∙ rw u (draft-more k m (withKey (kindAt k m) (fieldStart c (fieldOf (suc m))) (fieldLength c (fieldOf (suc m))) (rows 8 c 8 k ++ (entryAt c n k m ∷ []))) (entryAt c n k (suc m)) w h t
+              (key-last (kindAt k m) (fieldStart c (fieldOf (suc m))) (fieldLength c (fieldOf (suc m))) (rows 8 c 8 k) (entryAt c n k m) ∙ rw (o, a, g .0, g .1, s)) e)
+        ]
