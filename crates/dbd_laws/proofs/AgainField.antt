@@ -243,3 +243,67 @@ module _ (c n : Bytes) where
               ∙ rw u (draft-more k m (withKey (kindAt k m) (fieldStart c (fieldOf (suc m))) (fieldLength c (fieldOf (suc m))) (rows 8 c 8 k ++ (entryAt c n k m ∷ []))) (entryAt c n k (suc m)) w h t
               (key-last (kindAt k m) (fieldStart c (fieldOf (suc m))) (fieldLength c (fieldOf (suc m))) (rows 8 c 8 k) (entryAt c n k m) ∙ rw (o, a, g .0, g .1, s)) e)
         ]
+
+    -- SEQ comes where the type has no key yet
+    not-keyed : (k m : ℕ) → k < types c → (ltb 0 (kindAt k m) && isKeyed (within c n k (entryAt c n k m) m)) ≡ false
+    unfolding isKeyed keyKind typeByte
+    not-keyed k m l = elim (shown k m l) [
+      | none z s ↦ and-left (ltb 0 (kindAt k m)) _ (ap (ltb 0) z)
+      | seq z a q o s ↦
+          let r = types-size c n facts k l in
+          let u : length (rows 8 c 8 k ++ (entryAt c n k m ∷ [])) ≡ suc k = within-types c n k (entryAt c n k m) m in
+          let b : byte (catalogueOf (within c n k (entryAt c n k m) m)) (8 * suc k + 2) ≡ 0 =
+              block-entry c n k (entryAt c n k m) m 2 (omega arith) (rw (entry-long c n k m) (omega arith)) ∙ ap (λ (x : Bytes). byte x 2) o in
+          and-right (ltb 0 (kindAt k m)) (isKeyed (within c n k (entryAt c n k m) m))
+          (ap (λ (x : ℕ). ltb 0 (byte (catalogueOf (within c n k (entryAt c n k m) m)) (8 * x + 2))) u ∙ ap (ltb 0) b)
+    ]
+
+    block-more : (k m : ℕ) → k < types c → m < fields c → typeOf (suc m) ≡ suc k
+        → goodField (catalogueOf (within c n k (entryAt c n k (suc m)) (suc m))) (suc m) ≡ true
+    unfolding fieldByte fieldType lengthOf typeByte
+    block-more k m l h t =
+        let r = types-size c n facts k l in
+        let e : Bytes = entryAt c n k (suc m) in
+        let b : Bytes = catalogueOf (within c n k (entryAt c n k (suc m)) (suc m)) in
+        let v : types b ≡ suc k = block-types c n k (entryAt c n k (suc m)) (suc m) in
+        let el : length (entryAt c n k (suc m)) ≡ 8 = entry-long c n k (suc m) in
+        field-again b c (suc m)
+        (λ j q.
+          let y : 4 + 8 * types b + 4 * suc m + j ≡ 8 + 8 * suc k + (4 * m + j) = omega arith in
+          let w : 8 + 8 * types c + (4 * m + j) ≡ 4 + 8 * types c + 4 * suc m + j = omega arith in
+          ap (byte b) y ∙ block-field c n k (entryAt c n k (suc m)) (suc m) (4 * m + j) (omega arith) el (omega arith) ∙ ap (byte c) w)
+        (omega arith)
+        (ap (λ (x : ℕ). byte b (8 * x + 1)) t ∙ block-entry c n k (entryAt c n k (suc m)) (suc m) 1 (omega arith) (omega arith) ∙ entry-length c n k (suc m)
+        ∙ ap (λ (x : ℕ). byte c (8 * x + 1)) (sym t))
+        (facts .field-good (suc m) (omega arith) (omega arith))
+
+    -- R78: the statement is one that a line holds
+    pub field-good : (k m : ℕ) → k < types c → m < fields c → Good (fieldStatement c n (suc k) (suc m))
+    unfolding fieldStatement
+    field-good k m l h =
+        let p = header-facts c (facts .good) in
+        let f = field-facts c (facts .good) (fieldOf (suc m)) (omega arith) (omega arith) in
+        let t = type-facts c (facts .good) (fieldType c (fieldOf (suc m))) (f .type-least) (f .type-most) in
+        let s = type-facts c (facts .good) (code (suc k)) (omega arith) (omega arith) in
+        (name-trimmed (fieldName c n (suc m)) (name-good m h), kind-most (eqb (suc m) (keyField c (suc k))) (keyKind c (code (suc k))) (s .kind-most),
+          omega (arith, f .within, t .long-most), omega (arith, f .within, t .long-most))
+      where
+        kind-most : (b : Bool) (x : ℕ) → x ≤ 2 → pick b x 0 ≤ 2
+        kind-most true x l = l
+        kind-most false x l = omega arith
+
+    -- R77: one field more
+    pub field-step : (k m : ℕ) → k < types c → m < fields c → typeOf (suc m) ≡ suc k
+        → taken (within c n k (entryAt c n k m) m) (fieldStatement c n (suc k) (suc m)) ≡ goes (within c n k (entryAt c n k (suc m)) (suc m))
+    unfolding fieldStatement
+    field-step k m l h t =
+        let p = header-facts c (facts .good) in
+        let d : Draft = within c n k (entryAt c n k m) m in
+        let w : Bytes = trimmed (fieldName c n (suc m)) in
+        let f : filled (trimmed (fieldName c n (suc m))) ≡ fieldName c n (suc m) = filled-trimmed (fieldName c n (suc m)) (name-good m h) in
+        let u : length (rows 8 c 8 k ++ (entryAt c n k m ∷ [])) ≡ suc k = within-types c n k (entryAt c n k m) m in
+        let g : length (rows 4 c (8 + 8 * types c) (suc m)) ≡ suc m = length-rows 4 c (8 + 8 * types c) (suc m) in
+        taken-field d w (kindAt k m) (fieldLength c (fieldOf (suc m))) (fieldStart c (fieldOf (suc m)))
+        (ne-eqb (length (rows 8 c 8 k ++ (entryAt c n k m ∷ []))) 0 (λ z. omega arith)) (not-keyed k m l) (rw (u, f) (field-new k m l h t))
+        ∙ ap ruledField (with-field k m (filled w) l h t f)
+        ∙ ruled-field (within c n k (entryAt c n k (suc m)) (suc m)) (omega arith) (rw g (block-more k m l h t))
