@@ -5,3 +5,4 @@ pub mod AgainFacts
 pub mod AgainTaken
 pub mod AgainSegment
 pub mod AgainField
+pub mod Again
