@@ -120,3 +120,100 @@ module _ (c n : Bytes) (facts : Facts c n) where
             | inside h ↦ a f x (omega arith)
             | outside h ↦ (let z : f ≡ suc m = omega arith in rw z (omega arith))
           ]
+
+    -- the fields of type k + 1 stand behind those of the types before
+    own-behind : (k m : ℕ) → Cut k m → ownFields c (suc k) ≡ those (λ f. eqb (fieldType c (fieldOf f) .0) (suc k)) (range (suc m) (fields c - m))
+    unfolding ownFields
+    own-behind k m cut =
+        let l = cut .some in
+        let z : fields c ≡ m + (fields c - m) = omega arith in
+        let y : 1 + m ≡ suc m = omega arith in
+        let p : ℕ → Bool = λ f. eqb (fieldType c (fieldOf f) .0) (suc k) in
+        ap (λ (x : ℕ). those p (range 1 x)) z
+        ∙ those-skip p 1 m (fields c - m) (λ f a b. ne-eqb (typeOf c n f) (suc k) (λ e. omega (arith, cut .before f a (omega arith))))
+        ∙ ap (λ (x : ℕ). those p (range x (fields c - m))) y
+
+    -- types k + 1 to T
+    types-run : Ends r (upTo c n (types c) (fields c)) [] → (s k m : ℕ) → k + s ≡ types c → Cut k m → Ends r (upTo c n k m) (typeStatements c n (range (suc k) s))
+    unfolding typeStatements
+    types-run end zero k m z cut =
+        let y : k ≡ types c = omega arith in
+        let x : m ≡ fields c = all-fields k m y cut in
+        rw (y, x) end
+      where
+        all-fields : (k m : ℕ) → k ≡ types c → Cut k m → m ≡ fields c
+        all-fields k m y cut = elim (side m (fields c)) [
+          | inside h ↦ absurd (
+              let b : k < typeOf c n (fields c) = cut .behind (fields c) h (omega arith) in
+              omega (arith, field-facts c (facts .good) (fieldOf (fields c)) (omega arith) (omega arith) .type-most))
+          | outside h ↦ (let l = cut .some in omega arith)
+        ]
+    types-run end (suc s) k m z cut =
+        let l : k < types c = omega arith in
+        let o = cut .some in
+        rw (own-behind k m cut)
+        (ends-step r (upTo c n k m) (within c n k (opened c n k) m) (segmStatement c n (suc k))
+        (map (fieldStatement c n (suc k)) (those (λ f. eqb (fieldType c (fieldOf f) .0) (suc k)) (range (suc m) (fields c - m))) ++ typeStatements c n (range (suc (suc k)) s))
+        (segm-good c n facts k l) (segm-step c n facts k m l)
+        (rw (← entry-begins c n facts k m l (cut .before))
+        (fields-run k l (typeStatements c n (range (suc (suc k)) s)) (λ x v. types-run end s (suc k) x (omega arith) v) (fields c - m) m (omega arith)
+        (λ f a b. omega (arith, cut .before f a b)) (cut .behind))))
+
+  -- the end, and the beginning
+  end-given : Ends (given c n) (upTo c n (types c) (fields c)) []
+  unfolding readStatements ended givenOf
+  end-given =
+      let h = header-facts c (facts .good) in
+      let t : length (rows 8 c 8 (types c)) ≡ types c = length-rows 8 c 8 (types c) in
+      let f : length (rows 4 c (8 + 8 * types c) (fields c)) ≡ fields c = length-rows 4 c (8 + 8 * types c) (fields c) in
+      let z : eqb (types c) 0 ≡ false = ne-eqb (types c) 0 (λ e. omega arith) in
+      (tt, λ j. rw (t, z, f, block-whole c n (h .size) (facts .head), names-whole c n (facts .names-long) (facts .names-head)))
+
+  cut-none : Cut 0 0
+  cut-none = record {
+    some = omega arith;
+    before = λ f a b. absurd (omega arith);
+    behind = λ f a b. omega (arith, field-facts c (facts .good) (fieldOf f) (omega arith) b .type-least);
+  }
+
+  dbd-step : taken blank (dbd (trimmed (nameAt n 0))) ≡ goes (upTo c n 0 0)
+  unfolding taken begun blank rows
+  dbd-step = rw (filled-trimmed (nameAt n 0) (facts .name 0 (omega arith)))
+
+  all-run : Ends (given c n) blank (statements c n)
+  unfolding statements
+  all-run =
+      ends-step (given c n) blank (upTo c n 0 0) (dbd (trimmed (nameAt n 0))) (typeStatements c n (range 1 (types c)))
+      (name-trimmed (nameAt n 0) (facts .name 0 (omega arith))) dbd-step
+      (types-run (given c n) end-given (types c) 0 0 (omega arith) cut-none)
+
+  pub written-read : dbdRead (textOf (map spelled (statements c n))) ≡ given c n
+  written-read = let e = all-run in text-written (statements c n) (e .0) ∙ e .1 1
+
+module _ (c n : Bytes) where
+  write-on : couldGive c n ≡ true → dbdWrite c n ≡ some (textOf (map spelled (statements c n)))
+  unfolding dbdWrite
+  write-on h = rw (dbdWrite, h)
+
+  write-off : couldGive c n ≡ false → dbdWrite c n ≡ none
+  unfolding dbdWrite
+  write-off h = rw (dbdWrite, h)
+
+some-text : (a b : Bytes) → _≡_ {A = Option Bytes} (some a) (some b) → a ≡ b
+some-text a b e = cc
+
+none-text : (a : Bytes) → _≡_ {A = Option Bytes} none (some a) → false ≡ true
+none-text a e = let z : _≡_ {A = ℕ} 0 1 = cc in absurd (omega arith)
+
+-- R84: reading gives back what was written
+pub reads-back : ReadsBack
+reads-back cat names text e = elim (is (couldGive cat names)) [
+  | on h ↦
+      let z : textOf (map spelled (statements cat names)) ≡ text = some-text (textOf (map spelled (statements cat names))) text (sym (write-on cat names h) ∙ e) in
+      ap dbdRead (sym z) ∙ written-read cat names (facts-of cat names h)
+  | off h ↦ clash (none-text text (sym (write-off cat names h) ∙ e))
+]
+
+-- and that is written as the same text
+pub writes-again : WritesAgain
+writes-again cat names text e = let r : dbdRead text ≡ given cat names = reads-back cat names text e in rw r e
