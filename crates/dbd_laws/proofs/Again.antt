@@ -5,30 +5,29 @@ use mathlib.Core.Option.{Option, none, some}
 use mathlib.Core.List.{List, [], _∷_, _++_, map}
 use Prim.Native.Nat.{ℕ, zero, suc, _+_, _-_, _*_, _<_, _≤_}
 use native.Mathlib.Omega.{arith}
-use lib.Dec.{ltb, leb, eqb}
-use borrow.Author.Tests.{eqb-true, eqb-false, eq-eqb, ne-eqb}
+use lib.Dec.{eqb}
+use borrow.Author.Tests.{eqb-true, eqb-false, ne-eqb}
 use lib.ListN.{length}
-use Rattle.terms.specs.Choice.{pick}
-use Rattle.terms.specs.Names.{code, field as fieldOf}
+use Rattle.terms.specs.Names.{field as fieldOf}
 use Rattle.forest.specs.Good.{on, off, is}
 use Rattle.forest.specs.Forest.{inside, outside, side}
 use Rattle.forest.specs.Numbers.{range}
 use Rattle.rules.specs.Block.{Bytes}
 use Rattle.rules.specs.Catalogue.{types, fields, fieldType}
 use Rattle.rules.proofs.Entries.{header-facts, field-facts}
-use Rattle.statements.specs.Words.{filled, trimmed}
+use Rattle.statements.specs.Words.{trimmed}
 use Rattle.statements.specs.Lines.{textOf}
 use Rattle.statements.specs.Statement.{Statement, dbd}
-use Rattle.statements.specs.Draft.{Draft, blank, catalogueOf, namesOf, rows, goes, begun, taken}
+use Rattle.statements.specs.Draft.{Draft, blank, rows, goes, begun, taken}
 use Rattle.statements.specs.Dbd.{Reading, given as givenOf, ended, dbdRead, spelled, nameAt, those, ownFields, couldGive, segmStatement, fieldStatement, typeStatements, statements, dbdWrite}
 use Rattle.statements.proofs.Words.{clash}
 use Rattle.statements.proofs.Written.{Good, AllGood, readStatements, text-written}
 use Rattle.statements.proofs.Named.{name-trimmed, filled-trimmed}
 use Rattle.dbd_laws.specs.RoundTrip.{given, ReadsBack, WritesAgain}
-use Rattle.dbd_laws.proofs.AgainRows.{length-rows, rows-none}
+use Rattle.dbd_laws.proofs.AgainRows.{length-rows}
 use Rattle.dbd_laws.proofs.AgainBlock.{upTo, within, within-whole, block-whole, names-whole}
 use Rattle.dbd_laws.proofs.AgainFacts.{Facts, facts-of}
-use Rattle.dbd_laws.proofs.AgainTaken.{opened, keyed, entryAt, keyed-whole}
+use Rattle.dbd_laws.proofs.AgainTaken.{opened, entryAt, keyed-whole}
 use Rattle.dbd_laws.proofs.AgainSegment.{segm-good, segm-step}
 use Rattle.dbd_laws.proofs.AgainField.{those-on, those-off, typeOf, entry-begins, entry-ends, field-good, field-step}
 
@@ -83,7 +82,7 @@ module _ (c n : Bytes) (facts : Facts c n) where
     type-ends : (k m : ℕ) (ss : List Statement) → k < types c → Cut (suc k) m → Ends r (upTo c n (suc k) m) ss → Ends r (within c n k (entryAt c n k m) m) ss
     type-ends k m ss l cut e =
         let z : within c n k (entryAt c n k m) m ≡ upTo c n (suc k) m =
-            ap (λ (x : Bytes). within c n k x m) (entry-ends c n facts k m l (cut .behind) ∙ keyed-whole c n facts k l) ∙ within-whole c n k m in
+        ap (λ (x : Bytes). within c n k x m) (entry-ends c n facts k m l (cut .behind) ∙ keyed-whole c n facts k l) ∙ within-whole c n k m in
         (e .0, λ j. ap (λ (x : Draft). readStatements x j ss) z ∙ e .1 j)
 
     -- the fields from m + 1 on that are of type k + 1

@@ -1,19 +1,18 @@
 -- The drafts between the writer's statements, and the bytes of their blocks; at the end the block and the list themselves. Assumes nothing.
 use mathlib.Core.Path.{_≡_, refl, ap, sym, _∙_}
-use mathlib.Core.Bool.{Bool, true, false, _&&_}
-use mathlib.Core.List.{List, [], _∷_, _++_, append-assoc}
-use Prim.Native.Nat.{ℕ, zero, suc, _+_, _-_, _*_, _<_, _≤_}
+use mathlib.Core.Bool.{true}
+use mathlib.Core.List.{[], _∷_, _++_, append-assoc}
+use Prim.Native.Nat.{ℕ, suc, _+_, _*_, _<_, _≤_}
 use native.Mathlib.Omega.{arith}
-use lib.Dec.{leb, eqb}
+use lib.Dec.{eqb}
 use borrow.Author.Tests.{eqb-true}
 use lib.ListN.{length, take, drop, getD, length-append, length-drop, take-append-drop, List·getD-append}
 use lib.Seq.{length-take-le, take-all, drop-drop, take-add, getD-append-add, getD-take, getD-drop}
-use Rattle.rules.specs.Block.{Bytes, byte, word, part, every, zeros, marked}
+use Rattle.rules.specs.Block.{Bytes, byte, word, part, marked}
 use Rattle.rules.specs.Catalogue.{types, fields}
 use Rattle.rules.proofs.Joined.{four}
-use Rattle.statements.specs.Draft.{Draft, joinedRow, header, catalogueOf, namesOf, rows}
+use Rattle.statements.specs.Draft.{Draft, header, catalogueOf, namesOf, rows}
 use Rattle.statements.specs.Dbd.{nameAt}
-use Rattle.statements.proofs.Words.{clash, every-head, every-tail}
 use Rattle.dbd_laws.proofs.AgainRows.{length-rows, rows-last, joined-rows, joined-last}
 
 -- bytes one by one

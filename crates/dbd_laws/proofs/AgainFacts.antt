@@ -1,25 +1,21 @@
 -- What holds of a block and a list that the reader could have given (R82), as facts. Assumes nothing.
-use mathlib.Core.Path.{_≡_, refl, ap, sym, _∙_}
+use mathlib.Core.Path.{_≡_, sym, _∙_}
 use mathlib.Core.Bool.{Bool, true, false, _&&_, _||_}
-use mathlib.Core.List.{List, [], _∷_, _++_}
-use Prim.Native.Nat.{ℕ, zero, suc, _+_, _-_, _*_, _<_, _≤_}
+use Prim.Native.Nat.{ℕ, suc, _+_, _-_, _*_, _<_, _≤_}
 use native.Mathlib.Omega.{arith}
 use lib.Dec.{ltb, leb, eqb}
 use borrow.Author.Tests.{eqb-true, leb-true, ltb-true, ne-eqb}
 use lib.ListN.{length, take}
 use Rattle.terms.specs.Names.{code, field}
 use Rattle.forest.specs.Good.{on, off, is}
-use Rattle.forest.specs.Numbers.{range}
-use Rattle.rules.specs.Block.{Bytes, byte, word, part, every, zeros, marked}
-use Rattle.rules.specs.Catalogue.{types, fields, typeByte, fieldByte, fieldType, lengthOf, keyKind, level, goodKey, goodParent, goodType, goodField, goodHeader, goodCatalogue}
+use Rattle.rules.specs.Block.{Bytes, byte, word, part, zeros, marked}
+use Rattle.rules.specs.Catalogue.{types, fields, fieldByte, fieldType, keyKind, goodField, goodHeader, goodCatalogue}
 use Rattle.rules.proofs.Every.{every-at}
 use Rattle.rules.proofs.Joined.{two, three, six, seven}
-use Rattle.rules.proofs.Catalogue.{good-type}
-use Rattle.rules.proofs.Entries.{header-facts}
 use Rattle.statements.specs.Draft.{header, rows, ownNames}
 use Rattle.statements.specs.Dbd.{nameAt, goodName, distinct, isPlain, goodNames, differ, ascending, keyField, keysListed, couldGive}
-use Rattle.statements.proofs.Words.{clash, every-head, every-tail}
-use Rattle.dbd_laws.proofs.AgainBlock.{header-bytes, part-byte}
+use Rattle.statements.proofs.Words.{clash}
+use Rattle.dbd_laws.proofs.AgainBlock.{header-bytes}
 
 pub record Facts (c n : Bytes) : Type 0 where
   pub good : goodCatalogue c ≡ true
@@ -78,9 +74,10 @@ module _ (c n : Bytes) where
   zeros-of : isPlain c ≡ true → ((k : ℕ) → 1 ≤ k → k ≤ types c → zeros (part c (8 * k + 5) 3) ≡ true) × ((f : ℕ) → 1 ≤ f → f ≤ fields c → fieldByte c (field f) 3 ≡ 0)
   unfolding isPlain
   zeros-of e =
-      let p = three (eqb (word c 3) 1) _ _ e in
-      (λ k a b. every-at (λ x. zeros (part c (8 * x + 5) 3)) 1 (types c) k (p .1) a (omega arith),
-        λ f a b. eqb-true (fieldByte c (field f) 3) 0 (every-at (λ x. eqb (fieldByte c (field x) 3) 0) 1 (fields c) f (p .2) a (omega arith)))
+      let p = three (eqb (word c 3) 1) _ _ e in (
+        λ k a b. every-at (λ x. zeros (part c (8 * x + 5) 3)) 1 (types c) k (p .1) a (omega arith),
+        λ f a b. eqb-true (fieldByte c (field f) 3) 0 (every-at (λ x. eqb (fieldByte c (field x) 3) 0) 1 (fields c) f (p .2) a (omega arith)),
+      )
 
   record Named : Type 0 where
     long : length n ≡ 16 + 8 * types c + 8 * fields c

@@ -4,8 +4,8 @@ use mathlib.Core.Bool.{Bool, true, false, _&&_}
 use mathlib.Core.List.{List, [], _∷_, _++_}
 use Prim.Native.Nat.{ℕ, zero, suc, _+_, _-_, _*_, _<_, _≤_}
 use native.Mathlib.Omega.{arith}
-use lib.Dec.{ltb, leb, eqb}
-use borrow.Author.Tests.{eqb-true, eqb-false, le-leb, lt-leb, le-ltb, eq-eqb, ne-eqb}
+use lib.Dec.{ltb, eqb}
+use borrow.Author.Tests.{eqb-true, eqb-false, le-leb, lt-leb, ne-eqb}
 use lib.ListN.{length, take}
 use Rattle.terms.specs.Choice.{pick}
 use Rattle.terms.specs.Names.{code, field as fieldOf}
@@ -253,7 +253,7 @@ module _ (c n : Bytes) where
           let r = types-size c n facts k l in
           let u : length (rows 8 c 8 k ++ (entryAt c n k m ∷ [])) ≡ suc k = within-types c n k (entryAt c n k m) m in
           let b : byte (catalogueOf (within c n k (entryAt c n k m) m)) (8 * suc k + 2) ≡ 0 =
-              block-entry c n k (entryAt c n k m) m 2 (omega arith) (rw (entry-long c n k m) (omega arith)) ∙ ap (λ (x : Bytes). byte x 2) o in
+          block-entry c n k (entryAt c n k m) m 2 (omega arith) (rw (entry-long c n k m) (omega arith)) ∙ ap (λ (x : Bytes). byte x 2) o in
           and-right (ltb 0 (kindAt k m)) (isKeyed (within c n k (entryAt c n k m) m))
           (ap (λ (x : ℕ). ltb 0 (byte (catalogueOf (within c n k (entryAt c n k m) m)) (8 * x + 2))) u ∙ ap (ltb 0) b)
     ]
@@ -269,9 +269,9 @@ module _ (c n : Bytes) where
         let el : length (entryAt c n k (suc m)) ≡ 8 = entry-long c n k (suc m) in
         field-again b c (suc m)
         (λ j q.
-          let y : 4 + 8 * types b + 4 * suc m + j ≡ 8 + 8 * suc k + (4 * m + j) = omega arith in
-          let w : 8 + 8 * types c + (4 * m + j) ≡ 4 + 8 * types c + 4 * suc m + j = omega arith in
-          ap (byte b) y ∙ block-field c n k (entryAt c n k (suc m)) (suc m) (4 * m + j) (omega arith) el (omega arith) ∙ ap (byte c) w)
+        let y : 4 + 8 * types b + 4 * suc m + j ≡ 8 + 8 * suc k + (4 * m + j) = omega arith in
+        let w : 8 + 8 * types c + (4 * m + j) ≡ 4 + 8 * types c + 4 * suc m + j = omega arith in
+        ap (byte b) y ∙ block-field c n k (entryAt c n k (suc m)) (suc m) (4 * m + j) (omega arith) el (omega arith) ∙ ap (byte c) w)
         (omega arith)
         (ap (λ (x : ℕ). byte b (8 * x + 1)) t ∙ block-entry c n k (entryAt c n k (suc m)) (suc m) 1 (omega arith) (omega arith) ∙ entry-length c n k (suc m)
         ∙ ap (λ (x : ℕ). byte c (8 * x + 1)) (sym t))
@@ -284,9 +284,12 @@ module _ (c n : Bytes) where
         let p = header-facts c (facts .good) in
         let f = field-facts c (facts .good) (fieldOf (suc m)) (omega arith) (omega arith) in
         let t = type-facts c (facts .good) (fieldType c (fieldOf (suc m))) (f .type-least) (f .type-most) in
-        let s = type-facts c (facts .good) (code (suc k)) (omega arith) (omega arith) in
-        (name-trimmed (fieldName c n (suc m)) (name-good m h), kind-most (eqb (suc m) (keyField c (suc k))) (keyKind c (code (suc k))) (s .kind-most),
-          omega (arith, f .within, t .long-most), omega (arith, f .within, t .long-most))
+        let s = type-facts c (facts .good) (code (suc k)) (omega arith) (omega arith) in (
+          name-trimmed (fieldName c n (suc m)) (name-good m h),
+          kind-most (eqb (suc m) (keyField c (suc k))) (keyKind c (code (suc k))) (s .kind-most),
+          omega (arith, f .within, t .long-most),
+          omega (arith, f .within, t .long-most),
+        )
       where
         kind-most : (b : Bool) (x : ℕ) → x ≤ 2 → pick b x 0 ≤ 2
         kind-most true x l = l

@@ -1,19 +1,19 @@
 -- An entry of a type without its key yet, and an entry of a field, in a block that has the bytes of a good one. Assumes nothing.
-use mathlib.Core.Path.{_≡_, refl, ap, sym, _∙_}
-use mathlib.Core.Bool.{Bool, true, false, _&&_}
-use mathlib.Core.List.{List, [], _∷_}
+use mathlib.Core.Path.{_≡_, refl, ap, _∙_}
+use mathlib.Core.Bool.{Bool, true, _&&_}
+use mathlib.Core.List.{List, _∷_}
 use Prim.Native.Nat.{ℕ, zero, suc, _+_, _-_, _*_, _<_, _≤_}
 use native.Mathlib.Omega.{arith}
 use lib.Dec.{leb, eqb}
 use lib.ListN.{length}
-use borrow.Author.Tests.{le-leb, eq-eqb}
+use borrow.Author.Tests.{le-leb}
 use Rattle.terms.specs.Choice.{pick}
 use Rattle.terms.specs.Names.{code, field}
 use Rattle.forest.specs.Numbers.{isIn}
 use Rattle.forest.specs.Types as Types
-use Rattle.rules.specs.Block.{Bytes, part, every, zeros}
-use Rattle.rules.specs.Catalogue.{types, parentOf, lengthOf, keyKind, keyStart, keyLength, fieldType, fieldStart, fieldLength, fieldByte, lineage, level, isType}
-use Rattle.rules.specs.Catalogue.{goodSpan, goodKey, goodParent, goodType, goodField}
+use Rattle.rules.specs.Block.{Bytes, part, zeros}
+use Rattle.rules.specs.Catalogue.{types, lengthOf, keyKind, keyStart, keyLength, fieldType, fieldStart, fieldLength, fieldByte, lineage, level, isType}
+use Rattle.rules.specs.Catalogue.{goodKey, goodParent, goodType, goodField}
 use Rattle.rules.proofs.Joined.{three, six}
 use Rattle.rules.proofs.Catalogue.{par}
 use Rattle.rules.proofs.Entries.{type-range}

@@ -1,10 +1,10 @@
 -- SEGM as the writer has it (R77, R78): its name is new, its parent's name is found at its place, and the type without its key is good. Assumes nothing.
 use mathlib.Core.Path.{_≡_, refl, ap, sym, _∙_}
 use mathlib.Core.Bool.{Bool, true, false, _&&_, _||_, not}
-use mathlib.Core.List.{List, [], _∷_, _++_}
+use mathlib.Core.List.{[], _∷_, _++_}
 use Prim.Native.Nat.{ℕ, zero, suc, _+_, _-_, _*_, _<_, _≤_}
 use native.Mathlib.Omega.{arith}
-use lib.Dec.{ltb, leb, eqb}
+use lib.Dec.{ltb, eqb}
 use borrow.Author.Tests.{eqb-true, lt-ltb, le-ltb, ne-eqb}
 use lib.ListN.{length, drop}
 use lib.Seq.{getD-drop}
@@ -13,14 +13,14 @@ use Rattle.forest.specs.Good.{on, off, is}
 use Rattle.forest.specs.Forest.{inside, outside, side}
 use Rattle.forest.specs.Numbers.{isIn}
 use Rattle.forest.specs.Types as Types
-use Rattle.rules.specs.Block.{Bytes, byte, part, zeros, sameBytes}
+use Rattle.rules.specs.Block.{Bytes, byte, part, sameBytes}
 use Rattle.rules.specs.Catalogue.{types, typeByte, parentOf, lengthOf, keyKind, keyStart, keyLength, lineage, goodParent, goodType}
 use Rattle.rules.proofs.Catalogue.{par, good-type, good-parent, lower-to, good-lower}
 use Rattle.rules.proofs.Entries.{header-facts, type-facts}
 use Rattle.statements.specs.Text.{bytesOf}
 use Rattle.statements.specs.Words.{isLetter, isName, filled, trimmed}
 use Rattle.statements.specs.Statement.{parent, noParent, suits}
-use Rattle.statements.specs.Draft.{Draft, catalogueOf, rows, placeFrom, placeOf, has, withType, goes, ruledType, begun, taken}
+use Rattle.statements.specs.Draft.{catalogueOf, rows, placeFrom, placeOf, has, withType, goes, ruledType, begun, taken}
 use Rattle.statements.specs.Dbd.{nameAt, goodName, distinct, segmentName, parentWord, segmStatement}
 use Rattle.statements.proofs.Words.{clash}
 use Rattle.statements.proofs.Written.{Good}
@@ -115,7 +115,7 @@ module _ (c n : Bytes) where
     segment-place q k l t =
         let z : k ≡ q + suc (k - suc q) = omega arith in
         let r : rows 8 n 16 k ≡ rows 8 n 16 q ++ (segmentName n (suc q) ∷ rows 8 n (16 + 8 * q + 8) (k - suc q)) =
-            ap (rows 8 n 16) z ∙ rows-split 8 n 16 q (k - suc q) ∙ rw (segment-at q) in
+        ap (rows 8 n 16) z ∙ rows-split 8 n 16 q (k - suc q) ∙ rw (segment-at q) in
         ap (placeFrom 1 (segmentName n (suc q))) r
         ∙ place-behind 1 (rows 8 n 16 q) (segmentName n (suc q)) (rows 8 n (16 + 8 * q + 8) (k - suc q)) (segment-new q (omega arith))
         ∙ omega (arith, length-rows 8 n 16 q)
@@ -171,9 +171,11 @@ module _ (c n : Bytes) where
     -- R78: the statement is one that a line holds
     pub segm-good : (k : ℕ) → k < types c → Good (segmStatement c n (suc k))
     unfolding segmStatement
-    segm-good k l =
-        (name-trimmed (segmentName n (suc k)) (segment-good (suc k) (omega arith)), above-of k l .suited,
-          omega (arith, type-facts c (facts .good) (code (suc k)) (omega arith) (omega arith) .long-most))
+    segm-good k l = (
+      name-trimmed (segmentName n (suc k)) (segment-good (suc k) (omega arith)),
+      above-of k l .suited,
+      omega (arith, type-facts c (facts .good) (code (suc k)) (omega arith) (omega arith) .long-most),
+    )
 
     block-parents : (k m : ℕ) → k < types c → (u : ℕ) → 1 ≤ u → u ≤ suc k → par (catalogueOf (within c n k (opened c n k) m)) u ≡ par c u
     unfolding parentOf typeByte
@@ -194,7 +196,7 @@ module _ (c n : Bytes) where
         let s = types-size c n facts k l in
         let b : Bytes = catalogueOf (within c n k (opened c n k) m) in
         let at : (j : ℕ) → j < 8 → byte (catalogueOf (within c n k (opened c n k) m)) (8 * suc k + j) ≡ byte (opened c n k) j =
-            (λ j h. block-entry c n k (opened c n k) m j (omega arith) h) in
+        (λ j h. block-entry c n k (opened c n k) m j (omega arith) h) in
         type-again (catalogueOf (within c n k (opened c n k) m)) c (suc k) (lower-to c (facts .good) (suc k) (omega arith)) (block-parents k m l)
         (omega arith) (at 1 (omega arith)) (at 2 (omega arith)) (at 3 (omega arith)) (at 4 (omega arith))
         (zeros-take 3 (drop (8 * suc k + 5) b) (λ j h. getD-drop (8 * suc k + 5) b j 0 ∙ zero-at k m l j h))

@@ -1,12 +1,12 @@
 -- The ways through one statement that have no fault (R78), and the entry of a type before and behind its key. Assumes nothing.
 use mathlib.Core.Path.{_≡_, refl, ap, sym, _∙_}
 use mathlib.Core.Bool.{Bool, true, false, _&&_, not}
-use mathlib.Core.List.{List, [], _∷_, _++_}
+use mathlib.Core.List.{[], _∷_}
 use Prim.Native.Nat.{ℕ, zero, suc, _+_, _*_, _<_, _≤_}
 use native.Mathlib.Omega.{arith}
 use lib.Dec.{ltb, leb, eqb}
 use borrow.Author.Tests.{le-leb, eqb-true}
-use lib.ListN.{length, take, drop, getD}
+use lib.ListN.{length, take}
 use Rattle.terms.specs.Choice.{pick}
 use Rattle.terms.specs.Names.{code}
 use Rattle.rules.specs.Block.{Bytes, byte, part, every, zeros, sameBytes}
