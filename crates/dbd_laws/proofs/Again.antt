@@ -19,7 +19,8 @@ use Rattle.statements.specs.Words.{trimmed}
 use Rattle.statements.specs.Lines.{textOf}
 use Rattle.statements.specs.Statement.{Statement, dbd}
 use Rattle.statements.specs.Draft.{Draft, blank, rows, goes, begun, taken}
-use Rattle.statements.specs.Dbd.{Reading, given as givenOf, ended, dbdRead, spelled, nameAt, those, ownFields, couldGive, segmStatement, fieldStatement, typeStatements, statements, dbdWrite}
+use Rattle.statements.specs.Dbd.{Reading, given as givenOf, ended, dbdRead, spelled, nameAt, those, ownFields, couldGive}
+use Rattle.statements.specs.Dbd.{segmStatement, fieldStatement, typeStatements, statements, dbdWrite}
 use Rattle.statements.proofs.Words.{clash}
 use Rattle.statements.proofs.Written.{Good, AllGood, readStatements, text-written}
 use Rattle.statements.proofs.Named.{name-trimmed, filled-trimmed}
@@ -133,7 +134,8 @@ module _ (c n : Bytes) (facts : Facts c n) where
         ∙ ap (λ (x : ℕ). those p (range x (fields c - m))) y
 
     -- types k + 1 to T
-    types-run : Ends r (upTo c n (types c) (fields c)) [] → (s k m : ℕ) → k + s ≡ types c → Cut k m → Ends r (upTo c n k m) (typeStatements c n (range (suc k) s))
+    types-run : Ends r (upTo c n (types c) (fields c)) [] → (s k m : ℕ) → k + s ≡ types c → Cut k m
+        → Ends r (upTo c n k m) (typeStatements c n (range (suc k) s))
     unfolding typeStatements
     types-run end zero k m z cut =
         let y : k ≡ types c = omega arith in
@@ -152,7 +154,8 @@ module _ (c n : Bytes) (facts : Facts c n) where
         let o = cut .some in
         rw (own-behind k m cut)
         (ends-step r (upTo c n k m) (within c n k (opened c n k) m) (segmStatement c n (suc k))
-        (map (fieldStatement c n (suc k)) (those (λ f. eqb (fieldType c (fieldOf f) .0) (suc k)) (range (suc m) (fields c - m))) ++ typeStatements c n (range (suc (suc k)) s))
+        (map (fieldStatement c n (suc k)) (those (λ f. eqb (fieldType c (fieldOf f) .0) (suc k)) (range (suc m) (fields c - m)))
+        ++ typeStatements c n (range (suc (suc k)) s))
         (segm-good c n facts k l) (segm-step c n facts k m l)
         (rw (← entry-begins c n facts k m l (cut .before))
         (fields-run k l (typeStatements c n (range (suc (suc k)) s)) (λ x v. types-run end s (suc k) x (omega arith) v) (fields c - m) m (omega arith)
@@ -208,7 +211,8 @@ none-text a e = let z : _≡_ {A = ℕ} 0 1 = cc in absurd (omega arith)
 pub reads-back : ReadsBack
 reads-back cat names text e = elim (is (couldGive cat names)) [
   | on h ↦
-      let z : textOf (map spelled (statements cat names)) ≡ text = some-text (textOf (map spelled (statements cat names))) text (sym (write-on cat names h) ∙ e) in
+      let z : textOf (map spelled (statements cat names)) ≡ text =
+      some-text (textOf (map spelled (statements cat names))) text (sym (write-on cat names h) ∙ e) in
       ap dbdRead (sym z) ∙ written-read cat names (facts-of cat names h)
   | off h ↦ clash (none-text text (sym (write-off cat names h) ∙ e))
 ]

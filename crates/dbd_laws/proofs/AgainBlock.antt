@@ -40,7 +40,8 @@ pub part-eight : (b : Bytes) (i : ℕ) → i + 8 ≤ length b
 part-eight b i l =
     let h : 8 ≤ length (drop i b) = rw (length-drop i b) (omega arith) in
     eight (drop i b) h
-    ∙ rw (getD-drop i b 0 0, getD-drop i b 1 0, getD-drop i b 2 0, getD-drop i b 3 0, getD-drop i b 4 0, getD-drop i b 5 0, getD-drop i b 6 0, getD-drop i b 7 0)
+    ∙ rw (getD-drop i b 0 0, getD-drop i b 1 0, getD-drop i b 2 0, getD-drop i b 3 0)
+    (rw (getD-drop i b 4 0, getD-drop i b 5 0, getD-drop i b 6 0, getD-drop i b 7 0))
 
 pub part-four : (b : Bytes) (i : ℕ) → i + 4 ≤ length b → part b i 4 ≡ byte b (i + 0) ∷ byte b (i + 1) ∷ byte b (i + 2) ∷ byte b (i + 3) ∷ []
 part-four b i l =
@@ -163,8 +164,8 @@ module _ (c n : Bytes) where
   pub block-whole : length c ≡ 8 + 8 * types c + 4 * fields c → take 8 c ≡ header 0x43 (types c) (fields c) → catalogueOf (upTo c n (types c) (fields c)) ≡ c
   unfolding catalogueOf
   block-whole l h =
-      rw (length-rows 8 c 8 (types c), length-rows 4 c (8 + 8 * types c) (fields c), joined-rows 8 c 8 (types c), joined-rows 4 c (8 + 8 * types c) (fields c), ← h)
-      (three-of c 8 (8 * types c) (4 * fields c) l)
+      rw (length-rows 8 c 8 (types c), length-rows 4 c (8 + 8 * types c) (fields c))
+      (rw (joined-rows 8 c 8 (types c), joined-rows 4 c (8 + 8 * types c) (fields c), ← h) (three-of c 8 (8 * types c) (4 * fields c) l))
 
   front-of : take 8 n ++ nameAt n 0 ≡ take 16 n
   unfolding nameAt
@@ -173,5 +174,5 @@ module _ (c n : Bytes) where
   pub names-whole : length n ≡ 16 + 8 * types c + 8 * fields c → take 8 n ≡ header 0x4E (types c) (fields c) → namesOf (upTo c n (types c) (fields c)) ≡ n
   unfolding namesOf
   names-whole l h =
-      rw (length-rows 8 c 8 (types c), length-rows 4 c (8 + 8 * types c) (fields c), joined-rows 8 n 16 (types c), joined-rows 8 n (16 + 8 * types c) (fields c), ← h, front-of)
-      (three-of n 16 (8 * types c) (8 * fields c) l)
+      rw (length-rows 8 c 8 (types c), length-rows 4 c (8 + 8 * types c) (fields c))
+      (rw (joined-rows 8 n 16 (types c), joined-rows 8 n (16 + 8 * types c) (fields c), ← h, front-of) (three-of n 16 (8 * types c) (8 * fields c) l))

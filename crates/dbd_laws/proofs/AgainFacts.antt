@@ -71,7 +71,8 @@ module _ (c n : Bytes) where
       let p = three (goodHeader c) _ _ g in
       every-at (goodField c) 1 (fields c) f (p .2) a (omega arith)
 
-  zeros-of : isPlain c ≡ true → ((k : ℕ) → 1 ≤ k → k ≤ types c → zeros (part c (8 * k + 5) 3) ≡ true) × ((f : ℕ) → 1 ≤ f → f ≤ fields c → fieldByte c (field f) 3 ≡ 0)
+  zeros-of : isPlain c ≡ true → ((k : ℕ) → 1 ≤ k → k ≤ types c → zeros (part c (8 * k + 5) 3) ≡ true)
+      × ((f : ℕ) → 1 ≤ f → f ≤ fields c → fieldByte c (field f) 3 ≡ 0)
   unfolding isPlain
   zeros-of e =
       let p = three (eqb (word c 3) 1) _ _ e in (
@@ -87,7 +88,8 @@ module _ (c n : Bytes) where
   named-of : goodNames c n ≡ true → Named
   unfolding goodNames
   named-of e =
-      let p = six (eqb (length n) (16 + 8 * types c + 8 * fields c)) (marked 0x4E n) (eqb (byte n 5) (types c)) (eqb (byte n 6) (fields c)) (eqb (byte n 7) 0) _ e in
+      let p = six (eqb (length n) (16 + 8 * types c + 8 * fields c)) (marked 0x4E n) (eqb (byte n 5) (types c)) (eqb (byte n 6) (fields c))
+      (eqb (byte n 7) 0) _ e in
       let l : length n ≡ 16 + 8 * types c + 8 * fields c = eqb-true (length n) (16 + 8 * types c + 8 * fields c) (p .0) in
       let t : byte n 5 ≡ types c = eqb-true (byte n 5) (types c) (p .2) in
       let f : byte n 6 ≡ fields c = eqb-true (byte n 6) (fields c) (p .3) in
@@ -117,8 +119,8 @@ module _ (c n : Bytes) where
         names-head = w .top;
         name = w .each;
         segments-differ = two (distinct (rows 8 n 16 (types c))) _ (t .apart) .0;
-        fields-differ = λ k a b. every-at (λ x. distinct (ownNames x (rows 4 c (8 + 8 * types c) (fields c)) (rows 8 n (16 + 8 * types c) (fields c)))) 1 (types c) k
-            (two (distinct (rows 8 n 16 (types c))) _ (t .apart) .1) a (omega arith);
+        fields-differ = λ k a b. every-at (λ x. distinct (ownNames x (rows 4 c (8 + 8 * types c) (fields c)) (rows 8 n (16 + 8 * types c) (fields c))))
+            1 (types c) k (two (distinct (rows 8 n 16 (types c))) _ (t .apart) .1) a (omega arith);
         ascends = λ f a b. leb-true (fieldType c (field f) .0) (fieldType c (field (suc f)) .0)
             (every-at (λ x. leb (fieldType c (field x) .0) (fieldType c (field (suc x)) .0)) 1 (fields c - 1) f (t .rising) a (omega arith));
         listed = λ k a b h. ltb-true 0 (keyField c k)

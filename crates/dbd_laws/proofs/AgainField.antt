@@ -204,14 +204,18 @@ module _ (c n : Bytes) where
         let j : ℕ = 16 + 8 * types c in
         let r : ℕ = fields c - suc m in
         let z : fields c ≡ m + suc (fields c - suc m) = omega arith in
-        let p : rows 4 c (8 + 8 * types c) (fields c) ≡ rows 4 c i m ++ (part c (i + 4 * m) 4 ∷ rows 4 c (i + 4 * m + 4) r) = ap (rows 4 c i) z ∙ rows-split 4 c i m r in
-        let q : rows 8 n (16 + 8 * types c) (fields c) ≡ rows 8 n j m ++ (part n (j + 8 * m) 8 ∷ rows 8 n (j + 8 * m + 8) r) = ap (rows 8 n j) z ∙ rows-split 8 n j m r in
+        let p : rows 4 c (8 + 8 * types c) (fields c) ≡ rows 4 c i m ++ (part c (i + 4 * m) 4 ∷ rows 4 c (i + 4 * m + 4) r) =
+        ap (rows 4 c i) z ∙ rows-split 4 c i m r in
+        let q : rows 8 n (16 + 8 * types c) (fields c) ≡ rows 8 n j m ++ (part n (j + 8 * m) 8 ∷ rows 8 n (j + 8 * m + 8) r) =
+        ap (rows 8 n j) z ∙ rows-split 8 n j m r in
         let f : byte (part c (i + 4 * m) 4) 0 ≡ suc k = part-byte c (i + 4 * m) 4 0 (omega arith) ∙ field-at m 0 ∙ t in
         rw (← name-at m)
-        (own-differs (suc k) (rows 4 c i m) (part c (i + 4 * m) 4) (rows 4 c (i + 4 * m + 4) r) (rows 8 n j m) (part n (j + 8 * m) 8) (rows 8 n (j + 8 * m + 8) r)
+        (own-differs (suc k) (rows 4 c i m) (part c (i + 4 * m) 4) (rows 4 c (i + 4 * m + 4) r)
+        (rows 8 n j m) (part n (j + 8 * m) 8) (rows 8 n (j + 8 * m + 8) r)
         (length-rows 4 c i m ∙ sym (length-rows 8 n j m)) f
         (sym (ap (λ (x : List Bytes). distinct (ownNames (suc k) x (rows 8 n j (fields c)))) p
-        ∙ ap (λ (x : List Bytes). distinct (ownNames (suc k) (rows 4 c i m ++ (part c (i + 4 * m) 4 ∷ rows 4 c (i + 4 * m + 4) r)) x)) q) ∙ facts .fields-differ (suc k) (omega arith) (omega arith)))
+        ∙ ap (λ (x : List Bytes). distinct (ownNames (suc k) (rows 4 c i m ++ (part c (i + 4 * m) 4 ∷ rows 4 c (i + 4 * m + 4) r)) x)) q)
+        ∙ facts .fields-differ (suc k) (omega arith) (omega arith)))
 
     -- the draft with one field more
     draft-more : (k m : ℕ) (ts : List Bytes) (e w : Bytes) → m < fields c → typeOf (suc m) ≡ suc k → ts ≡ rows 8 c 8 k ++ (e ∷ []) → w ≡ fieldName c n (suc m)
@@ -230,18 +234,19 @@ module _ (c n : Bytes) where
         ≡ within c n k (entryAt c n k (suc m)) (suc m)
     with-field k m w l h t e =
         let d : Draft = within c n k (entryAt c n k m) m in
+        let b : ℕ = fieldStart c (fieldOf (suc m)) in
+        let v : ℕ = fieldLength c (fieldOf (suc m)) in
+        let ts : List Bytes = rows 8 c 8 k ++ (entryAt c n k m ∷ []) in
         let u : length (rows 8 c 8 k ++ (entryAt c n k m ∷ [])) ≡ suc k = within-types c n k (entryAt c n k m) m in
         elim (shown k m l) [
-          | none z s ↦
-              with-none d w (kindAt k m) (fieldLength c (fieldOf (suc m))) (fieldStart c (fieldOf (suc m))) z
-              ∙ rw u (draft-more k m (rows 8 c 8 k ++ (entryAt c n k m ∷ [])) (entryAt c n k (suc m)) w h t (rw s) e)
+          | none z s ↦ with-none d w (kindAt k m) v b z ∙ rw u (draft-more k m ts (entryAt c n k (suc m)) w h t (rw s) e)
           | seq z a q o s ↦
               let y : keyField c (suc k) ≡ suc m = sym z in
-              let v : isKeyOf c (suc k) (suc m) ≡ true = rw y at (key-own (suc k) (omega arith) .1) in
-              let g = key-bytes (suc k) (suc m) v in
-              with-seq d w (kindAt k m) (fieldLength c (fieldOf (suc m))) (fieldStart c (fieldOf (suc m))) q
-              ∙ rw u (draft-more k m (withKey (kindAt k m) (fieldStart c (fieldOf (suc m))) (fieldLength c (fieldOf (suc m))) (rows 8 c 8 k ++ (entryAt c n k m ∷ []))) (entryAt c n k (suc m)) w h t
-              (key-last (kindAt k m) (fieldStart c (fieldOf (suc m))) (fieldLength c (fieldOf (suc m))) (rows 8 c 8 k) (entryAt c n k m) ∙ rw (o, a, g .0, g .1, s)) e)
+              let x : isKeyOf c (suc k) (suc m) ≡ true = rw y at (key-own (suc k) (omega arith) .1) in
+              let g = key-bytes (suc k) (suc m) x in
+              with-seq d w (kindAt k m) v b q
+              ∙ rw u (draft-more k m (withKey (kindAt k m) b v ts) (entryAt c n k (suc m)) w h t
+              (key-last (kindAt k m) b v (rows 8 c 8 k) (entryAt c n k m) ∙ rw (o, a, g .0, g .1, s)) e)
         ]
 
     -- SEQ comes where the type has no key yet

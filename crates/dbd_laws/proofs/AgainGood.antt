@@ -57,8 +57,10 @@ module _ (a c : Bytes) (k : ℕ) (low : Types.lower (par c) k ≡ true) (same : 
       → zeros (part a (8 * k + 5) 3) ≡ true → goodType c k ≡ true → goodType a k ≡ true
   unfolding goodType goodKey
   type-again l e k0 s0 l0 z g =
-      let p = six (goodParent c k) (leb 1 (lengthOf c (code k))) (leb (lengthOf c (code k)) 120) (goodKey c (code k)) (zeros (part c (8 * k + 5) 3)) (leb (level c (code k)) 15) g in
-      all-six (goodParent a k) (leb 1 (lengthOf a (code k))) (leb (lengthOf a (code k)) 120) (goodKey a (code k)) (zeros (part a (8 * k + 5) 3)) (leb (level a (code k)) 15)
+      let p = six (goodParent c k) (leb 1 (lengthOf c (code k))) (leb (lengthOf c (code k)) 120) (goodKey c (code k))
+      (zeros (part c (8 * k + 5) 3)) (leb (level c (code k)) 15) g in
+      all-six (goodParent a k) (leb 1 (lengthOf a (code k))) (leb (lengthOf a (code k)) 120) (goodKey a (code k))
+      (zeros (part a (8 * k + 5) 3)) (leb (level a (code k)) 15)
       (parent-same l ∙ p .0) (ap (leb 1) e ∙ p .1) (ap (λ (x : ℕ). leb x 120) e ∙ p .2) (rw (k0, s0, l0)) z (ap (λ (x : ℕ). leb x 15) level-same ∙ p .5)
 
 -- R78: a field of one of the types so far
@@ -68,4 +70,5 @@ unfolding goodField isType fieldType fieldStart fieldLength
 field-again a c f same l e g =
     let p = three (isType c (fieldType c (field f))) _ _ g in
     let r = type-range c (fieldType c (field f)) (p .0) in
-    rw (same 0 (omega arith), same 1 (omega arith), same 2 (omega arith), same 3 (omega arith), e, le-leb 1 (fieldByte c (field f) 0) (r .0), le-leb (fieldByte c (field f) 0) (types a) l, p .1, p .2)
+    rw (same 0 (omega arith), same 1 (omega arith), same 2 (omega arith), same 3 (omega arith), e)
+    (rw (le-leb 1 (fieldByte c (field f) 0) (r .0), le-leb (fieldByte c (field f) 0) (types a) l, p .1, p .2))

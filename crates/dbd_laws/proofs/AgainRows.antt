@@ -173,4 +173,5 @@ pub own-differs : (t : ℕ) (fs : List Bytes) (f : Bytes) (gs ns : List Bytes) (
     → distinct (ownNames t (fs ++ (f ∷ gs)) (ns ++ (n ∷ ms))) ≡ true → has n (ownNames t fs ns) ≡ false
 own-differs t fs f gs ns n ms l h e =
     distinct-middle (ownNames t fs ns) n (ownNames t gs ms)
-    (sym (ap distinct (own-append t fs (f ∷ gs) ns (n ∷ ms) l ∙ ap (λ (x : List Bytes). ownNames t fs ns ++ x) (own-here t f gs n ms (eq-eqb (byte f 0) t h)))) ∙ e)
+    (sym (ap distinct (own-append t fs (f ∷ gs) ns (n ∷ ms) l
+    ∙ ap (λ (x : List Bytes). ownNames t fs ns ++ x) (own-here t f gs n ms (eq-eqb (byte f 0) t h)))) ∙ e)

@@ -106,7 +106,8 @@ module _ (c n : Bytes) where
     segment-new : (k : ℕ) → k < types c → has (segmentName n (suc k)) (rows 8 n 16 k) ≡ false
     segment-new k l =
         let z : types c ≡ k + suc (types c - suc k) = omega arith in
-        let r : rows 8 n 16 (types c) ≡ rows 8 n 16 k ++ (part n (16 + 8 * k) 8 ∷ rows 8 n (16 + 8 * k + 8) (types c - suc k)) = ap (rows 8 n 16) z ∙ rows-split 8 n 16 k (types c - suc k) in
+        let r : rows 8 n 16 (types c) ≡ rows 8 n 16 k ++ (part n (16 + 8 * k) 8 ∷ rows 8 n (16 + 8 * k + 8) (types c - suc k)) =
+        ap (rows 8 n 16) z ∙ rows-split 8 n 16 k (types c - suc k) in
         rw (← segment-at k)
         (distinct-middle (rows 8 n 16 k) (part n (16 + 8 * k) 8) (rows 8 n (16 + 8 * k + 8) (types c - suc k)) (sym (ap distinct r) ∙ facts .segments-differ))
 
@@ -152,9 +153,11 @@ module _ (c n : Bytes) where
         let w : parentWord c n (suc k) ≡ trimmed (segmentName n (suc q)) = word-beneath (suc k) q e in
         let g : goodName (segmentName n (suc q)) ≡ true = segment-good (suc q) (omega arith) in
         let i : isName (trimmed (segmentName n (suc q))) ≡ true = name-trimmed (segmentName n (suc q)) g in
-        let s : sameBytes (parentWord c n (suc k)) noParent ≡ false = ap (λ (x : Bytes). sameBytes x noParent) w ∙ name-no-root (trimmed (segmentName n (suc q))) i in
+        let s : sameBytes (parentWord c n (suc k)) noParent ≡ false =
+        ap (λ (x : Bytes). sameBytes x noParent) w ∙ name-no-root (trimmed (segmentName n (suc q))) i in
         let f : filled (parentWord c n (suc k)) ≡ segmentName n (suc q) = ap filled w ∙ filled-trimmed (segmentName n (suc q)) g in
-        let p : placeOf (filled (parentWord c n (suc k))) (rows 8 n 16 k) ≡ suc q = ap (λ (x : Bytes). placeOf x (rows 8 n 16 k)) f ∙ segment-place q k l (omega arith) in
+        let p : placeOf (filled (parentWord c n (suc k))) (rows 8 n 16 k) ≡ suc q =
+        ap (λ (x : Bytes). placeOf x (rows 8 n 16 k)) f ∙ segment-place q k l (omega arith) in
         record {
           first = and-left (sameBytes (parentWord c n (suc k)) noParent) (ltb 0 k) s;
           found = and-right (not (sameBytes (parentWord c n (suc k)) noParent)) _ (ap (λ (x : ℕ). eqb x 0) p ∙ ne-eqb (suc q) 0 (λ z. omega arith));
@@ -222,7 +225,8 @@ module _ (c n : Bytes) where
     segm-step k m l =
         let v = above-of k l in
         let h = header-facts c (facts .good) in
-        let f : filled (trimmed (segmentName n (suc k))) ≡ segmentName n (suc k) = filled-trimmed (segmentName n (suc k)) (segment-good (suc k) (omega arith)) in
+        let f : filled (trimmed (segmentName n (suc k))) ≡ segmentName n (suc k) =
+        filled-trimmed (segmentName n (suc k)) (segment-good (suc k) (omega arith)) in
         let r : length (rows 8 c 8 k) ≡ k = length-rows 8 c 8 k in
         let b : length (nameAt n 0) ≡ 8 = name-long (nameAt n 0) (facts .name 0 (omega arith)) in
         let t : length (within c n k (opened c n k) m .types) ≡ suc k = within-types c n k (opened c n k) m in
