@@ -125,6 +125,12 @@ descending =
     0x48 ∷ 0x44 ∷ 0x43 ∷ 0 ∷ 1 ∷ 2 ∷ 2 ∷ 0 ∷ 0 ∷ 12 ∷ 0 ∷ 0 ∷ 0 ∷ 0 ∷ 0 ∷ 0 ∷ 1 ∷ 12 ∷ 0 ∷ 0 ∷ 0 ∷ 0 ∷ 0 ∷ 0
     ∷ 2 ∷ 1 ∷ 1 ∷ 0 ∷ 1 ∷ 1 ∷ 1 ∷ 0 ∷ []
 
+-- two types of 12 bytes, the second with a key and a field over it
+unfoldable pub laterKey : Bytes
+laterKey =
+    0x48 ∷ 0x44 ∷ 0x43 ∷ 0 ∷ 1 ∷ 2 ∷ 1 ∷ 0 ∷ 0 ∷ 12 ∷ 0 ∷ 0 ∷ 0 ∷ 0 ∷ 0 ∷ 0 ∷ 1 ∷ 12 ∷ 1 ∷ 3 ∷ 2 ∷ 0 ∷ 0 ∷ 0
+    ∷ 2 ∷ 3 ∷ 2 ∷ 0 ∷ []
+
 -- a text whose first line is this one
 unfoldable pub only : String → Bytes
 only s = bytesOf s
@@ -199,6 +205,7 @@ lineCases =
     ∷ refuses (bytesOf "\n \t\nDBD NAME=P\n\nDBD NAME=P\n") 1 5
     ∷ refuses (after "SEGM NAME=R,\nPARENT=Q,BYTES=1\n") 1 3
     ∷ refuses (only "A DBD NAME=P\n") 1 1
+    ∷ refuses (bytesOf "DBD NAME=P") 1 2
     ∷ []
 
 -- R74: a vertical tab is no blank; two words are parted; a word is not; quotes and high bytes
@@ -211,6 +218,7 @@ wordCases =
     ∷ refuses (bytesOf "DBD NAME=P" ++ (0x80 ∷ 0x0A ∷ [])) 1 1
     ∷ refuses (only "DBD NAME=P;\n") 1 1
     ∷ reads (bytesOf "DBD NAME=P\nSEGM\tNAME\t=\tQ\t,PARENT=0\t, BYTES=12 ") (oneType 0 0 0 0 []) (named 1 0 "P       Q       ")
+    ∷ reads (bytesOf "DBD NAME=P" ++ (0x0D ∷ bytesOf "\nSEGM NAME=Q,PARENT=0,BYTES=12\n")) (oneType 0 0 0 0 []) (named 1 0 "P       Q       ")
     ∷ []
 
 -- R75: names of 1 and 8 bytes; an underscore; keywords in capitals, which may be names; numbers
@@ -224,6 +232,8 @@ nameCases =
     ∷ refuses (bytesOf "DBD NAME=P\nSEGM NAME=Q,PARENT=0,BYTES=1A\n") 1 2
     ∷ refuses (bytesOf "DBD NAME=P\nSEGM NAME=Q,PARENT=0,BYTES=\n") 1 2
     ∷ refuses (bytesOf "DBD NAME=P\nSEGM NAME=Q,PARENT=0,BYTES=" ++ replicate 300 0x39) 20 2
+    ∷ refuses (only "DBD NAME=ABCDEFGHI\n") 1 1
+    ∷ refuses (only "DBD NAME=1Q\n") 1 1
     ∷ []
 
 -- R76: no operand twice or left out; 00 is no parent; a name in brackets; other operands
@@ -237,6 +247,7 @@ formCases =
     ∷ refuses (after "FIELD NAME=(G,SEQ,X),BYTES=1,START=1,TYPE=C\n") 1 3
     ∷ refuses (after "FIELD NAME=G,START=1,BYTES=1,TYPE=C\n") 1 3
     ∷ refuses (after "FIELD NAME=G,BYTES=1,START=1\n") 1 3
+    ∷ refuses (after "FIELD NAME=G,BYTES=1,START=1,TYPE=P\n") 1 3
     ∷ []
 
 -- R77: SEGM before DBD, FIELD before SEGM; a key of kind 2 in the second of three fields
@@ -246,6 +257,8 @@ placeCases =
     ∷ refuses (only "DBD NAME=P\nFIELD NAME=G,BYTES=1,START=1,TYPE=C\n") 1 2
     ∷ reads (after "FIELD NAME=G,BYTES=1,START=1,TYPE=C\nFIELD NAME=(H,SEQ,M),BYTES=3,START=10,TYPE=C\nFIELD NAME=I,BYTES=12,START=1,TYPE=C\n")
     (oneType 3 2 10 3 (1 ∷ 1 ∷ 1 ∷ 0 ∷ 1 ∷ 10 ∷ 3 ∷ 0 ∷ 1 ∷ 1 ∷ 12 ∷ 0 ∷ [])) (named 1 3 "P       Q       G       H       I       ")
+    ∷ refuses (after "FIELD NAME=(G,SEQ,U),BYTES=2,START=1,TYPE=C\nFIELD NAME=(H,SEQ,U),BYTES=2,START=1,TYPE=C\n") 1 4
+    ∷ reads (after "SEGM NAME=R,PARENT=Q,BYTES=12\nFIELD NAME=(G,SEQ,U),BYTES=2,START=3,TYPE=C\n") laterKey (named 2 1 "P       Q       R       G       ")
     ∷ []
 
 -- R78: the first line, not the smallest fault of all; of one line the smallest; a name before the parent, the parent before the rules
@@ -256,6 +269,7 @@ orderCases =
     ∷ refuses (after "SEGM NAME=R,PARENT=Z,BYTES=0\n") 3 3
     ∷ refuses (bytesOf "DBD NAME=P\nSEGM NAME=Q,PARENT=Q,BYTES=1\n") 3 2
     ∷ refuses (after "" ++ manySegments 2 31 ++ bytesOf "SEGM NAME=Q,PARENT=Q,BYTES=1\n") 2 34
+    ∷ refuses (after "FIELD NAME=(G,SEQ,U),BYTES=2,START=1,TYPE=C\nFIELD NAME=(G,SEQ,M),BYTES=0,START=1,TYPE=C\n") 1 4
     ∷ []
 
 -- R78: lengths of 0, 120 and 121; levels 15 and 16; spans that end with the segment and behind it
@@ -269,6 +283,8 @@ ruleCases =
     ∷ refuses (after "FIELD NAME=G,BYTES=1,START=0,TYPE=C\n") 20 3
     ∷ refuses (after "FIELD NAME=G,BYTES=0,START=1,TYPE=C\n") 20 3
     ∷ refuses (after "FIELD NAME=G,BYTES=12,START=1,TYPE=C\nFIELD NAME=H,BYTES=12,START=2,TYPE=C\n") 20 4
+    ∷ refuses (after "" ++ manySegments 2 32) 20 34
+    ∷ refuses (after "" ++ manyFields 1 65) 20 67
     ∷ []
 
 -- R82: a value type, a field of an earlier type behind one of a later, a key of another start, names that are none, and other headers
@@ -282,6 +298,8 @@ pairCases =
     ∷ unwritten (oneType 0 0 0 0 []) (0x48 ∷ 0x44 ∷ 0x43 ∷ 0 ∷ 1 ∷ 1 ∷ 0 ∷ 0 ∷ bytesOf "P       Q       ")
     ∷ unwritten (oneType 0 0 0 0 []) (0x48 ∷ 0x44 ∷ 0x4E ∷ 0 ∷ 2 ∷ 1 ∷ 0 ∷ 0 ∷ bytesOf "P       Q       ")
     ∷ unwritten (oneType 0 0 0 0 []) (0x48 ∷ 0x44 ∷ 0x4E ∷ 0 ∷ 1 ∷ 1 ∷ 0 ∷ 1 ∷ bytesOf "P       Q       ")
+    ∷ unwritten (oneType 1 1 2 3 (1 ∷ 2 ∷ 4 ∷ 0 ∷ [])) (named 1 1 "P       Q       G       ")
+    ∷ unwritten (oneType 2 0 0 0 (1 ∷ 2 ∷ 3 ∷ 0 ∷ 1 ∷ 2 ∷ 4 ∷ 0 ∷ [])) (named 1 2 "P       Q       G       G       ")
     ∷ []
 
 -- R80, R83: a catalogue that has room, names that have not; a pair that is refused, though there is room
@@ -291,4 +309,13 @@ lentCases =
     ∷ lentRead (after "") (replicate 15 0xFF) (replicate 24 0xFF) 28 (replicate 15 0xFF) (replicate 24 0xFF)
     ∷ lentWrite (oneType 0 0 0 0 []) (named 1 0 "P       q Q     ") (replicate 42 0x2E) 20 (replicate 42 0x2E)
     ∷ lentWrite (oneType 0 0 0 0 []) (named 1 0 "P       Q       ") (replicate 41 0x2E) (41 * 4294967296) (after "")
+    ∷ lentRead (after "X") [] [] (1 + 3 * 4294967296) [] []
+    ∷ []
+
+-- R81: SEQ for the first field that is the key, and TYPE=C for all
+unfoldable pub textCases : List Case
+textCases =
+    writes (oneType 2 1 2 3 (1 ∷ 2 ∷ 3 ∷ 0 ∷ 1 ∷ 2 ∷ 3 ∷ 0 ∷ [])) (named 1 2 "P       Q       G       H       ")
+    (after "FIELD NAME=(G,SEQ,U),BYTES=3,START=2,TYPE=C\nFIELD NAME=H,BYTES=3,START=2,TYPE=C\n")
+    ∷ writes laterKey (named 2 1 "P       Q       R       G       ") (after "SEGM NAME=R,PARENT=Q,BYTES=12\nFIELD NAME=(G,SEQ,U),BYTES=2,START=3,TYPE=C\n")
     ∷ []
