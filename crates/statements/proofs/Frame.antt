@@ -10,6 +10,7 @@ use lib.Seq.{getD-drop}
 use borrow.Author.Tests.{lt-ltb, ne-eqb, le-leb}
 use Rattle.terms.specs.Choice.{pick}
 use Rattle.terms.specs.Names.{code}
+use Rattle.forest.specs.Forest.{inside, outside, side}
 use Rattle.forest.specs.Good.{on, off, is}
 use Rattle.forest.specs.Numbers.{range, isIn}
 use Rattle.forest.specs.Types as Types
@@ -56,16 +57,24 @@ unfolding goodType
 type-no-parent cat k e = rw e
 
 module _ (cat : Bytes) where
-  -- a good entry names a parent before it
+  -- a good entry has a good parent
   pub type-parent : (k : ℕ) → goodType cat k ≡ true → goodParent cat k ≡ true
   unfolding goodType
   type-parent k h =
       six (goodParent cat k) (leb 1 (lengthOf cat (code k))) (leb (lengthOf cat (code k)) 120) (goodKey cat (code k)) (zeros (part cat (8 * k + 5) 3)) (leb (level cat (code k)) 15) h .0
 
+  -- so do the types up to k, where those before it do and k has a good parent
+  pub lower-on : (k : ℕ) → Types.lower (par cat) (k - 1) ≡ true → goodParent cat k ≡ true → Types.lower (par cat) k ≡ true
+  lower-on zero l e = refl
+  lower-on (suc k) l e =
+      let z : suc k - 1 ≡ k = omega arith in
+      let m : Types.lower (par cat) k ≡ true = rw z at l in
+      rw (lt-ltb (par cat (suc k)) (suc k) (parent-low cat k m e), m)
+
   pub lower-more : (k : ℕ) → Types.lower (par cat) k ≡ true → goodType cat (suc k) ≡ true → Types.lower (par cat) (suc k) ≡ true
   lower-more k l e = rw (lt-ltb (par cat (suc k)) (suc k) (parent-low cat k l (type-parent (suc k) e)), l)
 
-  -- so do all of them, where all are good
+  -- all of them do, where all are good
   pub lower-each : (k : ℕ) → ((u : ℕ) → 1 ≤ u → u ≤ k → goodType cat u ≡ true) → Types.lower (par cat) k ≡ true
   lower-each zero g = refl
   lower-each (suc k) g = lower-more k (lower-each k (λ u a b. g u a (omega arith))) (g (suc k) (omega arith) (omega arith))
@@ -73,23 +82,15 @@ module _ (cat : Bytes) where
   pub lower-every : (k : ℕ) → every (goodType cat) (range 1 k) ≡ true → Types.lower (par cat) k ≡ true
   lower-every k g = lower-each k (λ u a b. every-at (goodType cat) 1 k u g a (omega arith))
 
--- two blocks with the same bytes up to the end of the entry of type k
-module _ (a b : Bytes) (k : ℕ) (same : (i : ℕ) → i < 8 * k + 8 → byte a i ≡ byte b i) where
-  pub type-byte-same : (u j : ℕ) → u ≤ k → j < 8 → typeByte a (code u) j ≡ typeByte b (code u) j
-  unfolding typeByte
-  type-byte-same u j l m = same (8 * u + j) (omega arith)
-
-  pub par-same : (u : ℕ) → u ≤ k → par a u ≡ par b u
-  unfolding parentOf
-  par-same u l = type-byte-same u 0 l (omega arith)
-
+-- two blocks that name the same parents for the types up to k
+module _ (a b : Bytes) (k : ℕ) (same : (u : ℕ) → 1 ≤ u → u ≤ k → par a u ≡ par b u) where
   lineage-from : (top : ℕ) → top ≤ k → Types.lower (par a) top ≡ true → (n u : ℕ) → u ≤ top → Types.lineageFrom (par a) n u ≡ Types.lineageFrom (par b) n u
   unfolding Types.lineageFrom
   lineage-from top l low zero u m = refl
   lineage-from top l low (suc n) zero m = refl
   lineage-from top l low (suc n) (suc u) m =
       let h : par a (suc u) < suc u = Types.lower-at (par a) top (suc u) low (omega arith) m in
-      ap (_∷_ (suc u)) (lineage-from top l low n (par a (suc u)) (omega arith) ∙ ap (Types.lineageFrom (par b) n) (par-same (suc u) (omega arith)))
+      ap (_∷_ (suc u)) (lineage-from top l low n (par a (suc u)) (omega arith) ∙ ap (Types.lineageFrom (par b) n) (same (suc u) (omega arith) (omega arith)))
 
   pub lineage-same : (top u : ℕ) → top ≤ k → Types.lower (par a) top ≡ true → u ≤ top → lineage a (code u) ≡ lineage b (code u)
   unfolding lineage Types.lineage
@@ -97,51 +98,68 @@ module _ (a b : Bytes) (k : ℕ) (same : (i : ℕ) → i < 8 * k + 8 → byte a 
 
   pub lower-same : (n : ℕ) → n ≤ k → Types.lower (par a) n ≡ Types.lower (par b) n
   lower-same zero l = refl
-  lower-same (suc n) l = rw (par-same (suc n) l, lower-same n (omega arith))
-
-  pub goodKey-same : goodKey a (code k) ≡ goodKey b (code k)
-  unfolding goodKey keyKind keyStart keyLength lengthOf
-  goodKey-same =
-      simp (type-byte-same k 1 (omega arith) (omega arith), type-byte-same k 2 (omega arith) (omega arith), type-byte-same k 3 (omega arith) (omega arith), type-byte-same k 4 (omega arith) (omega arith))
-
-  zeros-same : zeros (part a (8 * k + 5) 3) ≡ zeros (part b (8 * k + 5) 3)
-  zeros-same =
-      zeros-three a (8 * k + 5)
-      ∙ (rw (same (8 * k + 5) (omega arith), same (8 * k + 5 + 1) (omega arith), same (8 * k + 5 + 2) (omega arith)) (sym (zeros-three b (8 * k + 5))))
-
-  pub lengthOf-same : (u : ℕ) → u ≤ k → lengthOf a (code u) ≡ lengthOf b (code u)
-  unfolding lengthOf
-  lengthOf-same u l = type-byte-same u 1 l (omega arith)
+  lower-same (suc n) l = rw (same (suc n) (omega arith) l, lower-same n (omega arith))
 
   module _ (low : Types.lower (par a) (k - 1) ≡ true) where
-    pub goodParent-same : goodParent a k ≡ goodParent b k
+    parent-as : 1 ≤ k → goodParent a k ≡ goodParent b k
     unfolding goodParent
-    goodParent-same =
-        ap (λ (x : ℕ). pick (eqb k 1) (eqb x 0) (isIn x (lineage a (code (k - 1))))) (par-same k (omega arith))
+    parent-as o =
+        ap (λ (x : ℕ). pick (eqb k 1) (eqb x 0) (isIn x (lineage a (code (k - 1))))) (same k o (omega arith))
         ∙ ap (λ (xs : List ℕ). pick (eqb k 1) (eqb (par b k) 0) (isIn (par b k) xs)) (lineage-same (k - 1) (k - 1) (omega arith) low (omega arith))
 
--- the level, where the parent is good too
-level-same : (a b : Bytes) (k : ℕ) → ((i : ℕ) → i < 8 * suc k + 8 → byte a i ≡ byte b i) → Types.lower (par a) k ≡ true → goodParent a (suc k) ≡ true
-    → level a (code (suc k)) ≡ level b (code (suc k))
-unfolding level
-level-same a b k same low g =
-    let h : par a (suc k) < suc k = parent-low a k low g in
-    let m : Types.lower (par a) (suc k) ≡ true = rw (lt-ltb (par a (suc k)) (suc k) h, low) in
-    ap length (lineage-same a b (suc k) same (suc k) (suc k) (omega arith) m (omega arith))
+    pub goodParent-same : goodParent a k ≡ goodParent b k
+    goodParent-same = elim (side 0 k) [
+      | inside o ↦ parent-as (omega arith)
+      | outside o ↦ (let z : k ≡ 0 = omega arith in rw z (parent-zero a ∙ sym (parent-zero b)))
+    ]
 
-whole : (a b : Bytes) (k : ℕ) → Types.lower (par a) (suc k - 1) ≡ true → ((i : ℕ) → i < 8 * suc k + 8 → byte a i ≡ byte b i) → goodParent a (suc k) ≡ true
-    → goodType a (suc k) ≡ goodType b (suc k)
-unfolding goodType
-whole a b k low same g =
-    let z : suc k - 1 ≡ k = omega arith in
-    let l : Types.lower (par a) k ≡ true = rw z at low in
-    simp (goodParent-same a b (suc k) same low, lengthOf-same a b (suc k) same (suc k) (omega arith), goodKey-same a b (suc k) same, zeros-same a b (suc k) same,
-    level-same a b k same l g)
+    -- the level, where the parent is good
+    pub level-same : goodParent a k ≡ true → level a (code k) ≡ level b (code k)
+    unfolding level
+    level-same g = ap length (lineage-same k k (omega arith) (lower-on a k low g) (omega arith))
+
+-- two blocks with the same bytes from the first entry up to the end of the entry of type k
+module _ (a b : Bytes) (k : ℕ) (same : (i : ℕ) → 8 ≤ i → i < 8 * k + 8 → byte a i ≡ byte b i) where
+  pub typeByte-same : (u j : ℕ) → 1 ≤ u → u ≤ k → j < 8 → typeByte a (code u) j ≡ typeByte b (code u) j
+  unfolding typeByte
+  typeByte-same u j o l m = same (8 * u + j) (omega arith) (omega arith)
+
+  pub par-same : (u : ℕ) → 1 ≤ u → u ≤ k → par a u ≡ par b u
+  unfolding parentOf
+  par-same u o l = typeByte-same u 0 o l (omega arith)
+
+  pub lengthOf-same : (u : ℕ) → 1 ≤ u → u ≤ k → lengthOf a (code u) ≡ lengthOf b (code u)
+  unfolding lengthOf
+  lengthOf-same u o l = typeByte-same u 1 o l (omega arith)
+
+  pub goodKey-same : 1 ≤ k → goodKey a (code k) ≡ goodKey b (code k)
+  unfolding goodKey keyKind keyStart keyLength lengthOf
+  goodKey-same o =
+      simp (typeByte-same k 1 o (omega arith) (omega arith), typeByte-same k 2 o (omega arith) (omega arith), typeByte-same k 3 o (omega arith) (omega arith),
+      typeByte-same k 4 o (omega arith) (omega arith))
+
+  pub zeros-same : 1 ≤ k → zeros (part a (8 * k + 5) 3) ≡ zeros (part b (8 * k + 5) 3)
+  zeros-same o =
+      zeros-three a (8 * k + 5)
+      ∙ (rw (same (8 * k + 5) (omega arith) (omega arith), same (8 * k + 5 + 1) (omega arith) (omega arith), same (8 * k + 5 + 2) (omega arith) (omega arith))
+      (sym (zeros-three b (8 * k + 5))))
+
+  module _ (low : Types.lower (par a) (k - 1) ≡ true) where
+    whole : 1 ≤ k → goodParent a k ≡ true → goodType a k ≡ goodType b k
+    unfolding goodType
+    whole o g =
+        simp (goodParent-same a b k par-same low, lengthOf-same k o (omega arith), goodKey-same o, zeros-same o, level-same a b k par-same low g)
+
+    -- the header does not count
+    pub goodType-entries : goodType a k ≡ goodType b k
+    goodType-entries = elim (is (goodParent a k)) [
+      | on g ↦ elim (side 0 k) [
+        | inside o ↦ whole (omega arith) g
+        | outside o ↦ (let z : k ≡ 0 = omega arith in rw z (type-no-parent a 0 (parent-zero a) ∙ sym (type-no-parent b 0 (parent-zero b))))
+      ]
+      | off g ↦ type-no-parent a k g ∙ sym (type-no-parent b k (sym (goodParent-same a b k par-same low) ∙ g))
+    ]
 
 -- the law
 pub goodType-same : (a b : Bytes) (k : ℕ) → Types.lower (par a) (k - 1) ≡ true → ((i : ℕ) → i < 8 * k + 8 → byte a i ≡ byte b i) → goodType a k ≡ goodType b k
-goodType-same a b zero low same = type-no-parent a 0 (parent-zero a) ∙ sym (type-no-parent b 0 (parent-zero b))
-goodType-same a b (suc k) low same = elim (is (goodParent a (suc k))) [
-  | on g ↦ whole a b k low same g
-  | off g ↦ type-no-parent a (suc k) g ∙ sym (type-no-parent b (suc k) (sym (goodParent-same a b (suc k) same low) ∙ g))
-]
+goodType-same a b k low same = goodType-entries a b k (λ i l m. same i m) low
