@@ -47,6 +47,15 @@ zeros-three b i =
     let z : i + 0 ≡ i = omega arith in
     zeros-first (drop i b) ∙ simp (getD-drop, z)
 
+-- those that end the entry of a type
+pub ending-zeros : (b : Bytes) (k : ℕ)
+    → zeros (part b (8 * k + 5) 3) ≡ (eqb (typeByte b (code k) 5) 0 && (eqb (typeByte b (code k) 6) 0 && eqb (typeByte b (code k) 7) 0))
+unfolding typeByte
+ending-zeros b k =
+    let y : 8 * k + 5 + 1 ≡ 8 * k + 6 = omega arith in
+    let z : 8 * k + 5 + 2 ≡ 8 * k + 7 = omega arith in
+    zeros-three b (8 * k + 5) ∙ rw (y, z)
+
 -- no type 0 has a parent
 parent-zero : (cat : Bytes) → goodParent cat 0 ≡ false
 unfolding goodParent lineage Types.lineage Types.lineageFrom
@@ -118,31 +127,26 @@ module _ (a b : Bytes) (k : ℕ) (same : (u : ℕ) → 1 ≤ u → u ≤ k → p
     unfolding level
     level-same g = ap length (lineage-same k k (omega arith) (lower-on a k low g) (omega arith))
 
--- two blocks with the same bytes from the first entry up to the end of the entry of type k
-module _ (a b : Bytes) (k : ℕ) (same : (i : ℕ) → 8 ≤ i → i < 8 * k + 8 → byte a i ≡ byte b i) where
-  pub typeByte-same : (u j : ℕ) → 1 ≤ u → u ≤ k → j < 8 → typeByte a (code u) j ≡ typeByte b (code u) j
-  unfolding typeByte
-  typeByte-same u j o l m = same (8 * u + j) (omega arith) (omega arith)
-
+-- two blocks with the same entries up to type k
+module _ (a b : Bytes) (k : ℕ) (same : (u j : ℕ) → 1 ≤ u → u ≤ k → j < 8 → typeByte a (code u) j ≡ typeByte b (code u) j) where
   pub par-same : (u : ℕ) → 1 ≤ u → u ≤ k → par a u ≡ par b u
   unfolding parentOf
-  par-same u o l = typeByte-same u 0 o l (omega arith)
+  par-same u o l = same u 0 o l (omega arith)
 
   pub lengthOf-same : (u : ℕ) → 1 ≤ u → u ≤ k → lengthOf a (code u) ≡ lengthOf b (code u)
   unfolding lengthOf
-  lengthOf-same u o l = typeByte-same u 1 o l (omega arith)
+  lengthOf-same u o l = same u 1 o l (omega arith)
 
   pub goodKey-same : 1 ≤ k → goodKey a (code k) ≡ goodKey b (code k)
   unfolding goodKey keyKind keyStart keyLength lengthOf
   goodKey-same o =
-      simp (typeByte-same k 1 o (omega arith) (omega arith), typeByte-same k 2 o (omega arith) (omega arith), typeByte-same k 3 o (omega arith) (omega arith),
-      typeByte-same k 4 o (omega arith) (omega arith))
+      simp (same k 1 o (omega arith) (omega arith), same k 2 o (omega arith) (omega arith), same k 3 o (omega arith) (omega arith),
+      same k 4 o (omega arith) (omega arith))
 
   pub zeros-same : 1 ≤ k → zeros (part a (8 * k + 5) 3) ≡ zeros (part b (8 * k + 5) 3)
   zeros-same o =
-      zeros-three a (8 * k + 5)
-      ∙ (rw (same (8 * k + 5) (omega arith) (omega arith), same (8 * k + 5 + 1) (omega arith) (omega arith), same (8 * k + 5 + 2) (omega arith) (omega arith))
-      (sym (zeros-three b (8 * k + 5))))
+      ending-zeros a k
+      ∙ (rw (same k 5 o (omega arith) (omega arith), same k 6 o (omega arith) (omega arith), same k 7 o (omega arith) (omega arith)) (sym (ending-zeros b k)))
 
   module _ (low : Types.lower (par a) (k - 1) ≡ true) where
     whole : 1 ≤ k → goodParent a k ≡ true → goodType a k ≡ goodType b k
@@ -150,7 +154,6 @@ module _ (a b : Bytes) (k : ℕ) (same : (i : ℕ) → 8 ≤ i → i < 8 * k + 8
     whole o g =
         simp (goodParent-same a b k par-same low, lengthOf-same k o (omega arith), goodKey-same o, zeros-same o, level-same a b k par-same low g)
 
-    -- the header does not count
     pub goodType-entries : goodType a k ≡ goodType b k
     goodType-entries = elim (is (goodParent a k)) [
       | on g ↦ elim (side 0 k) [
@@ -160,6 +163,23 @@ module _ (a b : Bytes) (k : ℕ) (same : (i : ℕ) → 8 ≤ i → i < 8 * k + 8
       | off g ↦ type-no-parent a k g ∙ sym (type-no-parent b k (sym (goodParent-same a b k par-same low) ∙ g))
     ]
 
+-- a good entry that gets another key
+module _ (a b : Bytes) (k : ℕ) (same : (u : ℕ) → 1 ≤ u → u ≤ k → par a u ≡ par b u) (low : Types.lower (par a) (k - 1) ≡ true) where
+  pub goodType-keyed : goodType a k ≡ true → lengthOf a (code k) ≡ lengthOf b (code k) → goodKey b (code k) ≡ true → zeros (part b (8 * k + 5) 3) ≡ true
+      → goodType b k ≡ true
+  unfolding goodType
+  goodType-keyed g l e z =
+      let p =
+      six (goodParent a k) (leb 1 (lengthOf a (code k))) (leb (lengthOf a (code k)) 120) (goodKey a (code k)) (zeros (part a (8 * k + 5) 3))
+      (leb (level a (code k)) 15) g in
+      rw (← goodParent-same a b k same low, ← level-same a b k same low (p .0), ← l, p .0, p .1, p .2, e, z, p .5)
+
+-- the same by bytes: those of the header do not count
+pub goodType-from : (a b : Bytes) (k : ℕ) → Types.lower (par a) (k - 1) ≡ true → ((i : ℕ) → 8 ≤ i → i < 8 * k + 8 → byte a i ≡ byte b i)
+    → goodType a k ≡ goodType b k
+unfolding typeByte
+goodType-from a b k low same = goodType-entries a b k (λ u j o l m. same (8 * u + j) (omega arith) (omega arith)) low
+
 -- the law
 pub goodType-same : (a b : Bytes) (k : ℕ) → Types.lower (par a) (k - 1) ≡ true → ((i : ℕ) → i < 8 * k + 8 → byte a i ≡ byte b i) → goodType a k ≡ goodType b k
-goodType-same a b k low same = goodType-entries a b k (λ i l m. same i m) low
+goodType-same a b k low same = goodType-from a b k low (λ i l m. same i m)
