@@ -1,3 +1,4 @@
 pub mod Filled
 pub mod Words
 pub mod Apart
+pub mod Blocks
