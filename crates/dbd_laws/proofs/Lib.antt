@@ -2,3 +2,4 @@ pub mod Filled
 pub mod Words
 pub mod Apart
 pub mod Blocks
+pub mod Sound
