@@ -3,3 +3,5 @@ pub mod Words
 pub mod Apart
 pub mod Blocks
 pub mod Sound
+pub mod TypeMore
+pub mod FieldMore
