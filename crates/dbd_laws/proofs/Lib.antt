@@ -5,3 +5,4 @@ pub mod Blocks
 pub mod Sound
 pub mod TypeMore
 pub mod FieldMore
+pub mod Reached
