@@ -6,3 +6,5 @@ pub mod Sound
 pub mod TypeMore
 pub mod FieldMore
 pub mod Reached
+pub mod Given
+pub mod Accepted
