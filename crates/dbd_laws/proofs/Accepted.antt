@@ -1,12 +1,10 @@
 -- What the reader gives is a good catalogue, and the writer accepts it (R84). Assumes nothing.
-use mathlib.Core.Path.{_≡_, refl, ap, sym, _∙_}
-use mathlib.Core.Bool.{true}
-use Rattle.rules.specs.Block.{Bytes}
+use mathlib.Core.Path.{_≡_, ap, _∙_}
 use Rattle.rules.specs.Catalogue.{goodCatalogue}
 use Rattle.statements.specs.Draft.{Draft, catalogueOf, namesOf}
-use Rattle.statements.specs.Dbd.{Reading, given, dbdRead, couldGive}
+use Rattle.statements.specs.Dbd.{Reading, given, dbdRead}
 use Rattle.dbd_laws.specs.RoundTrip.{GivesGood, AcceptsGiven}
-use Rattle.dbd_laws.proofs.Reached.{Reached, text-reached}
+use Rattle.dbd_laws.proofs.Reached.{text-reached}
 use Rattle.dbd_laws.proofs.Given.{catalogue-good, could-give}
 
 given-blocks : (d : Draft) (r : Reading) → r ≡ given d → (r .catalogue ≡ catalogueOf d) × (r .names ≡ namesOf d)

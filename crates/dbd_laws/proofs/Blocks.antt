@@ -2,7 +2,7 @@
 use mathlib.Core.Path.{_≡_, refl, ap, sym, _∙_}
 use mathlib.Core.Bool.{true}
 use mathlib.Core.List.{List, [], _∷_, _++_, append-assoc, append-nil}
-use Prim.Native.Nat.{ℕ, zero, suc, _+_, _-_, _*_, _<_, _≤_}
+use Prim.Native.Nat.{ℕ, suc, _+_, _*_, _<_}
 use native.Mathlib.Omega.{arith}
 use lib.ListN.{length, getD, drop, length-append}
 use lib.Seq.{drop-at, drop-drop}
@@ -124,5 +124,11 @@ module _ (d : Draft) where
     pub names-length : length (namesOf d) ≡ 16 + 8 * length (d .segmentNames) + 8 * length (d .fieldNames)
     unfolding namesOf header
     names-length =
-        omega (arith, base, length-append (d .base ++ joinedRow (d .segmentNames)) (joinedRow (d .fieldNames)), length-append (d .base) (joinedRow (d .segmentNames)),
-        joined-length 8 (d .segmentNames) segments, joined-length 8 (d .fieldNames) names)
+        omega (
+          arith,
+          base,
+          length-append (d .base ++ joinedRow (d .segmentNames)) (joinedRow (d .fieldNames)),
+          length-append (d .base) (joinedRow (d .segmentNames)),
+          joined-length 8 (d .segmentNames) segments,
+          joined-length 8 (d .fieldNames) names,
+        )

@@ -1,10 +1,10 @@
 -- One field more, with or without a key, keeps a draft sound. Assumes nothing.
-use mathlib.Core.Path.{_≡_, refl, ap, sym, _∙_, subst}
-use mathlib.Core.Bool.{Bool, true, false, _&&_}
+use mathlib.Core.Path.{_≡_, refl, ap, sym, _∙_}
+use mathlib.Core.Bool.{true, false}
 use mathlib.Core.List.{List, [], _∷_, _++_}
 use Prim.Native.Nat.{ℕ, zero, suc, _+_, _-_, _*_, _<_, _≤_}
 use native.Mathlib.Omega.{arith}
-use lib.Dec.{leb, eqb}
+use lib.Dec.{eqb}
 use lib.ListN.{length, getD, take, length-append, List·getD-append}
 use lib.Seq.{getD-append-seam}
 use borrow.Author.Tests.{le-leb, ne-eqb, eqb-true}
@@ -16,10 +16,10 @@ use Rattle.rules.specs.Block.{Bytes, byte, part, zeros}
 use Rattle.rules.specs.Catalogue.{typeByte, lengthOf, keyKind, keyStart, keyLength, goodSpan, goodKey, goodType, goodField}
 use Rattle.statements.specs.Draft.{Draft, catalogueOf, has, ownNames, withKey, withField}
 use Rattle.statements.specs.Dbd.{goodName, distinct}
-use Rattle.statements.proofs.Joined.{All, Wide, all-at, all-of, all-snoc, all-mono}
+use Rattle.statements.proofs.Joined.{Wide, all-at, all-of, all-snoc, all-mono}
 use Rattle.statements.proofs.Frame.{ending-zeros, lower-each, goodType-keyed}
 use Rattle.dbd_laws.proofs.Apart.{distinct-snoc, own-snoc-in, own-snoc-out}
-use Rattle.dbd_laws.proofs.Blocks.{T, F}
+use Rattle.dbd_laws.proofs.Blocks.{T}
 use Rattle.dbd_laws.proofs.Sound.{Fits, Listed, Sound, type-byte-at, goes-on, parents-same, field-fits, listed-more}
 
 -- the entries when the last one gets its key
@@ -63,10 +63,21 @@ module _ (kind start long : ℕ) where
   pub key-bytes : (e : Bytes) → length e ≡ 8 → Keyed e
   key-bytes [] l = absurd (omega arith)
   key-bytes (x ∷ []) l = absurd (omega arith)
-  key-bytes (x ∷ y ∷ e) l = record { sized = refl; first = refl; second = refl; kind-is = refl; start-is = refl; long-is = refl; fifth = refl; sixth = refl; seventh = refl }
+  key-bytes (x ∷ y ∷ e) l = record {
+    sized = refl;
+    first = refl;
+    second = refl;
+    kind-is = refl;
+    start-is = refl;
+    long-is = refl;
+    fifth = refl;
+    sixth = refl;
+    seventh = refl;
+  }
 
 -- fields whose types keep their count and their lengths
-fits-as : (ts us : List Bytes) → length us ≡ length ts → ((i : ℕ) → i < length ts → byte (getD us i []) 1 ≡ byte (getD ts i []) 1) → (f : Bytes) → Fits ts f → Fits us f
+fits-as : (ts us : List Bytes) → length us ≡ length ts → ((i : ℕ) → i < length ts → byte (getD us i []) 1 ≡ byte (getD ts i []) 1)
+    → (f : Bytes) → Fits ts f → Fits us f
 fits-as ts us l same f h =
     let e : byte (getD us (byte f 0 - 1) []) 1 ≡ byte (getD ts (byte f 0 - 1) []) 1 = same (byte f 0 - 1) (omega (arith, h .least, h .most)) in
     record {
@@ -159,7 +170,8 @@ module _ (d : Draft) (s : Sound d) (n : Bytes) (start long : ℕ) where
       (λ k a b. goes-on d plain (s .wide-types) (s .wide-types) k b b (λ i m. refl) (λ u o m. s .each-type u o (omega arith)) a)
       (λ i l m. listed-more (d .fields) (T d ∷ start ∷ long ∷ 0 ∷ []) (suc i) _ _ (s .keyed i l m))
 
-key-good : (cat : Bytes) (t : TypeCode) → 0 < keyKind cat t → keyKind cat t ≤ 2 → goodSpan (keyStart cat t) (keyLength cat t) (lengthOf cat t) ≡ true → goodKey cat t ≡ true
+key-good : (cat : Bytes) (t : TypeCode) → 0 < keyKind cat t → keyKind cat t ≤ 2 → goodSpan (keyStart cat t) (keyLength cat t) (lengthOf cat t) ≡ true
+    → goodKey cat t ≡ true
 unfolding goodKey
 key-good cat t a b g = rw (ne-eqb (keyKind cat t) 0 (λ z. omega arith), le-leb (keyKind cat t) 2 b, g)
 
@@ -221,7 +233,8 @@ module _ (d : Draft) (s : Sound d) (n : Bytes) (kind start long : ℕ) (some : 0
         let a : typeByte cat (code (T d)) 2 ≡ kind = last-byte 2 (omega arith) ∙ facts .kind-is in
         let b : typeByte cat (code (T d)) 3 ≡ start = last-byte 3 (omega arith) ∙ facts .start-is in
         let e : typeByte cat (code (T d)) 4 ≡ long = last-byte 4 (omega arith) ∙ facts .long-is in
-        let f : typeByte cat (code (T d)) 1 ≡ byte (getD us top []) 1 = type-byte-at keyDraft wide-us (T d) 1 (omega arith) (omega (arith, count-us)) (omega arith) in
+        let f : typeByte cat (code (T d)) 1 ≡ byte (getD us top []) 1 =
+        type-byte-at keyDraft wide-us (T d) 1 (omega arith) (omega (arith, count-us)) (omega arith) in
         key-good cat (code (T d)) (omega arith) (omega arith) (rw (b, e, f) (fits .span))
 
     ends : zeros (part cat (8 * T d + 5) 3) ≡ true
@@ -244,7 +257,8 @@ module _ (d : Draft) (s : Sound d) (n : Bytes) (kind start long : ℕ) (some : 0
 
     every-type : (k : ℕ) → 1 ≤ k → k ≤ length us → goodType cat k ≡ true
     every-type k a b = elim (side k (T d)) [
-      | inside h ↦ goes-on d keyDraft (s .wide-types) wide-us k (omega arith) b (λ i m. sym (same-before i (omega arith))) (λ u o m. s .each-type u o (omega arith)) a
+      | inside h ↦ goes-on d keyDraft (s .wide-types) wide-us k (omega arith) b (λ i m. sym (same-before i (omega arith)))
+          (λ u o m. s .each-type u o (omega arith)) a
       | outside h ↦ (let z : k ≡ T d = omega (arith, count-us) in rw z last-good)
     ]
 
@@ -256,7 +270,7 @@ module _ (d : Draft) (s : Sound d) (n : Bytes) (kind start long : ℕ) (some : 0
         let z : i ≡ top = omega (arith, count-us) in
         let e : getD us i [] ≡ withKeyBytes kind start long (getD (d .types) top []) = rw z last-one in
         let f : getD (d .fields ++ ((T d ∷ start ∷ long ∷ 0 ∷ []) ∷ [])) (length (d .fields)) [] ≡ T d ∷ start ∷ long ∷ 0 ∷ []
-            = getD-append-seam (d .fields) (T d ∷ start ∷ long ∷ 0 ∷ []) [] [] in
+        = getD-append-seam (d .fields) (T d ∷ start ∷ long ∷ 0 ∷ []) [] [] in
         λ m. record {
           place = length (d .fields);
           there = omega (arith, length-append (d .fields) ((T d ∷ start ∷ long ∷ 0 ∷ []) ∷ []));
@@ -277,7 +291,8 @@ field-plain : (d : Draft) (s : Sound d) (n : Bytes) (long start : ℕ) → withF
 unfolding withField
 field-plain d s n long start = refl
 
-field-keyed : (d : Draft) (s : Sound d) (n : Bytes) (k long start : ℕ) → withField d n (suc k) long start ≡ next d s n start long (withKey (suc k) start long (d .types))
+field-keyed : (d : Draft) (s : Sound d) (n : Bytes) (k long start : ℕ)
+    → withField d n (suc k) long start ≡ next d s n start long (withKey (suc k) start long (d .types))
 unfolding withField
 field-keyed d s n k long start = rw (withField, ne-eqb (suc k) 0 (λ z. omega arith))
 

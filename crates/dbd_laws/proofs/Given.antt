@@ -1,26 +1,29 @@
 -- The two blocks of a sound draft with a type are a pair that the writer accepts. Assumes nothing.
-use mathlib.Core.Path.{_≡_, refl, ap, sym, _∙_, subst}
+use mathlib.Core.Path.{_≡_, refl, ap, sym, _∙_}
 use mathlib.Core.Bool.{Bool, true, false, _&&_, _||_}
-use mathlib.Core.List.{List, [], _∷_, _++_}
+use mathlib.Core.List.{List, [], _∷_}
 use Prim.Native.Nat.{ℕ, zero, suc, _+_, _-_, _*_, _<_, _≤_}
 use native.Mathlib.Omega.{arith}
 use lib.Dec.{ltb, leb, eqb}
 use lib.ListN.{length, getD, length-append}
-use borrow.Author.Tests.{lt-ltb, le-leb, eq-eqb, ne-eqb, eqb-true, eqb-false}
+use borrow.Author.Tests.{lt-ltb, le-leb, eq-eqb, eqb-false}
 use Rattle.terms.specs.Names.{code, field}
 use Rattle.forest.specs.Forest.{inside, outside, side}
 use Rattle.forest.specs.Good.{on, off, is}
 use Rattle.forest.specs.Numbers.{range}
 use Rattle.rules.specs.Block.{Bytes, byte, word, part, every, zeros, marked}
-use Rattle.rules.specs.Catalogue.{types, fields, typeByte, lengthOf, keyKind, keyStart, keyLength, fieldByte, fieldType, fieldStart, fieldLength, level, goodKey, goodParent, goodType, goodField, goodHeader, goodCatalogue}
+use Rattle.rules.specs.Catalogue.{types, fields, typeByte, lengthOf, keyKind, keyStart, keyLength, fieldByte, fieldType, fieldStart, fieldLength, level}
+use Rattle.rules.specs.Catalogue.{goodKey, goodParent, goodType, goodField, goodHeader, goodCatalogue}
 use Rattle.rules.proofs.Every.{every-in}
 use Rattle.rules.proofs.Joined.{six}
 use Rattle.statements.specs.Draft.{Draft, header, catalogueOf, namesOf, rows, ownNames}
-use Rattle.statements.specs.Dbd.{nameAt, goodName, distinct, firstOf, those, ownFields, isKeyOf, keyField, isPlain, goodNames, differ, ascending, keysListed, couldGive}
+use Rattle.statements.specs.Dbd.{nameAt, goodName, distinct, firstOf, those, ownFields, isKeyOf, keyField}
+use Rattle.statements.specs.Dbd.{isPlain, goodNames, differ, ascending, keysListed, couldGive}
 use Rattle.statements.proofs.Words.{clash}
 use Rattle.statements.proofs.Joined.{All, Wide, all-at, all-append, all-mono}
 use Rattle.dbd_laws.proofs.Filled.{name-length}
-use Rattle.dbd_laws.proofs.Blocks.{T, F, types-are, fields-are, catalogue-ends, catalogue-marked, names-marked, names-header, allNames, field-byte, fields-rows, catalogue-length, name-at, segments-rows, names-rows, names-length}
+use Rattle.dbd_laws.proofs.Blocks.{T, F, types-are, fields-are, catalogue-ends, catalogue-marked, names-marked, names-header, allNames}
+use Rattle.dbd_laws.proofs.Blocks.{field-byte, fields-rows, catalogue-length, name-at, segments-rows, names-rows, names-length}
 use Rattle.dbd_laws.proofs.Sound.{Fits, Listed, Sound, type-byte-at, fits-field}
 
 every-none : (p : ℕ → Bool) → every p [] ≡ true
@@ -30,7 +33,8 @@ every-none p = refl
 -- what holds of each number of a range
 pub every-range : (p : ℕ → Bool) (i n : ℕ) → ((u : ℕ) → i ≤ u → u < i + n → p u ≡ true) → every p (range i n) ≡ true
 every-range p i zero f = every-none p
-every-range p i (suc n) f = every-in p i (range (suc i) n) (f i (omega arith) (omega arith)) ∙ every-range p (suc i) n (λ u a b. f u (omega arith) (omega arith))
+every-range p i (suc n) f =
+    every-in p i (range (suc i) n) (f i (omega arith) (omega arith)) ∙ every-range p (suc i) n (λ u a b. f u (omega arith) (omega arith))
 
 two-on : (a b : Bool) → a ≡ true → b ≡ true → (a && b) ≡ true
 two-on a b e f = rw (e, f)
@@ -232,8 +236,10 @@ module _ (d : Draft) (s : Sound d) (some : 0 < T d) where
         let w = field-byte d (s .wide-types) (s .wide-fields) in
         let f : ℕ = suc (h .place) in
         let a : fieldByte cat (field f) 0 ≡ suc i = w (h .place) 0 (h .there) (omega arith) ∙ h .type-of in
-        let b : fieldByte cat (field f) 1 ≡ typeByte cat (code (suc i)) 3 = w (h .place) 1 (h .there) (omega arith) ∙ h .start-of ∙ sym (type-says 3 (omega arith)) in
-        let c : fieldByte cat (field f) 2 ≡ typeByte cat (code (suc i)) 4 = w (h .place) 2 (h .there) (omega arith) ∙ h .long-of ∙ sym (type-says 4 (omega arith)) in
+        let b : fieldByte cat (field f) 1 ≡ typeByte cat (code (suc i)) 3 =
+        w (h .place) 1 (h .there) (omega arith) ∙ h .start-of ∙ sym (type-says 3 (omega arith)) in
+        let c : fieldByte cat (field f) 2 ≡ typeByte cat (code (suc i)) 4 =
+        w (h .place) 2 (h .there) (omega arith) ∙ h .long-of ∙ sym (type-says 4 (omega arith)) in
         first-there (isKeyOf cat (suc i)) (λ g. eqb (fieldType cat (field g) .0) (suc i)) 1 (fields cat) f (omega arith) (omega arith)
         (omega (arith, h .there, fields-are d)) (eq-eqb (fieldByte cat (field f) 0) (suc i) a)
         (two-on (eqb (fieldByte cat (field f) 1) (typeByte cat (code (suc i)) 3)) (eqb (fieldByte cat (field f) 2) (typeByte cat (code (suc i)) 4))

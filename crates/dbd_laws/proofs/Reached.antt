@@ -2,13 +2,12 @@
 use mathlib.Core.Path.{_≡_, refl, ap, sym, _∙_, subst}
 use mathlib.Core.Bool.{Bool, true, false, _&&_, _||_, not}
 use mathlib.Core.Option.{Option, none, some}
-use mathlib.Core.List.{List, [], _∷_, _++_}
-use Prim.Native.Nat.{ℕ, zero, suc, _+_, _<_, _≤_}
+use mathlib.Core.List.{List, [], _∷_}
+use Prim.Native.Nat.{ℕ, suc, _<_, _≤_}
 use native.Mathlib.Omega.{arith}
 use lib.Dec.{ltb, leb, eqb}
 use lib.ListN.{length}
 use borrow.Author.Tests.{ltb-true, leb-true, eqb-false}
-use Rattle.terms.specs.Choice.{pick}
 use Rattle.forest.specs.Forest.{inside, outside, side}
 use Rattle.forest.specs.Good.{on, off, is}
 use Rattle.rules.specs.Block.{Bytes, sameBytes}
@@ -17,7 +16,8 @@ use Rattle.rules.proofs.Joined.{two}
 use Rattle.statements.specs.Words.{Token, isName, filled, tokens}
 use Rattle.statements.specs.Lines.{linesOf}
 use Rattle.statements.specs.Statement.{Statement, dbd, segm, field, noParent, statementOf}
-use Rattle.statements.specs.Draft.{Draft, blank, catalogueOf, placeOf, has, ownNames, withType, withField, Fault, misplaced, twice, orphan, unruled, faultNumber, Taken, goes, bad, ruledType, ruledField, begun, isKeyed, taken, takenIf, lineTaken}
+use Rattle.statements.specs.Draft.{Draft, blank, catalogueOf, placeOf, has, ownNames, withType, withField}
+use Rattle.statements.specs.Draft.{Fault, misplaced, twice, orphan, unruled, faultNumber, Taken, goes, bad, ruledType, ruledField, begun, isKeyed, taken, takenIf, lineTaken}
 use Rattle.statements.specs.Dbd.{Reading, refused, given, ended, readFrom, dbdRead}
 use Rattle.statements.proofs.Words.{clash}
 use Rattle.dbd_laws.proofs.Filled.{name-word, filled-length, name-filled}
@@ -98,7 +98,8 @@ module _ (d : Draft) (n p : Bytes) (l : ℕ) where
   unfolding taken
   segm-twice a b = rw (taken, a, b)
 
-  segm-orphan : wrong ≡ false → has (filled n) (d .segmentNames) ≡ false → (not (sameBytes p noParent) && eqb above 0) ≡ true → taken d (segm n p l) ≡ bad orphan
+  segm-orphan : wrong ≡ false → has (filled n) (d .segmentNames) ≡ false → (not (sameBytes p noParent) && eqb above 0) ≡ true
+      → taken d (segm n p l) ≡ bad orphan
   unfolding taken
   segm-orphan a b c = rw (taken, a, b, c)
 

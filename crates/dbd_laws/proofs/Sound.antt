@@ -1,16 +1,15 @@
 -- What holds of every draft that the reader reaches, by its rows, and of the draft before the first line and behind DBD. Assumes nothing.
-use mathlib.Core.Path.{_≡_, refl, ap, sym, _∙_, subst}
-use mathlib.Core.Bool.{Bool, true, false, _&&_}
+use mathlib.Core.Path.{_≡_, refl, ap, sym, _∙_}
+use mathlib.Core.Bool.{true, _&&_}
 use mathlib.Core.List.{List, [], _∷_, _++_}
-use Prim.Native.Nat.{ℕ, zero, suc, _+_, _-_, _*_, _<_, _≤_}
+use Prim.Native.Nat.{ℕ, zero, suc, _+_, _-_, _<_, _≤_}
 use native.Mathlib.Omega.{arith}
 use lib.Dec.{leb, eqb}
 use lib.ListN.{length, getD, length-append, List·getD-append}
-use borrow.Author.Tests.{leb-true, le-leb, eqb-true, eq-eqb}
+use borrow.Author.Tests.{leb-true, le-leb, eqb-true}
 use Rattle.terms.specs.Names.{code, field}
-use Rattle.forest.specs.Types as Types
 use Rattle.rules.specs.Block.{Bytes, byte}
-use Rattle.rules.specs.Catalogue.{types, typeByte, parentOf, lengthOf, fieldByte, fieldType, fieldStart, fieldLength, isType, goodSpan, goodType, goodField}
+use Rattle.rules.specs.Catalogue.{types, typeByte, parentOf, lengthOf, fieldType, fieldStart, fieldLength, isType, goodSpan, goodType, goodField}
 use Rattle.rules.proofs.Catalogue.{par}
 use Rattle.rules.proofs.Joined.{two, three}
 use Rattle.statements.specs.Draft.{Draft, blank, catalogueOf, ownNames}
@@ -131,11 +130,17 @@ module _ (d : Draft) (wide : Wide 8 (d .types)) (short : Wide 4 (d .fields)) (i 
   entry = getD (d .fields) i []
 
   judged : goodField (catalogueOf d) (suc i)
-      ≡ ((leb 1 (byte entry 0) && leb (byte entry 0) (T d)) && goodSpan (byte entry 1) (byte entry 2) (typeByte (catalogueOf d) (code (byte entry 0)) 1) && eqb (byte entry 3) 0)
+      ≡ ((leb 1 (byte entry 0) && leb (byte entry 0) (T d)) && goodSpan (byte entry 1) (byte entry 2) (typeByte (catalogueOf d) (code (byte entry 0)) 1)
+      && eqb (byte entry 3) 0)
   unfolding goodField isType fieldType fieldStart fieldLength lengthOf
   judged =
-      rw (types-are d, field-byte d wide short i 0 l (omega arith), field-byte d wide short i 1 l (omega arith), field-byte d wide short i 2 l (omega arith),
-      field-byte d wide short i 3 l (omega arith))
+      rw (
+        types-are d,
+        field-byte d wide short i 0 l (omega arith),
+        field-byte d wide short i 1 l (omega arith),
+        field-byte d wide short i 2 l (omega arith),
+        field-byte d wide short i 3 l (omega arith),
+      )
 
   pub field-fits : goodField (catalogueOf d) (suc i) ≡ true → Fits (d .types) entry
   field-fits g =
@@ -153,8 +158,13 @@ module _ (d : Draft) (wide : Wide 8 (d .types)) (short : Wide 4 (d .fields)) (i 
   pub fits-field : Fits (d .types) entry → goodField (catalogueOf d) (suc i) ≡ true
   fits-field f =
       judged
-      ∙ rw (type-byte-at d wide (byte entry 0) 1 (f .least) (f .most) (omega arith), le-leb 1 (byte entry 0) (f .least), le-leb (byte entry 0) (T d) (f .most),
-      f .span, f .plain)
+      ∙ rw (
+        type-byte-at d wide (byte entry 0) 1 (f .least) (f .most) (omega arith),
+        le-leb 1 (byte entry 0) (f .least),
+        le-leb (byte entry 0) (T d) (f .most),
+        f .span,
+        f .plain,
+      )
 
 -- one field more
 pub listed-more : (fs : List Bytes) (f : Bytes) (k start long : ℕ) → Listed fs k start long → Listed (fs ++ (f ∷ [])) k start long

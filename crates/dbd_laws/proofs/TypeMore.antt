@@ -1,25 +1,25 @@
 -- One type more keeps a draft sound. Assumes nothing.
-use mathlib.Core.Path.{_≡_, refl, ap, sym, _∙_, subst}
-use mathlib.Core.Bool.{Bool, true, false}
+use mathlib.Core.Path.{_≡_, refl, ap, sym}
+use mathlib.Core.Bool.{true, false}
 use mathlib.Core.List.{List, [], _∷_, _++_}
-use Prim.Native.Nat.{ℕ, zero, suc, _+_, _-_, _*_, _<_, _≤_}
+use Prim.Native.Nat.{ℕ, suc, _-_, _<_, _≤_}
 use native.Mathlib.Omega.{arith}
 use lib.ListN.{length, getD, length-append, List·getD-append}
 use lib.Seq.{getD-append-seam}
 use Rattle.forest.specs.Forest.{inside, outside, side}
 use Rattle.rules.specs.Block.{Bytes, byte}
-use Rattle.rules.specs.Catalogue.{goodSpan, goodType}
+use Rattle.rules.specs.Catalogue.{goodType}
 use Rattle.statements.specs.Draft.{Draft, catalogueOf, has, withType}
 use Rattle.statements.specs.Dbd.{goodName}
-use Rattle.statements.proofs.Joined.{All, Wide, all-snoc, all-mono}
+use Rattle.statements.proofs.Joined.{Wide, all-snoc, all-mono}
 use Rattle.dbd_laws.proofs.Apart.{distinct-snoc}
-use Rattle.dbd_laws.proofs.Blocks.{T}
 use Rattle.dbd_laws.proofs.Sound.{Fits, Listed, Sound, goes-on}
 
 -- the fields of the types before
 fits-more : (ts : List Bytes) (x f : Bytes) → Fits ts f → Fits (ts ++ (x ∷ [])) f
 fits-more ts x f h =
-    let e : getD (ts ++ (x ∷ [])) (byte f 0 - 1) [] ≡ getD ts (byte f 0 - 1) [] = List·getD-append ts (x ∷ []) [] (byte f 0 - 1) (omega (arith, h .least, h .most)) in
+    let e : getD (ts ++ (x ∷ [])) (byte f 0 - 1) [] ≡ getD ts (byte f 0 - 1) [] =
+    List·getD-append ts (x ∷ []) [] (byte f 0 - 1) (omega (arith, h .least, h .most)) in
     record {
       least = h .least;
       most = omega (arith, length-append ts (x ∷ []), h .most);
@@ -57,7 +57,8 @@ module _ (d : Draft) (n : Bytes) (p l : ℕ) (s : Sound d) where
     every-type : (k : ℕ) → 1 ≤ k → k ≤ length (ts ++ (new ∷ [])) → goodType (catalogueOf next) k ≡ true
     every-type k a b = elim (side (length ts) k) [
       | inside h ↦ (let z : k ≡ length (ts ++ (new ∷ [])) = omega (arith, long) in rw z good)
-      | outside h ↦ goes-on d next (s .wide-types) wide k h b (λ i m. sym (List·getD-append ts (new ∷ []) [] i (omega arith))) (λ u o m. s .each-type u o (omega arith)) a
+      | outside h ↦ goes-on d next (s .wide-types) wide k h b (λ i m. sym (List·getD-append ts (new ∷ []) [] i (omega arith)))
+          (λ u o m. s .each-type u o (omega arith)) a
     ]
 
     pub sound-next : goodName n ≡ true → 0 < length (d .base) → has n (d .segmentNames) ≡ false → Sound next

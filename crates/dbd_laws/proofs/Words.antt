@@ -1,8 +1,8 @@
 -- The statement that a line is has names where names stand, and a kind of key of at most 2. Assumes nothing.
-use mathlib.Core.Path.{_≡_, refl, ap, sym, _∙_, subst}
+use mathlib.Core.Path.{_≡_, subst}
 use mathlib.Core.Bool.{Bool, true, false}
-use mathlib.Core.Option.{Option, none, some}
-use mathlib.Core.List.{List, [], _∷_, _++_}
+use mathlib.Core.Option.{none, some}
+use mathlib.Core.List.{List, [], _∷_}
 use Prim.Native.Nat.{ℕ, zero, suc, _<_, _≤_}
 use native.Mathlib.Omega.{arith}
 use lib.ListN.{length, getD}
@@ -10,7 +10,8 @@ use Rattle.terms.specs.Choice.{pick}
 use Rattle.forest.specs.Good.{on, off, is}
 use Rattle.rules.specs.Block.{Bytes, sameBytes}
 use Rattle.statements.specs.Words.{Token, word, sign, isName}
-use Rattle.statements.specs.Statement.{Statement, dbd, segm, field, Slot, name, parent, suits, marks, fits, formed, dbdForm, segmForm, spanForm, fieldForm, keyForm, wordIn, wordAt, kindOf, dbdOf, segmOf, fieldOf, keyOf, statementOf}
+use Rattle.statements.specs.Statement.{Statement, dbd, segm, field, Slot, name, parent, suits, marks, fits, formed}
+use Rattle.statements.specs.Statement.{dbdForm, segmForm, spanForm, fieldForm, keyForm, wordIn, wordAt, kindOf, dbdOf, segmOf, fieldOf, keyOf, statementOf}
 use Rattle.statements.proofs.Words.{clash}
 use Rattle.statements.proofs.Forms.{is-dbd, is-segm, is-field, is-key}
 
@@ -73,7 +74,8 @@ kind-most : (w : Bytes) → kindOf w ≤ 2
 unfolding kindOf
 kind-most w = one-of-two (sameBytes (0x55 ∷ []) w)
 
-is-none : (ts : List Token) → formed dbdForm ts ≡ false → formed segmForm ts ≡ false → formed fieldForm ts ≡ false → formed keyForm ts ≡ false → statementOf ts ≡ none
+is-none : (ts : List Token) → formed dbdForm ts ≡ false → formed segmForm ts ≡ false → formed fieldForm ts ≡ false → formed keyForm ts ≡ false
+    → statementOf ts ≡ none
 unfolding statementOf
 is-none ts a b c h = rw (statementOf, a, b, c, h)
 

@@ -7,7 +7,7 @@ use native.Mathlib.Omega.{arith}
 use lib.Dec.{leb, eqb}
 use lib.ListN.{length, getD, take, drop}
 use lib.Seq.{getD-drop}
-use borrow.Author.Tests.{lt-ltb, ne-eqb, le-leb}
+use borrow.Author.Tests.{lt-ltb}
 use Rattle.terms.specs.Choice.{pick}
 use Rattle.terms.specs.Names.{code}
 use Rattle.forest.specs.Forest.{inside, outside, side}
@@ -15,7 +15,7 @@ use Rattle.forest.specs.Good.{on, off, is}
 use Rattle.forest.specs.Numbers.{range, isIn}
 use Rattle.forest.specs.Types as Types
 use Rattle.rules.specs.Block.{Bytes, byte, part, every, zeros}
-use Rattle.rules.specs.Catalogue.{typeByte, parentOf, lengthOf, keyKind, keyStart, keyLength, lineage, level, goodSpan, goodKey, goodParent, goodType}
+use Rattle.rules.specs.Catalogue.{typeByte, parentOf, lengthOf, keyKind, keyStart, keyLength, lineage, level, goodKey, goodParent, goodType}
 use Rattle.rules.proofs.Catalogue.{par, parent-low}
 use Rattle.rules.proofs.Every.{every-in, every-out, every-at}
 use Rattle.rules.proofs.Joined.{six}
@@ -70,7 +70,8 @@ module _ (cat : Bytes) where
   pub type-parent : (k : ℕ) → goodType cat k ≡ true → goodParent cat k ≡ true
   unfolding goodType
   type-parent k h =
-      six (goodParent cat k) (leb 1 (lengthOf cat (code k))) (leb (lengthOf cat (code k)) 120) (goodKey cat (code k)) (zeros (part cat (8 * k + 5) 3)) (leb (level cat (code k)) 15) h .0
+      six (goodParent cat k) (leb 1 (lengthOf cat (code k))) (leb (lengthOf cat (code k)) 120) (goodKey cat (code k)) (zeros (part cat (8 * k + 5) 3))
+      (leb (level cat (code k)) 15) h .0
 
   -- so do the types up to k, where those before it do and k has a good parent
   pub lower-on : (k : ℕ) → Types.lower (par cat) (k - 1) ≡ true → goodParent cat k ≡ true → Types.lower (par cat) k ≡ true
@@ -140,8 +141,12 @@ module _ (a b : Bytes) (k : ℕ) (same : (u j : ℕ) → 1 ≤ u → u ≤ k →
   pub goodKey-same : 1 ≤ k → goodKey a (code k) ≡ goodKey b (code k)
   unfolding goodKey keyKind keyStart keyLength lengthOf
   goodKey-same o =
-      simp (same k 1 o (omega arith) (omega arith), same k 2 o (omega arith) (omega arith), same k 3 o (omega arith) (omega arith),
-      same k 4 o (omega arith) (omega arith))
+      simp (
+        same k 1 o (omega arith) (omega arith),
+        same k 2 o (omega arith) (omega arith),
+        same k 3 o (omega arith) (omega arith),
+        same k 4 o (omega arith) (omega arith),
+      )
 
   pub zeros-same : 1 ≤ k → zeros (part a (8 * k + 5) 3) ≡ zeros (part b (8 * k + 5) 3)
   zeros-same o =

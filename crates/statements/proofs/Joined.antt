@@ -1,11 +1,11 @@
 -- A joined row of entries of one width: its rows are the entries, and its bytes are theirs. Assumes nothing.
 use mathlib.Core.Path.{_≡_, refl, ap, sym, _∙_}
 use mathlib.Core.List.{List, [], _∷_, _++_, append-assoc, append-nil}
-use Prim.Native.Nat.{ℕ, zero, suc, _+_, _-_, _*_, _<_, _≤_}
+use Prim.Native.Nat.{ℕ, zero, suc, _+_, _*_, _<_}
 use native.Mathlib.Omega.{arith}
 use native.Mathlib.Nat.{mul-suc}
 use lib.ListN.{length, getD, take, drop, length-append, List·getD-append}
-use lib.Seq.{take-at, drop-at, getD-append-add, getD-append-seam, getD-drop, drop-drop, take-append-le}
+use lib.Seq.{take-at, drop-at, getD-append-add, getD-drop, drop-drop}
 use Rattle.rules.specs.Block.{Bytes, byte, part}
 use Rattle.statements.specs.Draft.{joinedRow, rows}
 
@@ -81,7 +81,8 @@ module _ (w : ℕ) (post : Bytes) where
 
   -- the row stands at byte i of a block
   module _ (b : Bytes) (i : ℕ) where
-    pub row-byte : (xs : List Bytes) → Wide w xs → drop i b ≡ joinedRow xs ++ post → (k j : ℕ) → k < length xs → j < w → byte b (i + (w * k + j)) ≡ byte (getD xs k []) j
+    pub row-byte : (xs : List Bytes) → Wide w xs → drop i b ≡ joinedRow xs ++ post → (k j : ℕ) → k < length xs → j < w
+        → byte b (i + (w * k + j)) ≡ byte (getD xs k []) j
     row-byte xs h e k j l m = sym (getD-drop i b (w * k + j) 0) ∙ ap (λ (c : Bytes). byte c (w * k + j)) e ∙ joined-byte xs h k j l m
 
     pub row-part : (xs : List Bytes) → Wide w xs → drop i b ≡ joinedRow xs ++ post → (k : ℕ) → k < length xs → part b (i + w * k) w ≡ getD xs k []
