@@ -17,7 +17,8 @@ use Rattle.statements.specs.Words.{Token, isName, filled, tokens}
 use Rattle.statements.specs.Lines.{linesOf}
 use Rattle.statements.specs.Statement.{Statement, dbd, segm, field, noParent, statementOf}
 use Rattle.statements.specs.Draft.{Draft, blank, catalogueOf, placeOf, has, ownNames, withType, withField}
-use Rattle.statements.specs.Draft.{Fault, misplaced, twice, orphan, unruled, faultNumber, Taken, goes, bad, ruledType, ruledField, begun, isKeyed, taken, takenIf, lineTaken}
+use Rattle.statements.specs.Draft.{Fault, misplaced, twice, orphan, unruled, faultNumber}
+use Rattle.statements.specs.Draft.{Taken, goes, bad, ruledType, ruledField, begun, isKeyed, taken, takenIf, lineTaken}
 use Rattle.statements.specs.Dbd.{Reading, refused, given, ended, readFrom, dbdRead}
 use Rattle.statements.proofs.Words.{clash}
 use Rattle.dbd_laws.proofs.Filled.{name-word, filled-length, name-filled}
