@@ -6,3 +6,13 @@ pub mod AgainTaken
 pub mod AgainSegment
 pub mod AgainField
 pub mod Again
+pub mod Filled
+pub mod Words
+pub mod Apart
+pub mod Blocks
+pub mod Sound
+pub mod TypeMore
+pub mod FieldMore
+pub mod Reached
+pub mod Given
+pub mod Accepted
