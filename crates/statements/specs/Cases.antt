@@ -234,6 +234,7 @@ nameCases =
     ∷ refuses (bytesOf "DBD NAME=P\nSEGM NAME=Q,PARENT=0,BYTES=" ++ replicate 300 0x39) 20 2
     ∷ refuses (only "DBD NAME=ABCDEFGHI\n") 1 1
     ∷ refuses (only "DBD NAME=1Q\n") 1 1
+    ∷ refuses (bytesOf "DBD NAME=P\nSEGM NAME=Q,PARENT=0,BYTES=340282366920938463463374607431768211468\n") 20 2
     ∷ []
 
 -- R76: no operand twice or left out; 00 is no parent; a name in brackets; other operands
