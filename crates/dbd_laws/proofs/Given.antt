@@ -21,7 +21,7 @@ use Rattle.statements.specs.Dbd.{nameAt, goodName, distinct, firstOf, those, ow
 use Rattle.statements.specs.Dbd.{isPlain, goodNames, differ, ascending, keysListed, couldGive}
 use Rattle.statements.proofs.Words.{clash}
 use Rattle.statements.proofs.Joined.{All, Wide, all-at, all-append, all-mono}
-use Rattle.dbd_laws.proofs.Filled.{name-length}
+use Rattle.statements.proofs.Named.{name-long}
 use Rattle.dbd_laws.proofs.Blocks.{T, F, types-are, fields-are, catalogue-ends, catalogue-marked, names-marked, names-header, allNames}
 use Rattle.dbd_laws.proofs.Blocks.{field-byte, fields-rows, catalogue-length, name-at, segments-rows, names-rows, names-length}
 use Rattle.dbd_laws.proofs.Sound.{Fits, Listed, Sound, type-byte-at, fits-field}
@@ -95,13 +95,13 @@ module _ (d : Draft) (s : Sound d) (some : 0 < T d) where
   base-good = s .based (s .begins some)
 
   base-long : length (d .base) ≡ 8
-  base-long = name-length (d .base) base-good
+  base-long = name-long (d .base) base-good
 
   segments-wide : Wide 8 (d .segmentNames)
-  segments-wide = all-mono (λ n. goodName n ≡ true) (λ n. length n ≡ 8) name-length (d .segmentNames) (s .good-segments)
+  segments-wide = all-mono (λ n. goodName n ≡ true) (λ n. length n ≡ 8) name-long (d .segmentNames) (s .good-segments)
 
   names-wide : Wide 8 (d .fieldNames)
-  names-wide = all-mono (λ n. goodName n ≡ true) (λ n. length n ≡ 8) name-length (d .fieldNames) (s .good-fields)
+  names-wide = all-mono (λ n. goodName n ≡ true) (λ n. length n ≡ 8) name-long (d .fieldNames) (s .good-fields)
 
   -- R2 to R8
   header-good : goodHeader cat ≡ true

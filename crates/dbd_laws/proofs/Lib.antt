@@ -6,7 +6,6 @@ pub mod AgainTaken
 pub mod AgainSegment
 pub mod AgainField
 pub mod Again
-pub mod Filled
 pub mod Words
 pub mod Apart
 pub mod Blocks
@@ -16,3 +15,4 @@ pub mod FieldMore
 pub mod Reached
 pub mod Given
 pub mod Accepted
+pub mod Refused

@@ -21,7 +21,7 @@ use Rattle.statements.specs.Draft.{Fault, misplaced, twice, orphan, unruled, fa
 use Rattle.statements.specs.Draft.{Taken, goes, bad, ruledType, ruledField, begun, isKeyed, taken, takenIf, lineTaken}
 use Rattle.statements.specs.Dbd.{Reading, refused, given, ended, readFrom, dbdRead}
 use Rattle.statements.proofs.Words.{clash}
-use Rattle.dbd_laws.proofs.Filled.{name-word, filled-length, name-filled}
+use Rattle.statements.proofs.Named.{length-filled, good-filled}
 use Rattle.dbd_laws.proofs.Words.{Named, statement-named}
 use Rattle.dbd_laws.proofs.Sound.{Sound, sound-blank, sound-base}
 use Rattle.dbd_laws.proofs.TypeMore.{sound-type}
@@ -65,7 +65,7 @@ or-none true b e = e
 or-none false b e = refl
 
 name-some : (n : Bytes) → isName n ≡ true → 0 < length (filled n)
-name-some n h = omega (arith, filled-length n (name-word n h .1))
+name-some n h = omega (arith, length-filled n h)
 
 -- DBD
 dbd-again : (d : Draft) (n : Bytes) → begun d ≡ true → taken d (dbd n) ≡ bad misplaced
@@ -80,7 +80,7 @@ dbd-first d n h = rw h
 dbd-sound : (d e : Draft) (n : Bytes) → Sound d → isName n ≡ true → taken d (dbd n) ≡ goes e → Sound e
 dbd-sound d e n s h t = elim (is (begun d)) [
   | on b ↦ no-draft (taken d (dbd n)) misplaced e (dbd-again d n b) t
-  | off b ↦ subst Sound (same-draft _ e (sym (dbd-first d n b) ∙ t)) (sound-base d (filled n) (name-filled n h) (name-some n h) s)
+  | off b ↦ subst Sound (same-draft _ e (sym (dbd-first d n b) ∙ t)) (sound-base d (filled n) (good-filled n h) (name-some n h) s)
 ]
 
 -- SEGM
@@ -122,7 +122,7 @@ module _ (d : Draft) (n p : Bytes) (l : ℕ) where
         | on c ↦ no-draft (taken d (segm n p l)) orphan e (segm-orphan a b c) t
         | off c ↦
             let r = ruled-type (withType d (filled n) above l) e (sym (segm-ruled a b c) ∙ t) in
-            subst Sound (r .2) (sound-type d (filled n) above l s (name-filled n h) (base-some a) b (r .0) (r .1))
+            subst Sound (r .2) (sound-type d (filled n) above l s (good-filled n h) (base-some a) b (r .0) (r .1))
       ]
     ]
   ]
@@ -160,7 +160,7 @@ module _ (d : Draft) (n : Bytes) (k l s : ℕ) where
       | on b ↦ no-draft (taken d (field n k l s)) twice e (field-twice a b) t
       | off b ↦
           let r = ruled-field (withField d (filled n) k l s) e (sym (field-ruled a b) ∙ t) in
-          subst Sound (r .2) (sound-field d w (filled n) l s (type-some a) (name-filled n h) b k m (r .0) (r .1))
+          subst Sound (r .2) (sound-field d w (filled n) l s (type-some a) (good-filled n h) b k m (r .0) (r .1))
     ]
   ]
 
