@@ -1,0 +1,5 @@
+pub mod Letters
+pub mod Digits
+pub mod Names
+pub mod Spans
+pub mod Behind

@@ -1,0 +1,1 @@
+-- What is left of a line when a slot of a form has been read (R76). Assumes nothing.
