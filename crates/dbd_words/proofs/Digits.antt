@@ -70,11 +70,14 @@ pub capped-many : (n : ℕ) → 255 < n → capped n ≡ 255
 unfolding capped
 capped-many n h = rw (lt-ltb 255 n h)
 
-pub capped-most : (n : ℕ) → capped n ≤ 255
+capped-most : (n : ℕ) → capped n ≤ 255
 capped-most n = elim (side 255 n) [
   | inside l ↦ omega (arith, capped-many n l)
   | outside l ↦ omega (arith, capped-few n l)
 ]
+
+pub capped-low : (m n : ℕ) → m ≡ capped n → m ≤ 255
+capped-low m n e = omega (arith, capped-most n)
 
 value-cons : (n b : ℕ) (bs : Bytes) → valueFrom n (b ∷ bs) ≡ valueFrom (10 * n + (b - 0x30)) bs
 unfolding valueFrom

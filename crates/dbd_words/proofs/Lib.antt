@@ -3,3 +3,4 @@ pub mod Digits
 pub mod Names
 pub mod Spans
 pub mod Behind
+pub mod Suited

@@ -21,14 +21,14 @@ name-cut : (b : ℕ) (bs : Bytes) → leb (length bs) 7 ≡ false → false ≡ 
 unfolding isName
 name-cut b bs e = elim (is (isLetter b)) [
   | on h ↦ rw (h, e)
-  | off h ↦ rw (h, e)
+  | off h ↦ rw h
 ]
 
 name-first : (b : ℕ) (bs : Bytes) → leb (length bs) 7 ≡ true → every inWord bs ≡ true → isLetter b ≡ isName (b ∷ bs)
 unfolding isName
 name-first b bs e f = elim (is (isLetter b)) [
   | on h ↦ rw (h, e, f)
-  | off h ↦ rw (h, e, f)
+  | off h ↦ rw h
 ]
 
 pub name-long : (w : Bytes) → 8 < length w → false ≡ isName w

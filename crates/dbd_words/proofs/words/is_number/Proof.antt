@@ -54,7 +54,9 @@ loop-again c = (
 
 -- src/words.rt:111:1
 returns-2 : tie.Need-returns-2 Inv-loop μ-loop
-returns-2 c = number-is _ _ (omega arith) (sym (c .before .loop .inv .1) ∙ digits-end _ _ (c .loop-test .left))
+returns-2 c = let ·args = c .before .before .before .args in
+    number-is (·args .word .now) (c .before .loop .i) (omega arith)
+    (sym (c .before .loop .inv .1) ∙ digits-end _ _ (c .loop-test .left))
 
 pub is-number-spec : {M : Type 1} → statement M
 is-number-spec =

@@ -6,7 +6,7 @@ use lib.ListN.{length, drop}
 use Rattle.rules.specs.Block.{every}
 use Rattle.statements.specs.Words.{isDigit, valueFrom, value}
 use Rattle.dbd_words.specs.Capped.{capped}
-use Rattle.dbd_words.proofs.Digits.{number-digits, digit-at, digits-next, capped-most, value-next, value-end}
+use Rattle.dbd_words.proofs.Digits.{number-digits, digit-at, digits-next, capped-low, value-next, value-end}
 use Rattle.dbd_words.proofs.words.number.Statement.{statement}
 use Rattle.dbd_words.proofs.words.number.Tie as tie
 
@@ -19,6 +19,7 @@ abbrev μ-loop : tie.MeasureT-loop
 
 -- src/words.rt:143:5
 loop-holds : tie.Need-loop-holds Inv-loop μ-loop
+unfolding value
 loop-holds c = (omega arith, omega arith, number-digits _ (c .before .pre), refl)
 
 -- src/words.rt:144:28
@@ -42,7 +43,7 @@ loop-less c = omega arith
 loop-again : tie.Need-loop-again Inv-loop μ-loop
 loop-again c = (
   omega arith,
-  omega (arith, c .next-number .ensures, capped-most _),
+  capped-low _ _ (c .next-number .ensures),
   digits-next _ _
       (c .before .before .loop-test .taken) (digit-at _ _ (c .before .before .loop-test .taken)
       (c .before .before .before .loop .inv .2)) ∙ c .before .before .before .loop .inv .2,

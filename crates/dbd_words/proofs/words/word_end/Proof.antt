@@ -19,7 +19,7 @@ abbrev μ-loop : tie.MeasureT-loop
 
 -- src/words.rt:78:5
 loop-holds : tie.Need-loop-holds Inv-loop μ-loop
-loop-holds c = (omega arith, omega arith, row-none _ _)
+loop-holds c = (omega arith, omega arith, row-none (c .before .args .line .now) (c .before .args .at))
 
 -- src/words.rt:79:21
 shared-slice-read-in-word : tie.Need-shared-slice-read-in-word Inv-loop μ-loop
