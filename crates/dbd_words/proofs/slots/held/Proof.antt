@@ -26,18 +26,21 @@ is-suited-requires c κs = search needs
 
 -- src/slots.rt:102:13
 returns : tie.Need-returns
-returns c = let ·next-word = c .before .before .before .before .next-word in
-    let ·if1 = c .before .before .before .if1 in
-    held-there _ _ _ _ (·next-word .ensures) (·if1 .taken) (sym (c .before .is-suited .ensures) ∙ c .if2 .taken)
+returns c = let ·args = c .before .before .before .before .before .before .args in
+    let ·next-word = c .before .before .before .before .next-word in let ·if1 = c .before .before .before .if1 in
+    held-there _ _ _ (·args .slot) (·next-word .ensures) (·if1 .taken)
+    (sym (c .before .is-suited .ensures) ∙ c .if2 .taken)
 
 -- src/slots.rt:93:1
 returns-2 : tie.Need-returns-2
-returns-2 c = let ·next-word = c .before .before .before .before .next-word in
-    held-other _ _ _ _ (·next-word .ensures) (sym (c .before .is-suited .ensures) ∙ c .if2 .left)
+returns-2 c = let ·args = c .before .before .before .before .before .before .args in
+    let ·next-word = c .before .before .before .before .next-word in
+    held-other _ _ _ (·args .slot) (·next-word .ensures) (sym (c .before .is-suited .ensures) ∙ c .if2 .left)
 
 -- src/slots.rt:93:1
 returns-3 : tie.Need-returns-3
-returns-3 c = held-none _ _ _ _ (c .before .next-word .ensures) (c .if1 .left)
+returns-3 c = let ·args = c .before .before .before .args in
+    held-none _ _ _ (·args .slot) (c .before .next-word .ensures) (c .if1 .left)
 
 pub held-spec : {M : Type 1} → statement M
 held-spec =
