@@ -1,24 +1,23 @@
 -- What is left of a line when a slot of a form has been read (R76). Assumes nothing.
 use mathlib.Core.Path.{_≡_, refl, ap, sym, _∙_}
-use mathlib.Core.Bool.{Bool, true, false, _&&_, _||_, and-false}
+use mathlib.Core.Bool.{Bool, true, false}
 use mathlib.Core.List.{List, [], _∷_, _++_}
-use Prim.Native.Nat.{ℕ, zero, suc, _+_, _-_, _<_, _≤_}
+use Prim.Native.Nat.{ℕ, _+_, _-_, _<_, _≤_}
 use native.Mathlib.Omega.{arith}
-use lib.Dec.{ltb, eqb}
-use lib.ListN.{length, take, drop}
+use lib.Dec.{eqb}
+use lib.ListN.{length, drop}
 use borrow.Author.Tests.{lt-ltb, le-ltb, eq-eqb, ne-eqb}
-use Rattle.terms.specs.Choice.{pick}
 use Rattle.forest.specs.Forest.{inside, outside, side}
 use Rattle.forest.specs.Good.{on, off, is}
 use Rattle.rules.specs.Block.{Bytes, byte, part, sameBytes}
 use Rattle.statements.specs.Words.{Token, word, sign, inWord, isBlank, inFront, joined, tokens}
-use Rattle.statements.specs.Statement.{Slot, only, mark, either, name, number, parent, suits, marks, fits, formed}
+use Rattle.statements.specs.Statement.{Slot, only, mark, suits, marks, fits, formed}
 use Rattle.statements.proofs.Words.{clash, token-word, token-sign}
 use Rattle.dbd_words.specs.declared.Span.{Span}
 use Rattle.dbd_words.specs.declared.Asks.{Asks}
 use Rattle.dbd_words.specs.declared.Asks.the-variants.{AName, ANumber, AParent, OneOf}
 use Rattle.dbd_words.specs.Row.{cut, asked, behind, behindAll, isNone, PastBlanks, NextWord, Reached, Held, Ends}
-use Rattle.dbd_words.proofs.Digits.{left-at, none-left}
+use Rattle.dbd_words.proofs.Left.{left-at, none-left}
 
 -- one token
 behind-in : (s : Slot) (t : Token) (ts : List Token) → fits s t ≡ true → behind s (t ∷ ts) ≡ ts

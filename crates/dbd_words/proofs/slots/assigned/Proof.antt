@@ -1,6 +1,5 @@
 use Rattle.statements.specs.Words.{inWord, isLetter, isDigit, isBlank}
 use mathlib.Core.Path.{refl}
-use native.Mathlib.Omega.{arith}
 use Rattle.dbd_words.proofs.Behind.{reached-on}
 use borrow.Author.Needs.{needs}
 use Rattle.dbd_words.proofs.slots.assigned.Statement.{statement}

@@ -1,4 +1,4 @@
-use mathlib.Core.Path.{refl, sym, _∙_}
+use mathlib.Core.Path.{sym, _∙_}
 use Rattle.dbd_words.proofs.Behind.{held-there, held-other, held-none}
 use borrow.Author.Needs.{needs}
 use Rattle.dbd_words.proofs.slots.held.Statement.{statement}

@@ -1,5 +1,4 @@
-use mathlib.Core.Path.{refl, sym, _∙_}
-use native.Mathlib.Omega.{arith}
+use mathlib.Core.Path.{sym, _∙_}
 use Rattle.dbd_words.proofs.Suited.{suited-name, suited-number, suited-zero, suited-parent, suited-long, suited-first, suited-second}
 use borrow.Author.Needs.{needs}
 use Rattle.dbd_words.proofs.slots.is_suited.Statement.{statement}

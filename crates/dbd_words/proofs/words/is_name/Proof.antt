@@ -1,4 +1,4 @@
-use mathlib.Core.Path.{sym, _∙_}
+use mathlib.Core.Path.{_∙_}
 use Rattle.dbd_words.proofs.Names.{name-none, name-long, name-is}
 use borrow.Author.Needs.{needs}
 use Rattle.dbd_words.proofs.words.is_name.Statement.{statement}
