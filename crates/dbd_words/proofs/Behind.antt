@@ -70,7 +70,8 @@ module _ (line : Bytes) (i : ℕ) (s : Span) (a : Slot) (n : NextWord line i s) 
 
   formed-missed : (s .from < s .to → suits a (cut line s) ≡ false) → (ss : List Slot) → formed (a ∷ ss) (tokens (drop i line)) ≡ false
   formed-missed h ss = elim (side (s .from) (s .to)) [
-    | inside l ↦ ap (formed (a ∷ ss)) (n .there l) ∙ formed-out a ss (word (cut line s)) (tokens (drop (s .to) line)) (word-fits a (cut line s) false (h l))
+    | inside l ↦ ap (formed (a ∷ ss)) (n .there l)
+        ∙ formed-out a ss (word (cut line s)) (tokens (drop (s .to) line)) (word-fits a (cut line s) false (h l))
     | outside l ↦ unformed a ss m (tokens (drop i line)) (n .missed (let o : s .from ≤ s .to = n .ordered in omega arith))
   ]
 
@@ -163,7 +164,8 @@ module _ (line : Bytes) (i r s : ℕ) (p : PastBlanks line i r) where
   sign-there f g l e = record {
     inside = omega arith;
     left =
-        sym (ap (behind (mark s)) (sym (p .left) ∙ ap tokens (left-at line r l) ∙ token-sign (byte line r) (drop (r + 1) line) (ap inWord e ∙ f) (ap isBlank e ∙ g))
+        sym (ap (behind (mark s))
+        (sym (p .left) ∙ ap tokens (left-at line r l) ∙ token-sign (byte line r) (drop (r + 1) line) (ap inWord e ∙ f) (ap isBlank e ∙ g))
         ∙ mark-there s (byte line r) (tokens (drop (r + 1) line)) (sym e))
         ∙ one-all (mark s) (tokens (drop i line));
   }
@@ -206,7 +208,8 @@ module _ (line : Bytes) (i : ℕ) (s : Span) (a : Asks) (n : NextWord line i s) 
     missed = λ e ss. absurd (omega arith);
   }
 
-  held-not : (t : Span) → t .from ≡ length line → t .to ≡ length line → (s .from < s .to → suits (asked a) (cut line s) ≡ false) → Held line i (asked a) t
+  held-not : (t : Span) → t .from ≡ length line → t .to ≡ length line → (s .from < s .to → suits (asked a) (cut line s) ≡ false)
+      → Held line i (asked a) t
   held-not t f e h = record {
     ordered = omega arith;
     inside = omega arith;
@@ -247,5 +250,6 @@ at-end line i r p = elim (side r (length line)) [
   | outside l ↦ eq-eqb r (length line) (let o : r ≤ length line = p .inside in omega arith) ∙ sym (ap isNone (sym (p .left) ∙ none-tokens line r l))
 ]
 
-pub ends-there : (line : Bytes) (s : Span) (r : ℕ) → s .from ≤ s .to → (s .from ≡ s .to → ⊥) → PastBlanks line (s .to) r → Ends line s (eqb r (length line))
+pub ends-there : (line : Bytes) (s : Span) (r : ℕ) → s .from ≤ s .to → (s .from ≡ s .to → ⊥) → PastBlanks line (s .to) r
+    → Ends line s (eqb r (length line))
 ends-there line s r l n p = rw (lt-ltb (s .from) (s .to) (omega arith)) (at-end line (s .to) r p)

@@ -51,7 +51,8 @@ word-front (b ∷ w) bs h e f = tokens-word b w bs (every-head inWord b w e) (ev
 pub whole-part : (line : Bytes) (a e : ℕ) → a ≤ e → drop a line ≡ part line a (e - a) ++ drop e line
 whole-part line a e l =
     let z : a + (e - a) ≡ e = omega arith in
-    sym (take-append-drop (e - a) (drop a line)) ∙ ap (λ (t : Bytes). part line a (e - a) ++ t) (drop-drop (e - a) a line ∙ ap (λ (k : ℕ). drop k line) z)
+    sym (take-append-drop (e - a) (drop a line))
+    ∙ ap (λ (t : Bytes). part line a (e - a) ++ t) (drop-drop (e - a) a line ∙ ap (λ (k : ℕ). drop k line) z)
 
 pub length-part : (line : Bytes) (a e : ℕ) → e ≤ length line → length (part line a (e - a)) ≡ e - a
 length-part line a e l = length-take-le (e - a) (drop a line) (rw (length-drop a line) (omega arith))
