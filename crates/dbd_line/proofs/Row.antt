@@ -110,7 +110,7 @@ held-there {line} {j} {a} {s} us h f = elim (is (ltb (s .from) (s .to))) [
 ]
 
 pub there : {line : Bytes} {i j : ℕ} {a : Slot} {s : Span} (pre us : List Slot) → Reached line i pre j → Held line j a s
-  → formed (pre ++ (a ∷ us)) (tokens (drop i line)) ≡ true → There line i a (length pre) s
+    → formed (pre ++ (a ∷ us)) (tokens (drop i line)) ≡ true → There line i a (length pre) s
 there {line} {i} {j} {a} {s} pre us r h e =
     let f : formed (a ∷ us) (tokens (drop j line)) ≡ true = ap (formed (a ∷ us)) (r .left) ∙ sym (formed-row pre a us (tokens (drop i line))) ∙ e in
     let l : s .from < s .to = held-there us h f in
@@ -118,8 +118,8 @@ there {line} {i} {j} {a} {s} pre us r h e =
       some = l;
       inside = h .inside;
       is = word-front (tokens (drop i line)) (length pre) (cut line s) (tokens (drop (s .to) line))
-        (sym (behind-row pre (a ∷ us) (tokens (drop i line)) e) ∙ sym (r .left) ∙ h .there l);
-      fit = h .fit l
+          (sym (behind-row pre (a ∷ us) (tokens (drop i line)) e) ∙ sym (r .left) ∙ h .there l);
+      fit = h .fit l;
     }
 
 -- the last slot, with nothing behind it
@@ -137,6 +137,6 @@ last-slot {line} {i} {a} {s} r h e = elim (is (ltb (s .from) (s .to))) [
 ]
 
 pub form-ends : {line : Bytes} {i j : ℕ} {a : Slot} {s : Span} (pre : List Slot) (r : Bool) → Reached line i pre j → Held line j a s → Ends line s r
-  → formed (pre ++ (a ∷ [])) (tokens (drop i line)) ≡ r
+    → formed (pre ++ (a ∷ [])) (tokens (drop i line)) ≡ r
 form-ends {line} {i} {j} {a} {s} pre r c h e =
     formed-row pre a [] (tokens (drop i line)) ∙ sym (ap (formed (a ∷ [])) (c .left)) ∙ last-slot r h e

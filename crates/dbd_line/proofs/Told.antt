@@ -111,9 +111,14 @@ module _ {line : Bytes} {i j k m : ℕ} {n p l : Span} {r : Bool} (a : Reached l
 
   pub segm-right : (v : ℕ) → r ≡ true → v ≡ capped (value (cut line l)) → (formed segmForm (tokens line) ≡ true) × Meant line (segmOf (tokens line)) (IsSegm n p v)
   unfolding segmForm segmOf
-  segm-right v z w =
-      (segm-form ∙ z, (named (there (take 3 segmForm) (drop 4 segmForm) segm-to-name c (segm-form ∙ z)),
-        parented (there (take 7 segmForm) (drop 8 segmForm) segm-to-parent e (segm-form ∙ z)), valued (segm-bytes z) w))
+  segm-right v z w = (
+    segm-form ∙ z,
+    (
+      named (there (take 3 segmForm) (drop 4 segmForm) segm-to-name c (segm-form ∙ z)),
+      parented (there (take 7 segmForm) (drop 8 segmForm) segm-to-parent e (segm-form ∙ z)),
+      valued (segm-bytes z) w,
+    ),
+  )
 
 -- the end of both forms of FIELD
 module _ {line : Bytes} {i j k m : ℕ} {l s t : Span} {r : Bool} (a : Reached line i (mark comma ∷ only wordBytes ∷ mark equals ∷ []) j)
@@ -143,7 +148,7 @@ module _ {line : Bytes} {i j k m : ℕ} {l s t : Span} {r : Bool} (a : Reached l
   span-wrong v w z = record { whole = sym (span-form ∙ z); length = λ x. clash x; begin = λ x. clash x }
 
   pub span-right : (v w : ℕ) → r ≡ true → v ≡ capped (value (cut line l)) → w ≡ capped (value (cut line s))
-    → Spanned line i (record { good = true; long = v; start = w })
+      → Spanned line i (record { good = true; long = v; start = w })
   span-right v w z x y =
       record { whole = sym (span-form ∙ z); length = λ u. valued (span-bytes z) x; begin = λ u. valued (span-start z) y }
 
@@ -179,9 +184,15 @@ module _ {line : Bytes} {i j : ℕ} {n : Span} {x : Extent} (a : Reached line 0 
 
   pub field-right : x .good ≡ true → (formed fieldForm (tokens line) ≡ true) × Meant line (fieldOf (tokens line)) (IsField n 0 (x .long) (x .start))
   unfolding fieldForm fieldOf
-  field-right z =
-      (field-form ∙ z, (named (there (take 3 fieldForm) spanForm field-to-name c (field-form ∙ z)), refl,
-        spanned-bytes (take 4 fieldForm) field-to-span d z, spanned-start (take 4 fieldForm) field-to-span d z))
+  field-right z = (
+    field-form ∙ z,
+    (
+      named (there (take 3 fieldForm) spanForm field-to-name c (field-form ∙ z)),
+      refl,
+      spanned-bytes (take 4 fieldForm) field-to-span d z,
+      spanned-start (take 4 fieldForm) field-to-span d z,
+    ),
+  )
 
 -- R77: the letter of a key; the first byte of a word tells its kind
 cut-front : (line : Bytes) (s : Span) → s .from < s .to → s .to ≤ length line → cut line s ≡ byte line (s .from) ∷ part line (suc (s .from)) (s .to - s .from - 1)
@@ -223,24 +234,33 @@ module _ {line : Bytes} {i j k m o p q : ℕ} {n l : Span} {x : Extent} (a : Rea
   unfolding keyForm
   key-letter z = there (take 8 keyForm) (drop 9 keyForm) key-to-letter h (key-form ∙ z)
 
+  pub key-inside : x .good ≡ true → l .from < length line
+  key-inside z = let t = key-letter z in omega arith
+
   key-kind : (y : ℕ) → x .good ≡ true → kindOf (cut line l) ≡ y
-    → (formed keyForm (tokens line) ≡ true) × Meant line (keyOf (tokens line)) (IsField n y (x .long) (x .start))
+      → (formed keyForm (tokens line) ≡ true) × Meant line (keyOf (tokens line)) (IsField n y (x .long) (x .start))
   unfolding keyForm keyOf
-  key-kind y z w =
-      (key-form ∙ z, (named (there (take 4 keyForm) (drop 5 keyForm) key-to-name d (key-form ∙ z)), ap kindOf (key-letter z .is) ∙ w,
-        spanned-bytes (take 10 keyForm) key-to-span v z, spanned-start (take 10 keyForm) key-to-span v z))
+  key-kind y z w = (
+    key-form ∙ z,
+    (
+      named (there (take 4 keyForm) (drop 5 keyForm) key-to-name d (key-form ∙ z)),
+      ap kindOf (key-letter z .is) ∙ w,
+      spanned-bytes (take 10 keyForm) key-to-span v z,
+      spanned-start (take 10 keyForm) key-to-span v z,
+    ),
+  )
 
   pub key-unique : x .good ≡ true → byte line (l .from) ≡ 0x55
-    → (formed keyForm (tokens line) ≡ true) × Meant line (keyOf (tokens line)) (IsField n 1 (x .long) (x .start))
+      → (formed keyForm (tokens line) ≡ true) × Meant line (keyOf (tokens line)) (IsField n 1 (x .long) (x .start))
   key-unique z w =
       let t = key-letter z in
       let y : cut line l ≡ 0x55 ∷ part line (suc (l .from)) (l .to - l .from - 1) =
-        cut-front line l (t .some) (t .inside) ∙ ap (λ (b : ℕ). b ∷ part line (suc (l .from)) (l .to - l .from - 1)) w in
+      cut-front line l (t .some) (t .inside) ∙ ap (λ (b : ℕ). b ∷ part line (suc (l .from)) (l .to - l .from - 1)) w in
       key-kind 1 z (ap kindOf y ∙ one-kind (part line (suc (l .from)) (l .to - l .from - 1)) (sym (ap (suits (either 0x55 0x4D)) y) ∙ t .fit))
 
   pub key-multiple : x .good ≡ true → (byte line (l .from) ≡ 0x55 → ⊥)
-    → (formed keyForm (tokens line) ≡ true) × Meant line (keyOf (tokens line)) (IsField n 2 (x .long) (x .start))
+      → (formed keyForm (tokens line) ≡ true) × Meant line (keyOf (tokens line)) (IsField n 2 (x .long) (x .start))
   key-multiple z w =
       let t = key-letter z in
       key-kind 2 z (ap kindOf (cut-front line l (t .some) (t .inside))
-        ∙ other-kind (byte line (l .from)) (part line (suc (l .from)) (l .to - l .from - 1)) (ne-eqb 0x55 (byte line (l .from)) (λ y. w (sym y))))
+      ∙ other-kind (byte line (l .from)) (part line (suc (l .from)) (l .to - l .from - 1)) (ne-eqb 0x55 (byte line (l .from)) (λ y. w (sym y))))

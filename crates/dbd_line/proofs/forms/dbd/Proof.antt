@@ -1,43 +1,51 @@
+use mathlib.Core.Path.{refl, _∙_}
+use native.Mathlib.Omega.{arith}
+use borrow.Author.Tests.{not-true, not-false}
+use Rattle.statements.specs.Text.{bytesOf}
+use Rattle.statements.specs.Statement.{wordDbd, wordName, dbdOf}
+use Rattle.dbd_line.proofs.Told.{dbd-form, dbd-right}
 use Rattle.dbd_line.proofs.forms.dbd.Statement.{statement}
 use Rattle.dbd_line.proofs.forms.dbd.Tie as tie
-use Rattle.dbd_line.proofs.forms.dbd.Reads as reads
-use Rattle.dbd_line.proofs.forms.dbd.Lts as lts
-use Rattle.dbd_words.proofs.slots.assigned.Reads as assigned-reads
-use Rattle.dbd_words.proofs.slots.ends.Reads as ends-reads
-use Rattle.dbd_words.proofs.slots.held.Reads as held-reads
-use Rattle.dbd_words.proofs.slots.keyword.Reads as keyword-reads
 
 -- src/forms.rt:29:34
 slice-aggregate-keyword : tie.Need-slice-aggregate-keyword
-slice-aggregate-keyword c = ?
+slice-aggregate-keyword c = refl
 
 -- src/forms.rt:29:9
 keyword-requires : tie.Need-keyword-requires
-keyword-requires c κs = ?
+keyword-requires c κs = omega arith
 
 -- src/forms.rt:30:36
 slice-aggregate-assigned : tie.Need-slice-aggregate-assigned
-slice-aggregate-assigned c = ?
+slice-aggregate-assigned c = refl
 
 -- src/forms.rt:30:9
 assigned-requires : tie.Need-assigned-requires
-assigned-requires c κs = ?
+assigned-requires c κs = omega arith
 
 -- src/forms.rt:31:9
 held-requires : tie.Need-held-requires
-held-requires c κs = ?
+held-requires c κs = omega arith
 
 -- src/forms.rt:32:9
 ends-requires : tie.Need-ends-requires
-ends-requires c κs = ?
+ends-requires c κs = omega arith
 
 -- src/forms.rt:33:9
 returns : tie.Need-returns
-returns c = ?
+unfolding wordDbd wordName bytesOf
+returns c = let ·keyword = c .before .before .before .before .before .keyword in
+    let ·assigned = c .before .before .before .assigned in let ·held = c .before .before .held in
+    dbd-form (·keyword .ensures) (·assigned .ensures) (·held .ensures) (c .before .ends .ensures) ∙ not-true _
+    (c .if1 .taken)
 
 -- src/forms.rt:26:1
 returns-2 : tie.Need-returns-2
-returns-2 c = ?
+unfolding wordDbd wordName bytesOf dbdOf
+returns-2 c = let ·keyword = c .before .before .before .before .before .keyword in
+    let ·assigned = c .before .before .before .assigned in let ·held = c .before .before .held in
+    dbd-right (·keyword .ensures) (·assigned .ensures) (·held .ensures) (c .before .ends .ensures)
+    (not-false _ (c .if1 .left))
 
 pub dbd-spec : {M : Type 1} → statement M
 dbd-spec =

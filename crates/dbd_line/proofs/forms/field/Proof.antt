@@ -1,43 +1,51 @@
+use mathlib.Core.Path.{refl, _∙_}
+use native.Mathlib.Omega.{arith}
+use borrow.Author.Tests.{not-true, not-false}
+use Rattle.statements.specs.Text.{bytesOf}
+use Rattle.statements.specs.Statement.{wordField, wordName, fieldOf}
+use Rattle.dbd_line.proofs.Told.{field-form, field-right}
 use Rattle.dbd_line.proofs.forms.field.Statement.{statement}
 use Rattle.dbd_line.proofs.forms.field.Tie as tie
-use Rattle.dbd_line.proofs.forms.field.Reads as reads
-use Rattle.dbd_line.proofs.forms.field.Lts as lts
-use Rattle.dbd_line.proofs.forms.rest.Reads as rest-reads
-use Rattle.dbd_words.proofs.slots.assigned.Reads as assigned-reads
-use Rattle.dbd_words.proofs.slots.held.Reads as held-reads
-use Rattle.dbd_words.proofs.slots.keyword.Reads as keyword-reads
 
 -- src/forms.rt:88:34
 slice-aggregate-keyword : tie.Need-slice-aggregate-keyword
-slice-aggregate-keyword c = ?
+slice-aggregate-keyword c = refl
 
 -- src/forms.rt:88:9
 keyword-requires : tie.Need-keyword-requires
-keyword-requires c κs = ?
+keyword-requires c κs = omega arith
 
 -- src/forms.rt:89:36
 slice-aggregate-assigned : tie.Need-slice-aggregate-assigned
-slice-aggregate-assigned c = ?
+slice-aggregate-assigned c = refl
 
 -- src/forms.rt:89:9
 assigned-requires : tie.Need-assigned-requires
-assigned-requires c κs = ?
+assigned-requires c κs = omega arith
 
 -- src/forms.rt:90:9
 held-requires : tie.Need-held-requires
-held-requires c κs = ?
+held-requires c κs = omega arith
 
 -- src/forms.rt:91:9
 rest-requires : tie.Need-rest-requires
-rest-requires c κs = ?
+rest-requires c κs = omega arith
 
 -- src/forms.rt:93:9
 returns : tie.Need-returns
-returns c = ?
+unfolding wordField wordName bytesOf
+returns c = let ·keyword = c .before .before .before .before .before .before .keyword in
+    let ·assigned = c .before .before .before .before .assigned in let ·held = c .before .before .before .held in
+    let ·rest = c .before .before .rest in
+    field-form (·keyword .ensures) (·assigned .ensures) (·held .ensures) (·rest .ensures) ∙ not-true _ (c .if1 .taken)
 
 -- src/forms.rt:85:1
 returns-2 : tie.Need-returns-2
-returns-2 c = ?
+unfolding wordField wordName bytesOf fieldOf
+returns-2 c = let ·keyword = c .before .before .before .before .before .before .keyword in
+    let ·assigned = c .before .before .before .before .assigned in let ·held = c .before .before .before .held in
+    let ·rest = c .before .before .rest in
+    field-right (·keyword .ensures) (·assigned .ensures) (·held .ensures) (·rest .ensures) (not-false _ (c .if1 .left))
 
 pub field-spec : {M : Type 1} → statement M
 field-spec =

@@ -1,80 +1,145 @@
+use mathlib.Core.Path.{refl, _∙_}
+use native.Mathlib.Omega.{arith}
+use borrow.Author.Tests.{not-true, not-false}
+use Rattle.statements.specs.Text.{bytesOf}
+use Rattle.statements.specs.Words.{isDigit, isLetter, inWord, isBlank}
+use Rattle.statements.specs.Statement.{wordField, wordName, wordSeq, keyOf}
+use Rattle.dbd_line.proofs.Told.{key-form, key-inside, key-unique, key-multiple}
 use Rattle.dbd_line.proofs.forms.key.Statement.{statement}
 use Rattle.dbd_line.proofs.forms.key.Tie as tie
-use Rattle.dbd_line.proofs.forms.key.Reads as reads
-use Rattle.dbd_line.proofs.forms.key.Lts as lts
-use Rattle.dbd_line.proofs.forms.rest.Reads as rest-reads
-use Rattle.dbd_words.proofs.slots.assigned.Reads as assigned-reads
-use Rattle.dbd_words.proofs.slots.held.Reads as held-reads
-use Rattle.dbd_words.proofs.slots.keyword.Reads as keyword-reads
-use Rattle.dbd_words.proofs.slots.sign.Reads as sign-reads
 
 -- src/forms.rt:102:34
 slice-aggregate-keyword : tie.Need-slice-aggregate-keyword
-slice-aggregate-keyword c = ?
+slice-aggregate-keyword c = refl
 
 -- src/forms.rt:102:9
 keyword-requires : tie.Need-keyword-requires
-keyword-requires c κs = ?
+keyword-requires c κs = omega arith
 
 -- src/forms.rt:103:36
 slice-aggregate-assigned : tie.Need-slice-aggregate-assigned
-slice-aggregate-assigned c = ?
+slice-aggregate-assigned c = refl
 
 -- src/forms.rt:103:9
 assigned-requires : tie.Need-assigned-requires
-assigned-requires c κs = ?
+assigned-requires c κs = omega arith
 
 -- src/forms.rt:104:9
 sign-requires : tie.Need-sign-requires
-sign-requires c κs = ?
+unfolding inWord isLetter isDigit isBlank
+sign-requires c κs = (omega arith, refl, refl)
 
 -- src/forms.rt:105:9
 held-requires : tie.Need-held-requires
-held-requires c κs = ?
+held-requires c κs = omega arith
 
 -- src/forms.rt:106:9
 sign-requires-2 : tie.Need-sign-requires-2
-sign-requires-2 c κs = ?
+unfolding inWord isLetter isDigit isBlank
+sign-requires-2 c κs = (omega arith, refl, refl)
 
 -- src/forms.rt:107:32
 slice-aggregate-keyword-2 : tie.Need-slice-aggregate-keyword-2
-slice-aggregate-keyword-2 c = ?
+slice-aggregate-keyword-2 c = refl
 
 -- src/forms.rt:107:9
 keyword-requires-2 : tie.Need-keyword-requires-2
-keyword-requires-2 c κs = ?
+keyword-requires-2 c κs = omega arith
 
 -- src/forms.rt:108:9
 sign-requires-3 : tie.Need-sign-requires-3
-sign-requires-3 c κs = ?
+unfolding inWord isLetter isDigit isBlank
+sign-requires-3 c κs = (omega arith, refl, refl)
 
 -- src/forms.rt:109:9
 held-requires-2 : tie.Need-held-requires-2
-held-requires-2 c κs = ?
+held-requires-2 c κs = omega arith
 
 -- src/forms.rt:110:9
 sign-requires-4 : tie.Need-sign-requires-4
-sign-requires-4 c κs = ?
+unfolding inWord isLetter isDigit isBlank
+sign-requires-4 c κs = (omega arith, refl, refl)
 
 -- src/forms.rt:111:9
 rest-requires : tie.Need-rest-requires
-rest-requires c κs = ?
+rest-requires c κs = omega arith
 
 -- src/forms.rt:113:9
 returns : tie.Need-returns
-returns c = ?
+unfolding wordField wordName wordSeq bytesOf
+returns c =
+    let ·keyword = c .before .before .before .before .before .before .before .before .before .before .before .before
+    .before .keyword in
+    let ·assigned = c .before .before .before .before .before .before .before .before .before .before .before .assigned
+    in let ·sign = c .before .before .before .before .before .before .before .before .before .before .sign in
+    let ·held = c .before .before .before .before .before .before .before .before .before .held in
+    let ·sign2 = c .before .before .before .before .before .before .before .before .sign2 in
+    let ·keyword2 = c .before .before .before .before .before .before .keyword2 in
+    let ·sign3 = c .before .before .before .before .before .sign3 in
+    let ·held2 = c .before .before .before .before .held2 in let ·sign4 = c .before .before .before .sign4 in
+    let ·rest = c .before .before .rest in
+    key-form (·keyword .ensures) (·assigned .ensures) (·sign .ensures) (·held .ensures) (·sign2 .ensures)
+    (·keyword2 .ensures) (·sign3 .ensures) (·held2 .ensures) (·sign4 .ensures) (·rest .ensures) ∙ not-true _
+    (c .if1 .taken)
 
 -- src/forms.rt:116:8
 shared-slice-read-if2 : tie.Need-shared-slice-read-if2
-shared-slice-read-if2 c = ?
+unfolding wordField wordName wordSeq bytesOf
+shared-slice-read-if2 c =
+    let ·keyword = c .before .before .before .before .before .before .before .before .before .before .before .before
+    .before .before .keyword in
+    let ·assigned = c .before .before .before .before .before .before .before .before .before .before .before .before
+    .assigned in
+    let ·sign = c .before .before .before .before .before .before .before .before .before .before .before .sign in
+    let ·held = c .before .before .before .before .before .before .before .before .before .before .held in
+    let ·sign2 = c .before .before .before .before .before .before .before .before .before .sign2 in
+    let ·keyword2 = c .before .before .before .before .before .before .before .keyword2 in
+    let ·sign3 = c .before .before .before .before .before .before .sign3 in
+    let ·held2 = c .before .before .before .before .before .held2 in
+    let ·sign4 = c .before .before .before .before .sign4 in let ·rest = c .before .before .before .rest in
+    key-inside (·keyword .ensures) (·assigned .ensures) (·sign .ensures) (·held .ensures) (·sign2 .ensures)
+    (·keyword2 .ensures) (·sign3 .ensures) (·held2 .ensures) (·sign4 .ensures) (·rest .ensures)
+    (not-false _ (c .before .if1 .left))
 
 -- src/forms.rt:117:9
 returns-2 : tie.Need-returns-2
-returns-2 c = ?
+unfolding wordField wordName wordSeq bytesOf keyOf
+returns-2 c =
+    let ·keyword = c .before .before .before .before .before .before .before .before .before .before .before .before
+    .before .before .before .keyword in
+    let ·assigned = c .before .before .before .before .before .before .before .before .before .before .before .before
+    .before .assigned in
+    let ·sign = c .before .before .before .before .before .before .before .before .before .before .before .before .sign
+    in let ·held = c .before .before .before .before .before .before .before .before .before .before .before .held in
+    let ·sign2 = c .before .before .before .before .before .before .before .before .before .before .sign2 in
+    let ·keyword2 = c .before .before .before .before .before .before .before .before .keyword2 in
+    let ·sign3 = c .before .before .before .before .before .before .before .sign3 in
+    let ·held2 = c .before .before .before .before .before .before .held2 in
+    let ·sign4 = c .before .before .before .before .before .sign4 in
+    let ·rest = c .before .before .before .before .rest in let ·if1 = c .before .before .if1 in
+    key-unique (·keyword .ensures) (·assigned .ensures) (·sign .ensures) (·held .ensures) (·sign2 .ensures)
+    (·keyword2 .ensures) (·sign3 .ensures) (·held2 .ensures) (·sign4 .ensures) (·rest .ensures)
+    (not-false _ (·if1 .left)) (c .if2 .taken)
 
 -- src/forms.rt:99:1
 returns-3 : tie.Need-returns-3
-returns-3 c = ?
+unfolding wordField wordName wordSeq bytesOf keyOf
+returns-3 c =
+    let ·keyword = c .before .before .before .before .before .before .before .before .before .before .before .before
+    .before .before .before .keyword in
+    let ·assigned = c .before .before .before .before .before .before .before .before .before .before .before .before
+    .before .assigned in
+    let ·sign = c .before .before .before .before .before .before .before .before .before .before .before .before .sign
+    in let ·held = c .before .before .before .before .before .before .before .before .before .before .before .held in
+    let ·sign2 = c .before .before .before .before .before .before .before .before .before .before .sign2 in
+    let ·keyword2 = c .before .before .before .before .before .before .before .before .keyword2 in
+    let ·sign3 = c .before .before .before .before .before .before .before .sign3 in
+    let ·held2 = c .before .before .before .before .before .before .held2 in
+    let ·sign4 = c .before .before .before .before .before .sign4 in
+    let ·rest = c .before .before .before .before .rest in let ·if1 = c .before .before .if1 in
+    key-multiple (·keyword .ensures) (·assigned .ensures) (·sign .ensures) (·held .ensures) (·sign2 .ensures)
+    (·keyword2 .ensures) (·sign3 .ensures) (·held2 .ensures) (·sign4 .ensures) (·rest .ensures)
+    (not-false _ (·if1 .left)) (c .if2 .left)
 
 pub key-spec : {M : Type 1} → statement M
 key-spec =

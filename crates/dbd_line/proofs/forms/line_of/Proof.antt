@@ -1,61 +1,73 @@
+use native.Mathlib.Omega.{arith}
+use Rattle.statements.specs.Statement.{dbdForm, segmForm, fieldForm}
+use Rattle.dbd_line.proofs.Said.{blank-line, line-more, wrong-form, dbd-says, segm-says, field-says, key-says}
 use Rattle.dbd_line.proofs.forms.line_of.Statement.{statement}
 use Rattle.dbd_line.proofs.forms.line_of.Tie as tie
-use Rattle.dbd_line.proofs.forms.line_of.Reads as reads
-use Rattle.dbd_line.proofs.forms.line_of.Lts as lts
-use Rattle.dbd_line.proofs.forms.dbd.Reads as dbd-reads
-use Rattle.dbd_line.proofs.forms.field.Reads as field-reads
-use Rattle.dbd_line.proofs.forms.key.Reads as key-reads
-use Rattle.dbd_line.proofs.forms.segm.Reads as segm-reads
-use Rattle.dbd_words.proofs.words.past_blanks.Reads as past-blanks-reads
 
 -- src/forms.rt:126:8
 past-blanks-requires : tie.Need-past-blanks-requires
-past-blanks-requires c κs = ?
+past-blanks-requires c κs = omega arith
 
 -- src/forms.rt:127:9
 returns : tie.Need-returns
-returns c = ?
+returns c = blank-line _ _ (c .before .past-blanks .ensures) (c .if1 .taken)
 
 -- src/forms.rt:129:9
 dbd-requires : tie.Need-dbd-requires
-dbd-requires c κs = ?
+dbd-requires c κs = tt
 
 enum-told : tie.Need-enum-told
-enum-told c = ?
+enum-told c = c .match .keys1
 
 -- src/forms.rt:131:9
 returns-2 : tie.Need-returns-2
-returns-2 c = ?
+returns-2 c = dbd-says _ _ (c .match .keys2) (c .before .dbd .ensures)
 
 -- src/forms.rt:133:9
 segm-requires : tie.Need-segm-requires
-segm-requires c κs = ?
+segm-requires c κs = tt
 
 enum-told-2 : tie.Need-enum-told-2
-enum-told-2 c = ?
+enum-told-2 c = c .match2 .keys1
 
 -- src/forms.rt:135:9
 returns-3 : tie.Need-returns-3
-returns-3 c = ?
+returns-3 c = let ·enum-told = c .before .before .enum-told in let ·dbd = c .before .before .before .before .dbd in
+    segm-says _ _ (wrong-form dbdForm _ _ _ (·enum-told .given .1) (·dbd .ensures)) (c .match2 .keys2)
+    (c .before .segm .ensures)
 
 -- src/forms.rt:137:9
 field-requires : tie.Need-field-requires
-field-requires c κs = ?
+field-requires c κs = tt
 
 enum-told-3 : tie.Need-enum-told-3
-enum-told-3 c = ?
+enum-told-3 c = c .match3 .keys1
 
 -- src/forms.rt:139:9
 returns-4 : tie.Need-returns-4
-returns-4 c = ?
+returns-4 c = let ·enum-told = c .before .before .before .before .before .enum-told in
+    let ·dbd = c .before .before .before .before .before .before .before .dbd in
+    let ·enum-told2 = c .before .before .enum-told2 in let ·segm = c .before .before .before .before .segm in
+    field-says _ _ (wrong-form dbdForm _ _ _ (·enum-told .given .1) (·dbd .ensures))
+    (wrong-form segmForm _ _ _ (·enum-told2 .given .1) (·segm .ensures)) (c .match3 .keys2) (c .before .field .ensures)
 
 -- src/forms.rt:141:5
 key-requires : tie.Need-key-requires
-key-requires c κs = ?
+key-requires c κs = tt
 
 -- src/forms.rt:123:1
 returns-5 : tie.Need-returns-5
-returns-5 c = ?
+returns-5 c = let ·enum-told = c .before .before .before .before .before .before .before .enum-told in
+    let ·dbd = c .before .before .before .before .before .before .before .before .before .dbd in
+    let ·enum-told2 = c .before .before .before .before .enum-told2 in
+    let ·segm = c .before .before .before .before .before .before .segm in
+    let ·field = c .before .before .before .field in
+    let ·past-blanks = c .before .before .before .before .before .before .before .before .before .before .before
+    .past-blanks in let ·if1 = c .before .before .before .before .before .before .before .before .before .before .if1 in
+    key-says _ _ (wrong-form dbdForm _ _ _ (·enum-told .given .1) (·dbd .ensures))
+    (wrong-form segmForm _ _ _ (·enum-told2 .given .1) (·segm .ensures))
+    (wrong-form fieldForm _ _ _ (c .before .enum-told3 .given .1) (·field .ensures))
+    (line-more _ _ (·past-blanks .ensures) (·if1 .left)) (c .key .ensures)
 
 pub line-of-spec : {M : Type 1} → statement M
 line-of-spec =

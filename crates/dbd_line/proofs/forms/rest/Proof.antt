@@ -1,91 +1,130 @@
+use mathlib.Core.Path.{refl}
+use native.Mathlib.Omega.{arith}
+use borrow.Author.Tests.{not-true, not-false}
+use Rattle.statements.specs.Text.{bytesOf}
+use Rattle.statements.specs.Statement.{wordBytes, wordStart, wordType}
+use Rattle.dbd_line.proofs.Told.{is-number, span-bytes, span-start, span-wrong, span-right}
 use Rattle.dbd_line.proofs.forms.rest.Statement.{statement}
 use Rattle.dbd_line.proofs.forms.rest.Tie as tie
-use Rattle.dbd_line.proofs.forms.rest.Reads as reads
-use Rattle.dbd_line.proofs.forms.rest.Lts as lts
-use Rattle.dbd_words.proofs.slots.ends.Reads as ends-reads
-use Rattle.dbd_words.proofs.slots.held.Reads as held-reads
-use Rattle.dbd_words.proofs.slots.operand.Reads as operand-reads
-use Rattle.dbd_words.proofs.words.number.Reads as number-reads
 
 -- src/forms.rt:61:32
 slice-aggregate-operand : tie.Need-slice-aggregate-operand
-slice-aggregate-operand c = ?
+slice-aggregate-operand c = refl
 
 -- src/forms.rt:61:9
 operand-requires : tie.Need-operand-requires
-operand-requires c κs = ?
+operand-requires c κs = omega arith
 
 -- src/forms.rt:62:9
 held-requires : tie.Need-held-requires
-held-requires c κs = ?
+held-requires c κs = omega arith
 
 -- src/forms.rt:63:37
 slice-aggregate-operand-2 : tie.Need-slice-aggregate-operand-2
-slice-aggregate-operand-2 c = ?
+slice-aggregate-operand-2 c = refl
 
 -- src/forms.rt:63:9
 operand-requires-2 : tie.Need-operand-requires-2
-operand-requires-2 c κs = ?
+operand-requires-2 c κs = omega arith
 
 -- src/forms.rt:64:9
 held-requires-2 : tie.Need-held-requires-2
-held-requires-2 c κs = ?
+held-requires-2 c κs = omega arith
 
 -- src/forms.rt:65:38
 slice-aggregate-operand-3 : tie.Need-slice-aggregate-operand-3
-slice-aggregate-operand-3 c = ?
+slice-aggregate-operand-3 c = refl
 
 -- src/forms.rt:65:9
 operand-requires-3 : tie.Need-operand-requires-3
-operand-requires-3 c κs = ?
+operand-requires-3 c κs = omega arith
 
 -- src/forms.rt:66:9
 held-requires-3 : tie.Need-held-requires-3
-held-requires-3 c κs = ?
+held-requires-3 c κs = omega arith
 
 -- src/forms.rt:67:9
 ends-requires : tie.Need-ends-requires
-ends-requires c κs = ?
+ends-requires c κs = omega arith
 
 -- src/forms.rt:68:9
 returns : tie.Need-returns
-returns c = ?
+unfolding wordBytes wordStart wordType bytesOf
+returns c = let ·operand = c .before .before .before .before .before .before .before .before .before .operand in
+    let ·held = c .before .before .before .before .before .before .before .before .held in
+    let ·operand2 = c .before .before .before .before .before .before .operand2 in
+    let ·held2 = c .before .before .before .before .before .held2 in
+    let ·operand3 = c .before .before .before .operand3 in let ·held3 = c .before .before .held3 in
+    span-wrong (·operand .ensures) (·held .ensures) (·operand2 .ensures) (·held2 .ensures) (·operand3 .ensures)
+    (·held3 .ensures) (c .before .ends .ensures) 0 0 (not-true _ (c .if1 .taken))
 
 -- src/forms.rt:80:22
 sub-number : tie.Need-sub-number
-sub-number c = ?
+sub-number c = omega arith
 
 -- src/forms.rt:80:22
 part-number-start : tie.Need-part-number-start
-part-number-start c = ?
+part-number-start c = omega arith
 
 -- src/forms.rt:80:22
 part-number-end : tie.Need-part-number-end
-part-number-end c = ?
+part-number-end c = omega arith
 
 -- src/forms.rt:80:15
 number-requires : tie.Need-number-requires
-number-requires c κs = ?
+unfolding wordBytes wordStart wordType bytesOf
+number-requires c κs =
+    let ·operand = c .before .before .before .before .before .before .before .before .before .before .operand in
+    let ·held = c .before .before .before .before .before .before .before .before .before .held in
+    let ·operand2 = c .before .before .before .before .before .before .before .operand2 in
+    let ·held2 = c .before .before .before .before .before .before .held2 in
+    let ·operand3 = c .before .before .before .before .operand3 in let ·held3 = c .before .before .before .held3 in
+    let ·ends = c .before .before .ends in
+    is-number (span-bytes (·operand .ensures) (·held .ensures) (·operand2 .ensures) (·held2 .ensures)
+    (·operand3 .ensures) (·held3 .ensures) (·ends .ensures) (not-false _ (c .before .if1 .left)))
 
 -- src/forms.rt:81:23
 sub-number-2 : tie.Need-sub-number-2
-sub-number-2 c = ?
+sub-number-2 c = omega arith
 
 -- src/forms.rt:81:23
 part-number-start-2 : tie.Need-part-number-start-2
-part-number-start-2 c = ?
+part-number-start-2 c = omega arith
 
 -- src/forms.rt:81:23
 part-number-end-2 : tie.Need-part-number-end-2
-part-number-end-2 c = ?
+part-number-end-2 c = omega arith
 
 -- src/forms.rt:81:16
 number-requires-2 : tie.Need-number-requires-2
-number-requires-2 c κs = ?
+unfolding wordBytes wordStart wordType bytesOf
+number-requires-2 c κs =
+    let ·operand = c .before .before .before .before .before .before .before .before .before .before .before .before
+    .operand in
+    let ·held = c .before .before .before .before .before .before .before .before .before .before .before .held in
+    let ·operand2 = c .before .before .before .before .before .before .before .before .before .operand2 in
+    let ·held2 = c .before .before .before .before .before .before .before .before .held2 in
+    let ·operand3 = c .before .before .before .before .before .before .operand3 in
+    let ·held3 = c .before .before .before .before .before .held3 in
+    let ·ends = c .before .before .before .before .ends in let ·if1 = c .before .before .before .if1 in
+    is-number (span-start (·operand .ensures) (·held .ensures) (·operand2 .ensures) (·held2 .ensures)
+    (·operand3 .ensures) (·held3 .ensures) (·ends .ensures) (not-false _ (·if1 .left)))
 
 -- src/forms.rt:57:1
 returns-2 : tie.Need-returns-2
-returns-2 c = ?
+unfolding wordBytes wordStart wordType bytesOf
+returns-2 c =
+    let ·operand = c .before .before .before .before .before .before .before .before .before .before .before .before
+    .before .operand in
+    let ·held = c .before .before .before .before .before .before .before .before .before .before .before .before .held
+    in let ·operand2 = c .before .before .before .before .before .before .before .before .before .before .operand2 in
+    let ·held2 = c .before .before .before .before .before .before .before .before .before .held2 in
+    let ·operand3 = c .before .before .before .before .before .before .before .operand3 in
+    let ·held3 = c .before .before .before .before .before .before .held3 in
+    let ·ends = c .before .before .before .before .before .ends in let ·if1 = c .before .before .before .before .if1 in
+    let ·number = c .before .before .number in
+    span-right (·operand .ensures) (·held .ensures) (·operand2 .ensures) (·held2 .ensures) (·operand3 .ensures)
+    (·held3 .ensures) (·ends .ensures) _ _ (not-false _ (·if1 .left)) (·number .ensures) (c .number2 .ensures)
 
 pub rest-spec : {M : Type 1} → statement M
 rest-spec =

@@ -1,85 +1,115 @@
+use mathlib.Core.Path.{refl, _∙_}
+use native.Mathlib.Omega.{arith}
+use borrow.Author.Tests.{not-true, not-false}
+use Rattle.statements.specs.Text.{bytesOf}
+use Rattle.statements.specs.Statement.{wordSegm, wordName, wordParent, wordBytes, segmOf}
+use Rattle.dbd_line.proofs.Told.{is-number, segm-form, segm-bytes, segm-right}
 use Rattle.dbd_line.proofs.forms.segm.Statement.{statement}
 use Rattle.dbd_line.proofs.forms.segm.Tie as tie
-use Rattle.dbd_line.proofs.forms.segm.Reads as reads
-use Rattle.dbd_line.proofs.forms.segm.Lts as lts
-use Rattle.dbd_words.proofs.slots.assigned.Reads as assigned-reads
-use Rattle.dbd_words.proofs.slots.ends.Reads as ends-reads
-use Rattle.dbd_words.proofs.slots.held.Reads as held-reads
-use Rattle.dbd_words.proofs.slots.keyword.Reads as keyword-reads
-use Rattle.dbd_words.proofs.slots.operand.Reads as operand-reads
-use Rattle.dbd_words.proofs.words.number.Reads as number-reads
 
 -- src/forms.rt:41:34
 slice-aggregate-keyword : tie.Need-slice-aggregate-keyword
-slice-aggregate-keyword c = ?
+slice-aggregate-keyword c = refl
 
 -- src/forms.rt:41:9
 keyword-requires : tie.Need-keyword-requires
-keyword-requires c κs = ?
+keyword-requires c κs = omega arith
 
 -- src/forms.rt:42:36
 slice-aggregate-assigned : tie.Need-slice-aggregate-assigned
-slice-aggregate-assigned c = ?
+slice-aggregate-assigned c = refl
 
 -- src/forms.rt:42:9
 assigned-requires : tie.Need-assigned-requires
-assigned-requires c κs = ?
+assigned-requires c κs = omega arith
 
 -- src/forms.rt:43:9
 held-requires : tie.Need-held-requires
-held-requires c κs = ?
+held-requires c κs = omega arith
 
 -- src/forms.rt:44:37
 slice-aggregate-operand : tie.Need-slice-aggregate-operand
-slice-aggregate-operand c = ?
+slice-aggregate-operand c = refl
 
 -- src/forms.rt:44:9
 operand-requires : tie.Need-operand-requires
-operand-requires c κs = ?
+operand-requires c κs = omega arith
 
 -- src/forms.rt:45:9
 held-requires-2 : tie.Need-held-requires-2
-held-requires-2 c κs = ?
+held-requires-2 c κs = omega arith
 
 -- src/forms.rt:46:39
 slice-aggregate-operand-2 : tie.Need-slice-aggregate-operand-2
-slice-aggregate-operand-2 c = ?
+slice-aggregate-operand-2 c = refl
 
 -- src/forms.rt:46:9
 operand-requires-2 : tie.Need-operand-requires-2
-operand-requires-2 c κs = ?
+operand-requires-2 c κs = omega arith
 
 -- src/forms.rt:47:9
 held-requires-3 : tie.Need-held-requires-3
-held-requires-3 c κs = ?
+held-requires-3 c κs = omega arith
 
 -- src/forms.rt:48:9
 ends-requires : tie.Need-ends-requires
-ends-requires c κs = ?
+ends-requires c κs = omega arith
 
 -- src/forms.rt:49:9
 returns : tie.Need-returns
-returns c = ?
+unfolding wordSegm wordName wordParent wordBytes bytesOf
+returns c =
+    let ·keyword = c .before .before .before .before .before .before .before .before .before .before .before .keyword in
+    let ·assigned = c .before .before .before .before .before .before .before .before .before .assigned in
+    let ·held = c .before .before .before .before .before .before .before .before .held in
+    let ·operand = c .before .before .before .before .before .before .operand in
+    let ·held2 = c .before .before .before .before .before .held2 in
+    let ·operand2 = c .before .before .before .operand2 in let ·held3 = c .before .before .held3 in
+    segm-form (·keyword .ensures) (·assigned .ensures) (·held .ensures) (·operand .ensures) (·held2 .ensures)
+    (·operand2 .ensures) (·held3 .ensures) (c .before .ends .ensures) ∙ not-true _ (c .if1 .taken)
 
 -- src/forms.rt:53:39
 sub-number : tie.Need-sub-number
-sub-number c = ?
+sub-number c = omega arith
 
 -- src/forms.rt:53:39
 part-number-start : tie.Need-part-number-start
-part-number-start c = ?
+part-number-start c = omega arith
 
 -- src/forms.rt:53:39
 part-number-end : tie.Need-part-number-end
-part-number-end c = ?
+part-number-end c = omega arith
 
 -- src/forms.rt:53:32
 number-requires : tie.Need-number-requires
-number-requires c κs = ?
+unfolding wordSegm wordName wordParent wordBytes bytesOf
+number-requires c κs =
+    let ·keyword = c .before .before .before .before .before .before .before .before .before .before .before .before
+    .keyword in
+    let ·assigned = c .before .before .before .before .before .before .before .before .before .before .assigned in
+    let ·held = c .before .before .before .before .before .before .before .before .before .held in
+    let ·operand = c .before .before .before .before .before .before .before .operand in
+    let ·held2 = c .before .before .before .before .before .before .held2 in
+    let ·operand2 = c .before .before .before .before .operand2 in let ·held3 = c .before .before .before .held3 in
+    let ·ends = c .before .before .ends in
+    is-number (segm-bytes (·keyword .ensures) (·assigned .ensures) (·held .ensures) (·operand .ensures)
+    (·held2 .ensures) (·operand2 .ensures) (·held3 .ensures) (·ends .ensures) (not-false _ (c .before .if1 .left)))
 
 -- src/forms.rt:38:1
 returns-2 : tie.Need-returns-2
-returns-2 c = ?
+unfolding wordSegm wordName wordParent wordBytes bytesOf segmOf
+returns-2 c =
+    let ·keyword = c .before .before .before .before .before .before .before .before .before .before .before .before
+    .before .keyword in
+    let ·assigned = c .before .before .before .before .before .before .before .before .before .before .before .assigned
+    in let ·held = c .before .before .before .before .before .before .before .before .before .before .held in
+    let ·operand = c .before .before .before .before .before .before .before .before .operand in
+    let ·held2 = c .before .before .before .before .before .before .before .held2 in
+    let ·operand2 = c .before .before .before .before .before .operand2 in
+    let ·held3 = c .before .before .before .before .held3 in let ·ends = c .before .before .before .ends in
+    let ·if1 = c .before .before .if1 in
+    segm-right (·keyword .ensures) (·assigned .ensures) (·held .ensures) (·operand .ensures) (·held2 .ensures)
+    (·operand2 .ensures) (·held3 .ensures) (·ends .ensures) _ (not-false _ (·if1 .left)) (c .number .ensures)
 
 pub segm-spec : {M : Type 1} → statement M
 segm-spec =
