@@ -21,7 +21,8 @@ enum-told c = c .match .keys1
 
 -- src/forms.rt:131:9
 returns-2 : tie.Need-returns-2
-returns-2 c = dbd-says _ _ (c .match .keys2) (c .before .dbd .ensures)
+returns-2 c = let ·args = c .before .before .before .before .before .args in
+    dbd-says (·args .line .now) (c .before .dbd .result) (c .match .keys2) (c .before .dbd .ensures)
 
 -- src/forms.rt:133:9
 segm-requires : tie.Need-segm-requires
@@ -32,9 +33,10 @@ enum-told-2 c = c .match2 .keys1
 
 -- src/forms.rt:135:9
 returns-3 : tie.Need-returns-3
-returns-3 c = let ·enum-told = c .before .before .enum-told in let ·dbd = c .before .before .before .before .dbd in
-    segm-says _ _ (wrong-form dbdForm _ _ _ (·enum-told .given .1) (·dbd .ensures)) (c .match2 .keys2)
-    (c .before .segm .ensures)
+returns-3 c = let ·args = c .before .before .before .before .before .before .before .before .args in
+    let ·enum-told = c .before .before .enum-told in let ·dbd = c .before .before .before .before .dbd in
+    segm-says (·args .line .now) (c .before .segm .result)
+    (wrong-form dbdForm _ _ _ (·enum-told .given .1) (·dbd .ensures)) (c .match2 .keys2) (c .before .segm .ensures)
 
 -- src/forms.rt:137:9
 field-requires : tie.Need-field-requires
@@ -45,10 +47,13 @@ enum-told-3 c = c .match3 .keys1
 
 -- src/forms.rt:139:9
 returns-4 : tie.Need-returns-4
-returns-4 c = let ·enum-told = c .before .before .before .before .before .enum-told in
+returns-4 c =
+    let ·args = c .before .before .before .before .before .before .before .before .before .before .before .args in
+    let ·enum-told = c .before .before .before .before .before .enum-told in
     let ·dbd = c .before .before .before .before .before .before .before .dbd in
     let ·enum-told2 = c .before .before .enum-told2 in let ·segm = c .before .before .before .before .segm in
-    field-says _ _ (wrong-form dbdForm _ _ _ (·enum-told .given .1) (·dbd .ensures))
+    field-says (·args .line .now) (c .before .field .result)
+    (wrong-form dbdForm _ _ _ (·enum-told .given .1) (·dbd .ensures))
     (wrong-form segmForm _ _ _ (·enum-told2 .given .1) (·segm .ensures)) (c .match3 .keys2) (c .before .field .ensures)
 
 -- src/forms.rt:141:5
@@ -57,14 +62,16 @@ key-requires c κs = tt
 
 -- src/forms.rt:123:1
 returns-5 : tie.Need-returns-5
-returns-5 c = let ·enum-told = c .before .before .before .before .before .before .before .enum-told in
+returns-5 c =
+    let ·args = c .before .before .before .before .before .before .before .before .before .before .before .before
+    .before .args in let ·enum-told = c .before .before .before .before .before .before .before .enum-told in
     let ·dbd = c .before .before .before .before .before .before .before .before .before .dbd in
     let ·enum-told2 = c .before .before .before .before .enum-told2 in
     let ·segm = c .before .before .before .before .before .before .segm in
     let ·field = c .before .before .before .field in
     let ·past-blanks = c .before .before .before .before .before .before .before .before .before .before .before
     .past-blanks in let ·if1 = c .before .before .before .before .before .before .before .before .before .before .if1 in
-    key-says _ _ (wrong-form dbdForm _ _ _ (·enum-told .given .1) (·dbd .ensures))
+    key-says (·args .line .now) (c .key .result) (wrong-form dbdForm _ _ _ (·enum-told .given .1) (·dbd .ensures))
     (wrong-form segmForm _ _ _ (·enum-told2 .given .1) (·segm .ensures))
     (wrong-form fieldForm _ _ _ (c .before .enum-told3 .given .1) (·field .ensures))
     (line-more _ _ (·past-blanks .ensures) (·if1 .left)) (c .key .ensures)
