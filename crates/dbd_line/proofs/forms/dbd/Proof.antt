@@ -7,31 +7,31 @@ use Rattle.dbd_line.proofs.Told.{dbd-form, dbd-right}
 use Rattle.dbd_line.proofs.forms.dbd.Statement.{statement}
 use Rattle.dbd_line.proofs.forms.dbd.Tie as tie
 
--- src/forms.rt:29:34
+-- src/forms.rt: let first = keyword(line, 0, b"DBD");
 slice-aggregate-keyword : tie.Need-slice-aggregate-keyword
 slice-aggregate-keyword c = refl
 
--- src/forms.rt:29:9
+-- src/forms.rt: let first = keyword(line, 0, b"DBD");
 keyword-requires : tie.Need-keyword-requires
 keyword-requires c κs = omega arith
 
--- src/forms.rt:30:36
+-- src/forms.rt: let at = assigned(line, first, b"NAME");
 slice-aggregate-assigned : tie.Need-slice-aggregate-assigned
 slice-aggregate-assigned c = refl
 
--- src/forms.rt:30:9
+-- src/forms.rt: let at = assigned(line, first, b"NAME");
 assigned-requires : tie.Need-assigned-requires
 assigned-requires c κs = omega arith
 
--- src/forms.rt:31:9
+-- src/forms.rt: let name = held(line, at, Asks::AName);
 held-requires : tie.Need-held-requires
 held-requires c κs = omega arith
 
--- src/forms.rt:32:9
+-- src/forms.rt: if !ends(line, name) {
 ends-requires : tie.Need-ends-requires
 ends-requires c κs = omega arith
 
--- src/forms.rt:33:9
+-- src/forms.rt: return Line::Wrong;
 returns : tie.Need-returns
 unfolding wordDbd wordName bytesOf
 returns c = let ·keyword = c .before .before .before .before .before .keyword in
@@ -39,7 +39,7 @@ returns c = let ·keyword = c .before .before .before .before .before .keyword i
     dbd-form (·keyword .ensures) (·assigned .ensures) (·held .ensures) (c .before .ends .ensures) ∙ not-true _
     (c .if1 .taken)
 
--- src/forms.rt:26:1
+-- src/forms.rt: fn dbd(line: &[u8]) -> Line
 returns-2 : tie.Need-returns-2
 unfolding wordDbd wordName bytesOf dbdOf
 returns-2 c = let ·keyword = c .before .before .before .before .before .keyword in

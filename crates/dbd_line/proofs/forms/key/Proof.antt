@@ -8,63 +8,63 @@ use Rattle.dbd_line.proofs.Told.{key-form, key-inside, key-unique, key-
 use Rattle.dbd_line.proofs.forms.key.Statement.{statement}
 use Rattle.dbd_line.proofs.forms.key.Tie as tie
 
--- src/forms.rt:102:34
+-- src/forms.rt: let first = keyword(line, 0, b"FIELD");
 slice-aggregate-keyword : tie.Need-slice-aggregate-keyword
 slice-aggregate-keyword c = refl
 
--- src/forms.rt:102:9
+-- src/forms.rt: let first = keyword(line, 0, b"FIELD");
 keyword-requires : tie.Need-keyword-requires
 keyword-requires c κs = omega arith
 
--- src/forms.rt:103:36
+-- src/forms.rt: let at = assigned(line, first, b"NAME");
 slice-aggregate-assigned : tie.Need-slice-aggregate-assigned
 slice-aggregate-assigned c = refl
 
--- src/forms.rt:103:9
+-- src/forms.rt: let at = assigned(line, first, b"NAME");
 assigned-requires : tie.Need-assigned-requires
 assigned-requires c κs = omega arith
 
--- src/forms.rt:104:9
+-- src/forms.rt: let at = sign(line, at, b'(');
 sign-requires : tie.Need-sign-requires
 unfolding inWord isLetter isDigit isBlank
 sign-requires c κs = (omega arith, refl, refl)
 
--- src/forms.rt:105:9
+-- src/forms.rt: let name = held(line, at, Asks::AName);
 held-requires : tie.Need-held-requires
 held-requires c κs = omega arith
 
--- src/forms.rt:106:9
+-- src/forms.rt: let at = sign(line, name.to, b',');
 sign-requires-2 : tie.Need-sign-requires-2
 unfolding inWord isLetter isDigit isBlank
 sign-requires-2 c κs = (omega arith, refl, refl)
 
--- src/forms.rt:107:32
+-- src/forms.rt: let at = keyword(line, at, b"SEQ");
 slice-aggregate-keyword-2 : tie.Need-slice-aggregate-keyword-2
 slice-aggregate-keyword-2 c = refl
 
--- src/forms.rt:107:9
+-- src/forms.rt: let at = keyword(line, at, b"SEQ");
 keyword-requires-2 : tie.Need-keyword-requires-2
 keyword-requires-2 c κs = omega arith
 
--- src/forms.rt:108:9
+-- src/forms.rt: let at = sign(line, at, b',');
 sign-requires-3 : tie.Need-sign-requires-3
 unfolding inWord isLetter isDigit isBlank
 sign-requires-3 c κs = (omega arith, refl, refl)
 
--- src/forms.rt:109:9
+-- src/forms.rt: let letter = held(line, at, Asks::OneOf(b'U', b'M'));
 held-requires-2 : tie.Need-held-requires-2
 held-requires-2 c κs = omega arith
 
--- src/forms.rt:110:9
+-- src/forms.rt: let at = sign(line, letter.to, b')');
 sign-requires-4 : tie.Need-sign-requires-4
 unfolding inWord isLetter isDigit isBlank
 sign-requires-4 c κs = (omega arith, refl, refl)
 
--- src/forms.rt:111:9
+-- src/forms.rt: let e = rest(line, at);
 rest-requires : tie.Need-rest-requires
 rest-requires c κs = omega arith
 
--- src/forms.rt:113:9
+-- src/forms.rt: return Line::Wrong;
 returns : tie.Need-returns
 unfolding wordField wordName wordSeq bytesOf
 returns c =
@@ -82,7 +82,7 @@ returns c =
     (·keyword2 .ensures) (·sign3 .ensures) (·held2 .ensures) (·sign4 .ensures) (·rest .ensures) ∙ not-true _
     (c .if1 .taken)
 
--- src/forms.rt:116:8
+-- src/forms.rt: if line[from] == b'U' {
 shared-slice-read-if2 : tie.Need-shared-slice-read-if2
 unfolding wordField wordName wordSeq bytesOf
 shared-slice-read-if2 c =
@@ -101,7 +101,7 @@ shared-slice-read-if2 c =
     (·keyword2 .ensures) (·sign3 .ensures) (·held2 .ensures) (·sign4 .ensures) (·rest .ensures)
     (not-false _ (c .before .if1 .left))
 
--- src/forms.rt:117:9
+-- src/forms.rt: return Line::IsField(name, 1, e.long, e.start);
 returns-2 : tie.Need-returns-2
 unfolding wordField wordName wordSeq bytesOf keyOf
 returns-2 c =
@@ -121,7 +121,7 @@ returns-2 c =
     (·keyword2 .ensures) (·sign3 .ensures) (·held2 .ensures) (·sign4 .ensures) (·rest .ensures)
     (not-false _ (·if1 .left)) (c .if2 .taken)
 
--- src/forms.rt:99:1
+-- src/forms.rt: fn key(line: &[u8]) -> Line
 returns-3 : tie.Need-returns-3
 unfolding wordField wordName wordSeq bytesOf keyOf
 returns-3 c =

@@ -4,48 +4,51 @@ use Rattle.dbd_line.proofs.Said.{blank-line, line-more, wrong-form, dbd
 use Rattle.dbd_line.proofs.forms.line_of.Statement.{statement}
 use Rattle.dbd_line.proofs.forms.line_of.Tie as tie
 
--- src/forms.rt:126:8
+-- src/forms.rt: if past_blanks(line, 0) == line.len() {
 past-blanks-requires : tie.Need-past-blanks-requires
 past-blanks-requires c κs = omega arith
 
--- src/forms.rt:127:9
+-- src/forms.rt: return Line::Empty;
 returns : tie.Need-returns
 returns c = blank-line _ _ (c .before .past-blanks .ensures) (c .if1 .taken)
 
--- src/forms.rt:129:9
+-- src/forms.rt: let a = dbd(line);
 dbd-requires : tie.Need-dbd-requires
 dbd-requires c κs = tt
 
+-- src/forms.rt: let a = dbd(line);
 enum-told : tie.Need-enum-told
 enum-told c = c .match .keys1
 
--- src/forms.rt:131:9
+-- src/forms.rt: return a;
 returns-2 : tie.Need-returns-2
 returns-2 c = let ·args = c .before .before .before .before .before .args in
     dbd-says (·args .line .now) (c .before .dbd .result) (c .match .keys2) (c .before .dbd .ensures)
 
--- src/forms.rt:133:9
+-- src/forms.rt: let b = segm(line);
 segm-requires : tie.Need-segm-requires
 segm-requires c κs = tt
 
+-- src/forms.rt: let b = segm(line);
 enum-told-2 : tie.Need-enum-told-2
 enum-told-2 c = c .match2 .keys1
 
--- src/forms.rt:135:9
+-- src/forms.rt: return b;
 returns-3 : tie.Need-returns-3
 returns-3 c = let ·args = c .before .before .before .before .before .before .before .before .args in
     let ·enum-told = c .before .before .enum-told in let ·dbd = c .before .before .before .before .dbd in
     segm-says (·args .line .now) (c .before .segm .result)
     (wrong-form dbdForm _ _ _ (·enum-told .given .1) (·dbd .ensures)) (c .match2 .keys2) (c .before .segm .ensures)
 
--- src/forms.rt:137:9
+-- src/forms.rt: let c = field(line);
 field-requires : tie.Need-field-requires
 field-requires c κs = tt
 
+-- src/forms.rt: let c = field(line);
 enum-told-3 : tie.Need-enum-told-3
 enum-told-3 c = c .match3 .keys1
 
--- src/forms.rt:139:9
+-- src/forms.rt: return c;
 returns-4 : tie.Need-returns-4
 returns-4 c =
     let ·args = c .before .before .before .before .before .before .before .before .before .before .before .args in
@@ -56,11 +59,11 @@ returns-4 c =
     (wrong-form dbdForm _ _ _ (·enum-told .given .1) (·dbd .ensures))
     (wrong-form segmForm _ _ _ (·enum-told2 .given .1) (·segm .ensures)) (c .match3 .keys2) (c .before .field .ensures)
 
--- src/forms.rt:141:5
+-- src/forms.rt: key(line)
 key-requires : tie.Need-key-requires
 key-requires c κs = tt
 
--- src/forms.rt:123:1
+-- src/forms.rt: pub fn line_of(line: &[u8]) -> Line
 returns-5 : tie.Need-returns-5
 returns-5 c =
     let ·args = c .before .before .before .before .before .before .before .before .before .before .before .before

@@ -7,47 +7,47 @@ use Rattle.dbd_line.proofs.Told.{is-number, span-bytes, span-start, spa
 use Rattle.dbd_line.proofs.forms.rest.Statement.{statement}
 use Rattle.dbd_line.proofs.forms.rest.Tie as tie
 
--- src/forms.rt:61:32
+-- src/forms.rt: let at = operand(line, at, b"BYTES");
 slice-aggregate-operand : tie.Need-slice-aggregate-operand
 slice-aggregate-operand c = refl
 
--- src/forms.rt:61:9
+-- src/forms.rt: let at = operand(line, at, b"BYTES");
 operand-requires : tie.Need-operand-requires
 operand-requires c κs = omega arith
 
--- src/forms.rt:62:9
+-- src/forms.rt: let long = held(line, at, Asks::ANumber);
 held-requires : tie.Need-held-requires
 held-requires c κs = omega arith
 
--- src/forms.rt:63:37
+-- src/forms.rt: let at = operand(line, long.to, b"START");
 slice-aggregate-operand-2 : tie.Need-slice-aggregate-operand-2
 slice-aggregate-operand-2 c = refl
 
--- src/forms.rt:63:9
+-- src/forms.rt: let at = operand(line, long.to, b"START");
 operand-requires-2 : tie.Need-operand-requires-2
 operand-requires-2 c κs = omega arith
 
--- src/forms.rt:64:9
+-- src/forms.rt: let start = held(line, at, Asks::ANumber);
 held-requires-2 : tie.Need-held-requires-2
 held-requires-2 c κs = omega arith
 
--- src/forms.rt:65:38
+-- src/forms.rt: let at = operand(line, start.to, b"TYPE");
 slice-aggregate-operand-3 : tie.Need-slice-aggregate-operand-3
 slice-aggregate-operand-3 c = refl
 
--- src/forms.rt:65:9
+-- src/forms.rt: let at = operand(line, start.to, b"TYPE");
 operand-requires-3 : tie.Need-operand-requires-3
 operand-requires-3 c κs = omega arith
 
--- src/forms.rt:66:9
+-- src/forms.rt: let letter = held(line, at, Asks::OneOf(b'C', b'X'));
 held-requires-3 : tie.Need-held-requires-3
 held-requires-3 c κs = omega arith
 
--- src/forms.rt:67:9
+-- src/forms.rt: if !ends(line, letter) {
 ends-requires : tie.Need-ends-requires
 ends-requires c κs = omega arith
 
--- src/forms.rt:68:9
+-- src/forms.rt: return Extent {
 returns : tie.Need-returns
 unfolding wordBytes wordStart wordType bytesOf
 returns c = let ·operand = c .before .before .before .before .before .before .before .before .before .operand in
@@ -58,19 +58,19 @@ returns c = let ·operand = c .before .before .before .before .before .before .b
     span-wrong (·operand .ensures) (·held .ensures) (·operand2 .ensures) (·held2 .ensures) (·operand3 .ensures)
     (·held3 .ensures) (c .before .ends .ensures) 0 0 (not-true _ (c .if1 .taken))
 
--- src/forms.rt:80:22
+-- src/forms.rt: long: number(&line[a..b]),
 sub-number : tie.Need-sub-number
 sub-number c = omega arith
 
--- src/forms.rt:80:22
+-- src/forms.rt: long: number(&line[a..b]),
 part-number-start : tie.Need-part-number-start
 part-number-start c = omega arith
 
--- src/forms.rt:80:22
+-- src/forms.rt: long: number(&line[a..b]),
 part-number-end : tie.Need-part-number-end
 part-number-end c = omega arith
 
--- src/forms.rt:80:15
+-- src/forms.rt: long: number(&line[a..b]),
 number-requires : tie.Need-number-requires
 unfolding wordBytes wordStart wordType bytesOf
 number-requires c κs =
@@ -83,19 +83,19 @@ number-requires c κs =
     is-number (span-bytes (·operand .ensures) (·held .ensures) (·operand2 .ensures) (·held2 .ensures)
     (·operand3 .ensures) (·held3 .ensures) (·ends .ensures) (not-false _ (c .before .if1 .left)))
 
--- src/forms.rt:81:23
+-- src/forms.rt: start: number(&line[c..d]),
 sub-number-2 : tie.Need-sub-number-2
 sub-number-2 c = omega arith
 
--- src/forms.rt:81:23
+-- src/forms.rt: start: number(&line[c..d]),
 part-number-start-2 : tie.Need-part-number-start-2
 part-number-start-2 c = omega arith
 
--- src/forms.rt:81:23
+-- src/forms.rt: start: number(&line[c..d]),
 part-number-end-2 : tie.Need-part-number-end-2
 part-number-end-2 c = omega arith
 
--- src/forms.rt:81:16
+-- src/forms.rt: start: number(&line[c..d]),
 number-requires-2 : tie.Need-number-requires-2
 unfolding wordBytes wordStart wordType bytesOf
 number-requires-2 c κs =
@@ -110,7 +110,7 @@ number-requires-2 c κs =
     is-number (span-start (·operand .ensures) (·held .ensures) (·operand2 .ensures) (·held2 .ensures)
     (·operand3 .ensures) (·held3 .ensures) (·ends .ensures) (not-false _ (·if1 .left)))
 
--- src/forms.rt:57:1
+-- src/forms.rt: fn rest(line: &[u8], at: usize) -> Extent
 returns-2 : tie.Need-returns-2
 unfolding wordBytes wordStart wordType bytesOf
 returns-2 c =
