@@ -70,7 +70,8 @@ pub is-number : {line : Bytes} {i k : ℕ} {s : Span} → There line i number k 
 unfolding suits
 is-number t = t .fit
 
-valued : {line : Bytes} {i k : ℕ} {a : Slot} {s : Span} {v : ℕ} → There line i a k s → v ≡ capped (value (cut line s)) → v ≡ capped (value (wordAt (tokens (drop i line)) k))
+valued : {line : Bytes} {i k : ℕ} {a : Slot} {s : Span} {v : ℕ} → There line i a k s → v ≡ capped (value (cut line s))
+    → v ≡ capped (value (wordAt (tokens (drop i line)) k))
 valued t e = e ∙ sym (ap (λ (w : Bytes). capped (value w)) (t .is))
 
 -- DBD
@@ -109,7 +110,8 @@ module _ {line : Bytes} {i j k m : ℕ} {n p l : Span} {r : Bool} (a : Reached l
   unfolding segmForm
   segm-bytes z = there (take 11 segmForm) [] segm-to-bytes g (segm-form ∙ z)
 
-  pub segm-right : (v : ℕ) → r ≡ true → v ≡ capped (value (cut line l)) → (formed segmForm (tokens line) ≡ true) × Meant line (segmOf (tokens line)) (IsSegm n p v)
+  pub segm-right : (v : ℕ) → r ≡ true → v ≡ capped (value (cut line l))
+      → (formed segmForm (tokens line) ≡ true) × Meant line (segmOf (tokens line)) (IsSegm n p v)
   unfolding segmForm segmOf
   segm-right v z w = (
     segm-form ∙ z,
@@ -195,7 +197,8 @@ module _ {line : Bytes} {i j : ℕ} {n : Span} {x : Extent} (a : Reached line 0 
   )
 
 -- R77: the letter of a key; the first byte of a word tells its kind
-cut-front : (line : Bytes) (s : Span) → s .from < s .to → s .to ≤ length line → cut line s ≡ byte line (s .from) ∷ part line (suc (s .from)) (s .to - s .from - 1)
+cut-front : (line : Bytes) (s : Span) → s .from < s .to → s .to ≤ length line
+    → cut line s ≡ byte line (s .from) ∷ part line (suc (s .from)) (s .to - s .from - 1)
 cut-front line s l h =
     let z : s .to - s .from ≡ suc (s .to - s .from - 1) = omega arith in
     ap (λ (n : ℕ). take n (drop (s .from) line)) z ∙ ap (take (suc (s .to - s .from - 1))) (drop-cons line (s .from) 0 (omega arith))
