@@ -7,6 +7,7 @@ use native.Mathlib.Omega.{arith}
 use lib.Dec.{ltb, leb, eqb}
 use lib.ListN.{length, take, drop, set, length-append, length-drop, length-set}
 use lib.Seq.{sets, sets-eq, take-at, drop-at, drop-drop, set-append-left, length-take-le}
+use borrow.Rule.Slice.PartMut.{midOf}
 use borrow.Author.Tests.{lt-ltb, le-ltb, le-leb, lt-leb, ne-eqb}
 use Rattle.terms.specs.Choice.{pick}
 use Rattle.rules.specs.Block.{Bytes, byte, part}
@@ -16,7 +17,7 @@ use Rattle.statements.specs.Dbd.{Reading, given}
 use Rattle.statements.specs.Lent.{ReadInto, onto, high, handedOut, readBack}
 use Rattle.dbd_names.proofs.Rows.{joined-rows, length-rows, part-add}
 use Rattle.dbd_draft.specs.Kept.{draftOf}
-use Rattle.dbd_read.specs.Reading.{Wide}
+use Rattle.dbd_read.specs.Reading.{Wide, Counted}
 
 -- a line too great for 32 bits, and one that is not
 pub high-more : (n : ℕ) → 4294967295 < n → 4294967296 * 4294967295 ≡ high n
@@ -77,7 +78,7 @@ fault-out k n r cat names a h e f =
 
 -- a draft that is wide enough, as the two blocks: pieces of its array
 module _ (b : Bytes) (w : Wide b) where
-  part-long : (i n : ℕ) → i + n ≤ 1296 → length (part b i n) ≡ n
+  pub part-long : (i n : ℕ) → i + n ≤ 1296 → length (part b i n) ≡ n
   part-long i n h = length-take-le n (drop i b) (simp length-drop (omega (arith, w .long)))
 
   front-is : part b 0 (8 + 8 * types b) ≡ header 0x43 (types b) (fields b) ++ part b 8 (8 * types b)
@@ -183,3 +184,59 @@ module _ (b : Bytes) (w : Wide b) where
           ∙ ap (λ (t : Bytes). readBack (256 * length (rows 8 b 8 (types b)) + 65536 * length (rows 4 b 264 (fields b))) t d) e
           ∙ ap (λ (t : Bytes). readBack (256 * length (rows 8 b 8 (types b)) + 65536 * length (rows 4 b 264 (fields b))) (onto (catalogueOf (draftOf b)) cat) t) f
           ∙ out-whole (given (draftOf b)) cat names refl (tests true (le-leb (length (namesOf (draftOf b))) (length names) (omega (arith, names-long))))
+
+pub counted-by : (b : Bytes) (top last : ℕ) → Wide b → top ≡ byte b 5 → last ≡ byte b 6 → Counted b top last
+unfolding types fields
+counted-by b top last w e f = record { fits = w; types = e; fields = f }
+
+-- the pieces as the code takes them, T and F being numbers there
+module _ (b : Bytes) (top last : ℕ) (k : Counted b top last) where
+  pub top-few : top ≤ 32
+  top-few = omega (arith, k .types, k .fits .few)
+
+  pub last-few : last ≤ 64
+  last-few = omega (arith, k .fields, k .fits .fewFields)
+
+  pub front-long : length (take (8 + 8 * top) b) ≡ 8 + 8 * top
+  front-long = part-long b (k .fits) 0 (8 + 8 * top) (omega (arith, top-few))
+
+  pub fields-long : length (midOf 264 (264 + 4 * last - 264) b) ≡ 4 * last
+  fields-long = let z : 264 + 4 * last - 264 ≡ 4 * last = omega arith in rw z (part-long b (k .fits) 264 (4 * last) (omega (arith, last-few)))
+
+  pub header-part : length (take 8 b) ≡ 8
+  header-part = part-long b (k .fits) 0 8 (omega arith)
+
+  pub segments-long : length (midOf 520 (528 + 8 * top - 520) b) ≡ 8 + 8 * top
+  segments-long = let z : 528 + 8 * top - 520 ≡ 8 + 8 * top = omega arith in rw z (part-long b (k .fits) 520 (8 + 8 * top) (omega (arith, top-few)))
+
+  pub own-long : length (midOf 784 (784 + 8 * last - 784) b) ≡ 8 * last
+  own-long = let z : 784 + 8 * last - 784 ≡ 8 * last = omega arith in rw z (part-long b (k .fits) 784 (8 * last) (omega (arith, last-few)))
+
+  pub catalogue-put : (cat c d : Bytes) → 8 + 8 * top + 4 * last ≤ length cat → c ≡ sets cat 0 (take (8 + 8 * top) b)
+      → d ≡ sets c (8 + 8 * top) (midOf 264 (264 + 4 * last - 264) b) → d ≡ onto (catalogueOf (draftOf b)) cat
+  catalogue-put cat c d room e f =
+      let z : 264 + 4 * last - 264 ≡ 4 * last = omega arith in
+      catalogue-written b (k .fits) cat c d (omega (arith, k .types, k .fields)) (rw (k .types) at e) (rw (z, k .types, k .fields) at f)
+
+  pub names-put : (names c d e : Bytes) → 16 + 8 * top + 8 * last ≤ length names → c ≡ sets names 0 (take 8 b)
+      → d ≡ sets (set c 2 0x4E) 8 (midOf 520 (528 + 8 * top - 520) b) → e ≡ sets d (16 + 8 * top) (midOf 784 (784 + 8 * last - 784) b)
+      → e ≡ onto (namesOf (draftOf b)) names
+  names-put names c d e room f g h =
+      let x : 528 + 8 * top - 520 ≡ 8 + 8 * top = omega arith in
+      let y : 16 + 8 * top ≡ 8 + (8 + 8 * top) = omega arith in
+      let z : 784 + 8 * last - 784 ≡ 8 * last = omega arith in
+      names-written b (k .fits) names c d e (omega (arith, k .types, k .fields)) f (rw (x, k .types) at g) (rw (y, z, k .types, k .fields) at h)
+
+  -- R80, by these numbers
+  module _ (cat names : Bytes) where
+    pub out-no-room : length cat < 8 + 8 * top + 4 * last → readBack 28 cat names ≡ handedOut (given (draftOf b)) cat names
+    out-no-room h = no-room b (k .fits) cat names (omega (arith, k .types, k .fields))
+
+    module _ (room : 8 + 8 * top + 4 * last ≤ length cat) where
+      pub out-no-names : length names < 16 + 8 * top + 8 * last → readBack 28 cat names ≡ handedOut (given (draftOf b)) cat names
+      out-no-names h = no-room-names b (k .fits) cat names (omega (arith, k .types, k .fields)) (omega (arith, k .types, k .fields))
+
+      pub out-both : 16 + 8 * top + 8 * last ≤ length names → (c d : Bytes) → c ≡ onto (catalogueOf (draftOf b)) cat → d ≡ onto (namesOf (draftOf b)) names
+          → readBack (256 * top + 65536 * last) c d ≡ handedOut (given (draftOf b)) cat names
+      out-both h c d e f =
+          rw (k .types, k .fields) (both-out b (k .fits) cat names (omega (arith, k .types, k .fields)) (omega (arith, k .types, k .fields)) c d e f)
