@@ -36,6 +36,12 @@ pub record Wide (b : Bytes) : Type 0 where
   pub headed : part b 0 8 ≡ header 0x43 (types b) (fields b)
   pub based : 0 < byte b 520
 
+-- the same, with T and F as numbers
+pub record Counted (b : Bytes) (top last : ℕ) : Type 0 where
+  pub fits : Wide b
+  pub types : top ≡ types b
+  pub fields : last ≡ fields b
+
 -- the draft before the first line
 pub record Fresh (b levels : Bytes) : Type 0 where
   pub sound : Sound b levels
