@@ -1,51 +1,76 @@
+use borrow.Author.Needs.{needs}
+use mathlib.Core.Path.{_≡_, _∙_}
+use Prim.Native.Nat.{_+_, _-_, _≤_}
+use native.Mathlib.Omega.{arith}
+use Rattle.forest.specs.Numbers.{range}
+use Rattle.rules.specs.Block.{every}
+use Rattle.statements.specs.Dbd.{ascending}
+use Rattle.dbd_given.proofs.Rest.{numbers-next, numbers-stop, numbers-end}
+use Rattle.dbd_given.proofs.Fields.{rises, rises-not, rises-so, ascending-of}
 use Rattle.dbd_given.proofs.keys.ascending.Statement.{statement}
 use Rattle.dbd_given.proofs.keys.ascending.Tie as tie
-use Rattle.dbd_given.proofs.keys.ascending.Reads as reads
-use Rattle.dbd_given.proofs.keys.ascending.Lts as lts
-use Rattle.catalogue.proofs.entry_bytes.fields.Reads as fields-reads
-use Rattle.catalogue.proofs.fields.field_type.Reads as field-type-reads
 
 abbrev Inv-loop : tie.InvT-loop
-Inv-loop cat last f₀ f = ?
+Inv-loop cat last f₀ f = (1 ≤ f) × (every (rises cat) (range f (last - f)) ≡ ascending cat)
 
 abbrev μ-loop : tie.MeasureT-loop
-μ-loop cat last f₀ f = ?
+μ-loop cat last f₀ f = last - f
 
 -- src/keys.rt:18:9
 fields-requires : tie.Need-fields-requires Inv-loop μ-loop
-fields-requires c κs = ?
+fields-requires c κs = search needs
 
 -- src/keys.rt:20:5
 loop-holds : tie.Need-loop-holds Inv-loop μ-loop
-loop-holds c = ?
+loop-holds c = let ·args = c .before .before .args in
+    (omega arith, ascending-of (·args .cat .now) (c .fields .result) (c .fields .ensures))
 
 -- src/keys.rt:21:13
 field-type-requires : tie.Need-field-type-requires Inv-loop μ-loop
-field-type-requires c κs = ?
+field-type-requires c κs = search needs
 
 -- src/keys.rt:22:9
 add-f : tie.Need-add-f Inv-loop μ-loop
-add-f c = ?
+add-f c = omega arith
 
 -- src/keys.rt:23:13
 field-type-requires-2 : tie.Need-field-type-requires-2 Inv-loop μ-loop
-field-type-requires-2 c κs = ?
+field-type-requires-2 c κs = search needs
 
 -- src/keys.rt:25:13
 returns : tie.Need-returns Inv-loop μ-loop
-returns c = ?
+returns c = let ·args = c .before .before .before .before .before .before .before .before .before .args in
+    let ·loop = c .before .before .before .before .before .before .loop in
+    let ·fields = c .before .before .before .before .before .before .before .fields in
+    let ·loop-test = c .before .before .before .before .before .loop-test in
+    let ·field-type = c .before .before .before .before .field-type in
+    let ·field-type2 = c .before .before .before .field-type2 in
+    numbers-stop (rises (·args .cat .now)) (·loop .f) (·fields .result) (·loop-test .taken)
+    (rises-not (·args .cat .now) (·loop .f) (·field-type .result) (·field-type2 .result) (·field-type .ensures)
+    (·field-type2 .ensures) (c .if1 .taken)) ∙ ·loop .inv .1
 
 -- src/keys.rt:20:5
 loop-less : tie.Need-loop-less Inv-loop μ-loop
-loop-less c = ?
+loop-less c = omega arith
 
 -- src/keys.rt:20:5
 loop-again : tie.Need-loop-again Inv-loop μ-loop
-loop-again c = ?
+loop-again c = let ·args = c .before .before .before .before .before .before .before .before .before .args in (
+  omega arith,
+  numbers-next (rises (·args .cat .now)) (c .before .before .before .before .before .before .loop .f)
+      (c .before .before .before .before .before .before .before .fields .result)
+      (c .before .before .before .before .before .loop-test .taken)
+      (rises-so (·args .cat .now) (c .before .before .before .before .before .before .loop .f)
+      (c .before .before .before .before .field-type .result) (c .before .before .before .field-type2 .result)
+      (c .before .before .before .before .field-type .ensures) (c .before .before .before .field-type2 .ensures)
+      (c .if1 .left)) ∙ c .before .before .before .before .before .before .loop .inv .1,
+)
 
 -- src/keys.rt:15:1
 returns-2 : tie.Need-returns-2 Inv-loop μ-loop
-returns-2 c = ?
+returns-2 c = let ·args = c .before .before .before .before .args in let ·fields = c .before .before .fields in
+    numbers-end (rises (·args .cat .now)) (c .before .loop .f) (·fields .result) (c .loop-test .left) ∙
+    c .before .loop .inv .1
 
 pub ascending-spec : {M : Type 1} → statement M
 ascending-spec =

@@ -1,12 +1,7 @@
 use borrow.Author.Needs.{needs}
+use Rattle.dbd_given.proofs.Fields.{key-elsewhere, key-there}
 use Rattle.dbd_given.proofs.keys.is_key_of.Statement.{statement}
 use Rattle.dbd_given.proofs.keys.is_key_of.Tie as tie
-use Rattle.dbd_given.proofs.keys.is_key_of.Reads as reads
-use Rattle.dbd_given.proofs.keys.is_key_of.Lts as lts
-use Rattle.catalogue.proofs.entries.key_length.Reads as key-length-reads
-use Rattle.catalogue.proofs.entries.key_start.Reads as key-start-reads
-use Rattle.catalogue.proofs.fields.field_length.Reads as field-length-reads
-use Rattle.catalogue.proofs.fields.field_start.Reads as field-start-reads
 
 -- src/keys.rt:34:8
 field-start-requires : tie.Need-field-start-requires
@@ -18,7 +13,10 @@ key-start-requires c κs = search needs
 
 -- src/keys.rt:35:9
 returns : tie.Need-returns
-returns c = ?
+returns c = let ·args = c .before .before .before .before .args in
+    let ·field-start = c .before .before .field-start in
+    key-elsewhere (·args .cat .now) (·args .t .0) (·args .f .0) (·field-start .result) (c .before .key-start .result)
+    (·field-start .ensures) (c .before .key-start .ensures) (c .if1 .taken)
 
 -- src/keys.rt:37:5
 field-length-requires : tie.Need-field-length-requires
@@ -30,7 +28,12 @@ key-length-requires c κs = search needs
 
 -- src/keys.rt:31:1
 returns-2 : tie.Need-returns-2
-returns-2 c = ?
+returns-2 c = let ·args = c .before .before .before .before .before .before .args in
+    let ·field-start = c .before .before .before .before .field-start in
+    let ·key-start = c .before .before .before .key-start in let ·if1 = c .before .before .if1 in
+    key-there (·args .cat .now) (·args .t .0) (·args .f .0) (·field-start .result) (·key-start .result)
+    (·field-start .ensures) (·key-start .ensures) (·if1 .left) (c .before .field-length .result) (c .key-length .result)
+    (c .before .field-length .ensures) (c .key-length .ensures)
 
 pub is-key-of-spec : {M : Type 1} → statement M
 is-key-of-spec =

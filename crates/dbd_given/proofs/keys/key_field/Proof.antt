@@ -1,60 +1,98 @@
+use borrow.Author.Needs.{needs}
+use mathlib.Core.Path.{_≡_, sym, ap, _∙_}
+use Prim.Native.Nat.{ℕ, _+_, _-_, _≤_}
+use native.Mathlib.Omega.{arith}
+use Rattle.forest.specs.Numbers.{range}
+use Rattle.statements.specs.Dbd.{firstOf, those, isKeyOf, keyField}
+use Rattle.dbd_given.proofs.Rest.{first-here, first-next, first-other, first-none}
+use Rattle.dbd_given.proofs.Fields.{ofType, type-own, type-other, key-of}
 use Rattle.dbd_given.proofs.keys.key_field.Statement.{statement}
 use Rattle.dbd_given.proofs.keys.key_field.Tie as tie
-use Rattle.dbd_given.proofs.keys.key_field.Reads as reads
-use Rattle.dbd_given.proofs.keys.key_field.Lts as lts
-use Rattle.catalogue.proofs.entry_bytes.fields.Reads as fields-reads
-use Rattle.catalogue.proofs.fields.field_type.Reads as field-type-reads
-use Rattle.dbd_given.proofs.keys.is_key_of.Reads as is-key-of-reads
 
 abbrev Inv-loop : tie.InvT-loop
-Inv-loop cat t last f₀ f = ?
+Inv-loop cat t last f₀ f = (f ≤ last) × (firstOf (isKeyOf cat (t .0))
+    (those (ofType cat (t .0)) (range (f + 1) (last - f))) ≡ keyField cat (t .0))
 
 abbrev μ-loop : tie.MeasureT-loop
-μ-loop cat t last f₀ f = ?
+μ-loop cat t last f₀ f = last - f
 
 -- src/keys.rt:44:9
 fields-requires : tie.Need-fields-requires Inv-loop μ-loop
-fields-requires c κs = ?
+fields-requires c κs = search needs
 
 -- src/keys.rt:46:5
 loop-holds : tie.Need-loop-holds Inv-loop μ-loop
-loop-holds c = ?
+loop-holds c = let ·args = c .before .before .args in (
+  omega arith,
+  (let z : c .fields .result - 0 ≡ c .fields .result = omega arith in rw z
+      (key-of (·args .cat .now) (·args .t .0) (c .fields .result) (c .fields .ensures))),
+)
 
 -- src/keys.rt:47:9
 add-f : tie.Need-add-f Inv-loop μ-loop
-add-f c = ?
+add-f c = omega arith
 
 -- src/keys.rt:48:13
 field-type-requires : tie.Need-field-type-requires Inv-loop μ-loop
-field-type-requires c κs = ?
+field-type-requires c κs = search needs
 
 -- src/keys.rt:50:16
 is-key-of-requires : tie.Need-is-key-of-requires Inv-loop μ-loop
-is-key-of-requires c κs = ?
+is-key-of-requires c κs = search needs
 
 -- src/keys.rt:51:17
 returns : tie.Need-returns Inv-loop μ-loop
-returns c = ?
+returns c = let ·args = c .before .before .before .before .before .before .before .before .before .before .args in
+    let ·loop = c .before .before .before .before .before .before .before .loop in
+    let ·fields = c .before .before .before .before .before .before .before .before .fields in
+    let ·loop-test = c .before .before .before .before .before .before .loop-test in
+    let ·field-type = c .before .before .before .before .before .field-type in let ·if1 = c .before .before .if1 in
+    first-here (ofType (·args .cat .now) (·args .t .0)) (isKeyOf (·args .cat .now) (·args .t .0)) (·loop .f)
+    (·fields .result) (·loop-test .taken) (type-own (·args .cat .now) (·args .t .0) (·loop .f + 1) (·field-type .result)
+    (·field-type .ensures) (·if1 .taken)) (sym (c .before .is-key-of .ensures) ∙ c .if2 .taken) ∙ ·loop .inv .1
 
 -- src/keys.rt:46:5
 loop-less : tie.Need-loop-less Inv-loop μ-loop
-loop-less c = ?
+loop-less c = omega arith
 
 -- src/keys.rt:46:5
 loop-again : tie.Need-loop-again Inv-loop μ-loop
-loop-again c = ?
+loop-again c =
+    let ·args = c .before .before .before .before .before .before .before .before .before .before .args in (
+      omega arith,
+      first-next (ofType (·args .cat .now) (·args .t .0)) (isKeyOf (·args .cat .now) (·args .t .0))
+          (c .before .before .before .before .before .before .before .loop .f)
+          (c .before .before .before .before .before .before .before .before .fields .result)
+          (c .before .before .before .before .before .before .loop-test .taken)
+          (type-own (·args .cat .now) (·args .t .0) (c .before .before .before .before .before .before .before .loop .f + 1)
+          (c .before .before .before .before .before .field-type .result)
+          (c .before .before .before .before .before .field-type .ensures) (c .before .before .if1 .taken))
+          (sym (c .before .is-key-of .ensures) ∙ c .if2 .left) ∙
+          c .before .before .before .before .before .before .before .loop .inv .1,
+    )
 
 -- src/keys.rt:46:5
 loop-less-2 : tie.Need-loop-less-2 Inv-loop μ-loop
-loop-less-2 c = ?
+loop-less-2 c = omega arith
 
 -- src/keys.rt:46:5
 loop-again-2 : tie.Need-loop-again-2 Inv-loop μ-loop
-loop-again-2 c = ?
+loop-again-2 c = let ·args = c .before .before .before .before .before .before .before .before .args in (
+  omega arith,
+  first-other (ofType (·args .cat .now) (·args .t .0)) (isKeyOf (·args .cat .now) (·args .t .0))
+      (c .before .before .before .before .before .loop .f)
+      (c .before .before .before .before .before .before .fields .result)
+      (c .before .before .before .before .loop-test .taken)
+      (type-other (·args .cat .now) (·args .t .0) (c .before .before .before .before .before .loop .f + 1)
+      (c .before .before .before .field-type .result) (c .before .before .before .field-type .ensures) (c .if1 .left)) ∙
+      c .before .before .before .before .before .loop .inv .1,
+)
 
 -- src/keys.rt:41:1
 returns-2 : tie.Need-returns-2 Inv-loop μ-loop
-returns-2 c = ?
+returns-2 c = let ·args = c .before .before .before .before .args in let ·fields = c .before .before .fields in
+    first-none (ofType (·args .cat .now) (·args .t .0)) (isKeyOf (·args .cat .now) (·args .t .0)) (c .before .loop .f)
+    (·fields .result) (c .loop-test .left) ∙ c .before .loop .inv .1
 
 pub key-field-spec : {M : Type 1} → statement M
 key-field-spec =

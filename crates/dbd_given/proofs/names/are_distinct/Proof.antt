@@ -1,83 +1,100 @@
+use borrow.Author.Needs.{needs}
+use mathlib.Core.Path.{_≡_, refl, ap, _∙_}
+use Prim.Native.Nat.{_+_, _*_, _-_, _≤_}
+use native.Mathlib.Omega.{arith}
+use Rattle.statements.specs.Draft.{rows}
+use Rattle.statements.specs.Dbd.{distinct}
+use Rattle.dbd_given.proofs.Apart.{apart-start, apart-stop, apart-next, apart-end}
 use Rattle.dbd_given.proofs.names.are_distinct.Statement.{statement}
 use Rattle.dbd_given.proofs.names.are_distinct.Tie as tie
-use Rattle.dbd_given.proofs.names.are_distinct.Reads as reads
-use Rattle.dbd_given.proofs.names.are_distinct.Lts as lts
-use Rattle.blocks.proofs.wide.Reads as wide-reads
-use Rattle.dbd_names.proofs.place_of.Reads as place-of-reads
 
 abbrev Inv-loop : tie.InvT-loop
-Inv-loop names n i₀ i = ?
+Inv-loop names n i₀ i = (i ≤ n) × (distinct (rows 8 names (8 * i) (n - i)) ≡ distinct (rows 8 names 0 n))
 
 abbrev μ-loop : tie.MeasureT-loop
-μ-loop names n i₀ i = ?
+μ-loop names n i₀ i = n - i
 
 -- src/names.rt:113:5
 loop-holds : tie.Need-loop-holds Inv-loop μ-loop
-loop-holds c = ?
+loop-holds c = (omega arith, apart-start (c .before .args .names .now) (c .before .args .n))
 
 -- src/names.rt:114:22
 wide-requires : tie.Need-wide-requires Inv-loop μ-loop
-wide-requires c κs = ?
+wide-requires c κs = search needs
 
 -- src/names.rt:114:18
 mul-at : tie.Need-mul-at Inv-loop μ-loop
-mul-at c = ?
+mul-at c = omega arith
 
 -- src/names.rt:115:19
 add-end : tie.Need-add-end Inv-loop μ-loop
-add-end c = ?
+add-end c = omega arith
 
 -- src/names.rt:116:9
 add-i : tie.Need-add-i Inv-loop μ-loop
-add-i c = ?
+add-i c = omega arith
 
 -- src/names.rt:117:21
 sub-place-of : tie.Need-sub-place-of Inv-loop μ-loop
-sub-place-of c = ?
+sub-place-of c = omega arith
 
 -- src/names.rt:117:21
 part-place-of-start : tie.Need-part-place-of-start Inv-loop μ-loop
-part-place-of-start c = ?
+part-place-of-start c = omega arith
 
 -- src/names.rt:117:21
 part-place-of-end : tie.Need-part-place-of-end Inv-loop μ-loop
-part-place-of-end c = ?
+part-place-of-end c = omega arith
 
 -- src/names.rt:117:36
 sub-place-of-2 : tie.Need-sub-place-of-2 Inv-loop μ-loop
-sub-place-of-2 c = ?
+sub-place-of-2 c = omega arith
 
 -- src/names.rt:117:43
 sub-place-of-3 : tie.Need-sub-place-of-3 Inv-loop μ-loop
-sub-place-of-3 c = ?
+sub-place-of-3 c = omega arith
 
 -- src/names.rt:117:43
 part-place-of-start-2 : tie.Need-part-place-of-start-2 Inv-loop μ-loop
-part-place-of-start-2 c = ?
+part-place-of-start-2 c = omega arith
 
 -- src/names.rt:117:43
 part-place-of-end-2 : tie.Need-part-place-of-end-2 Inv-loop μ-loop
-part-place-of-end-2 c = ?
+part-place-of-end-2 c = omega arith
 
 -- src/names.rt:117:12
 place-of-requires : tie.Need-place-of-requires Inv-loop μ-loop
-place-of-requires c κs = ?
+place-of-requires c κs = search needs
 
 -- src/names.rt:118:13
 returns : tie.Need-returns Inv-loop μ-loop
-returns c = ?
+returns c = let ·args = c .before .before .before .before .before .before .before .before .args in
+    let ·loop = c .before .before .before .before .before .before .loop in
+    let ·wide = c .before .before .before .before .wide in
+    let ·loop-test = c .before .before .before .before .before .loop-test in
+    apart-stop (·args .names .now) (·loop .i) (·args .n) (8 * ·wide .result) (8 * ·wide .result + 8)
+    (ap (_*_ 8) (·wide .ensures .0)) refl (·loop-test .taken) (c .before .place-of .result)
+    (c .before .place-of .ensures) (c .if1 .taken) ∙ ·loop .inv .1
 
 -- src/names.rt:113:5
 loop-less : tie.Need-loop-less Inv-loop μ-loop
-loop-less c = ?
+loop-less c = omega arith
 
 -- src/names.rt:113:5
 loop-again : tie.Need-loop-again Inv-loop μ-loop
-loop-again c = ?
+loop-again c = let ·args = c .before .before .before .before .before .before .before .before .args in (
+  omega arith,
+  apart-next (·args .names .now) (c .before .before .before .before .before .before .loop .i) (·args .n)
+      (8 * c .before .before .before .before .wide .result) (8 * c .before .before .before .before .wide .result + 8)
+      (ap (_*_ 8) (c .before .before .before .before .wide .ensures .0)) refl
+      (c .before .before .before .before .before .loop-test .taken) (c .before .place-of .result)
+      (c .before .place-of .ensures) (c .if1 .left) ∙ c .before .before .before .before .before .before .loop .inv .1,
+)
 
 -- src/names.rt:108:1
 returns-2 : tie.Need-returns-2 Inv-loop μ-loop
-returns-2 c = ?
+returns-2 c = let ·args = c .before .before .before .args in
+    apart-end (·args .names .now) (c .before .loop .i) (·args .n) (c .loop-test .left) ∙ c .before .loop .inv .1
 
 pub are-distinct-spec : {M : Type 1} → statement M
 are-distinct-spec =

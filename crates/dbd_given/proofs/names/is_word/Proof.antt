@@ -1,46 +1,61 @@
+use borrow.Author.Needs.{needs}
+use mathlib.Core.Path.{_≡_, refl, _∙_}
+use Prim.Native.Nat.{_-_, _≤_}
+use native.Mathlib.Omega.{arith}
+use lib.ListN.{length, drop}
+use Rattle.rules.specs.Block.{every}
+use Rattle.blocks.proofs.Negated.{told-no, told-yes}
+use Rattle.statements.specs.Words.{inWord}
+use Rattle.dbd_given.proofs.Rest.{bytes-next, bytes-stop, bytes-end}
 use Rattle.dbd_given.proofs.names.is_word.Statement.{statement}
 use Rattle.dbd_given.proofs.names.is_word.Tie as tie
-use Rattle.dbd_given.proofs.names.is_word.Reads as reads
-use Rattle.dbd_given.proofs.names.is_word.Lts as lts
-use Rattle.dbd_words.proofs.words.in_word.Reads as in-word-reads
 
 abbrev Inv-loop : tie.InvT-loop
-Inv-loop word i₀ i = ?
+Inv-loop word i₀ i = (i ≤ length word) × (every inWord (drop i word) ≡ every inWord word)
 
 abbrev μ-loop : tie.MeasureT-loop
-μ-loop word i₀ i = ?
+μ-loop word i₀ i = length word - i
 
 -- src/names.rt:29:5
 loop-holds : tie.Need-loop-holds Inv-loop μ-loop
-loop-holds c = ?
+loop-holds c = (omega arith, refl)
 
 -- src/names.rt:30:21
 shared-slice-read-in-word : tie.Need-shared-slice-read-in-word Inv-loop μ-loop
-shared-slice-read-in-word c = ?
+shared-slice-read-in-word c = omega arith
 
 -- src/names.rt:30:13
 in-word-requires : tie.Need-in-word-requires Inv-loop μ-loop
-in-word-requires c κs = ?
+in-word-requires c κs = search needs
 
 -- src/names.rt:31:13
 returns : tie.Need-returns Inv-loop μ-loop
-returns c = ?
+returns c = let ·args = c .before .before .before .before .before .before .args in
+    let ·loop = c .before .before .before .before .loop in let ·loop-test = c .before .before .before .loop-test in
+    bytes-stop inWord (·args .word .now) (·loop .i) (·loop-test .taken)
+    (told-no (c .before .in-word .ensures) (c .if1 .taken)) ∙ ·loop .inv .1
 
 -- src/names.rt:33:9
 add-i : tie.Need-add-i Inv-loop μ-loop
-add-i c = ?
+add-i c = omega arith
 
 -- src/names.rt:29:5
 loop-less : tie.Need-loop-less Inv-loop μ-loop
-loop-less c = ?
+loop-less c = omega arith
 
 -- src/names.rt:29:5
 loop-again : tie.Need-loop-again Inv-loop μ-loop
-loop-again c = ?
+loop-again c = let ·args = c .before .before .before .before .before .before .args in (
+  omega arith,
+  bytes-next inWord (·args .word .now) (c .before .before .before .before .loop .i)
+      (c .before .before .before .loop-test .taken) (told-yes (c .before .in-word .ensures) (c .if1 .left)) ∙
+      c .before .before .before .before .loop .inv .1,
+)
 
 -- src/names.rt:25:1
 returns-2 : tie.Need-returns-2 Inv-loop μ-loop
-returns-2 c = ?
+returns-2 c = let ·args = c .before .before .before .args in
+    bytes-end inWord (·args .word .now) (c .before .loop .i) (c .loop-test .left) ∙ c .before .loop .inv .1
 
 pub is-word-spec : {M : Type 1} → statement M
 is-word-spec =
