@@ -1,16 +1,17 @@
 use borrow.Author.Needs.{needs}
+use mathlib.Core.Path.{_≡_, refl, sym, _∙_}
+use native.Mathlib.Omega.{arith}
+use lib.Seq.{length-take-le}
+use lib.ListN.{take}
+use Rattle.blocks.proofs.Negated.{told-no, told-yes}
+use Rattle.dbd_given.proofs.OneName.{no-word, name-short, name-none, name-spaced}
 use Rattle.dbd_given.proofs.names.good_name.Statement.{statement}
 use Rattle.dbd_given.proofs.names.good_name.Tie as tie
-use Rattle.dbd_given.proofs.names.good_name.Reads as reads
-use Rattle.dbd_given.proofs.names.good_name.Lts as lts
-use Rattle.dbd_given.proofs.names.all_spaces.Reads as all-spaces-reads
-use Rattle.dbd_given.proofs.names.is_word.Reads as is-word-reads
-use Rattle.dbd_names.proofs.name_end.Reads as name-end-reads
-use Rattle.dbd_words.proofs.words.is_name.Reads as is-name-reads
 
 -- src/names.rt:55:9
 returns : tie.Need-returns
-returns c = ?
+returns c = let ·args = c .before .before .args in
+    name-short (·args .name .now) (c .if1 .taken)
 
 -- src/names.rt:57:9
 name-end-requires : tie.Need-name-end-requires
@@ -18,7 +19,8 @@ name-end-requires c κs = search needs
 
 -- src/names.rt:58:17
 slice-aggregate-is-word : tie.Need-slice-aggregate-is-word
-slice-aggregate-is-word c = ?
+slice-aggregate-is-word c = let ·args = c .before .before .before .before .args in
+    sym (length-take-le (c .before .name-end .result) (·args .name .now) (c .before .name-end .ensures .0))
 
 -- src/names.rt:58:9
 is-word-requires : tie.Need-is-word-requires
@@ -26,11 +28,16 @@ is-word-requires c κs = search needs
 
 -- src/names.rt:59:9
 returns-2 : tie.Need-returns-2
-returns-2 c = ?
+returns-2 c = let ·args = c .before .before .before .before .before .before .args in
+    let ·name-end = c .before .before .before .name-end in let ·if1 = c .before .before .before .before .if1 in
+    name-none (·args .name .now) (·name-end .result) (·if1 .left) (·name-end .ensures .0) (·name-end .ensures .1)
+    (no-word (take (·name-end .result) (·args .name .now)) (told-no (c .before .is-word .ensures) (c .if2 .taken)))
 
 -- src/names.rt:61:17
 slice-aggregate-is-name : tie.Need-slice-aggregate-is-name
-slice-aggregate-is-name c = ?
+slice-aggregate-is-name c = let ·name-end = c .before .before .before .before .name-end in
+    let ·args = c .before .before .before .before .before .before .before .args in
+    sym (length-take-le (·name-end .result) (·args .name .now) (·name-end .ensures .0))
 
 -- src/names.rt:61:9
 is-name-requires : tie.Need-is-name-requires
@@ -38,19 +45,24 @@ is-name-requires c κs = search needs
 
 -- src/names.rt:62:9
 returns-3 : tie.Need-returns-3
-returns-3 c = ?
+returns-3 c = let ·args = c .before .before .before .before .before .before .before .before .before .args in
+    let ·name-end = c .before .before .before .before .before .before .name-end in
+    let ·if1 = c .before .before .before .before .before .before .before .if1 in
+    let ·is-word = c .before .before .before .before .is-word in let ·if2 = c .before .before .before .if2 in
+    name-none (·args .name .now) (·name-end .result) (·if1 .left) (·name-end .ensures .0) (·name-end .ensures .1)
+    (told-no (c .before .is-name .ensures (told-yes (·is-word .ensures) (·if2 .left))) (c .if3 .taken))
 
 -- src/names.rt:64:16
 sub-all-spaces : tie.Need-sub-all-spaces
-sub-all-spaces c = search needs
+sub-all-spaces c = omega arith
 
 -- src/names.rt:64:16
 part-all-spaces-start : tie.Need-part-all-spaces-start
-part-all-spaces-start c = search needs
+part-all-spaces-start c = omega arith
 
 -- src/names.rt:64:16
 part-all-spaces-end : tie.Need-part-all-spaces-end
-part-all-spaces-end c = search needs
+part-all-spaces-end c = omega arith
 
 -- src/names.rt:64:5
 all-spaces-requires : tie.Need-all-spaces-requires
@@ -58,7 +70,16 @@ all-spaces-requires c κs = search needs
 
 -- src/names.rt:51:1
 returns-4 : tie.Need-returns-4
-returns-4 c = ?
+returns-4 c =
+    let ·args = c .before .before .before .before .before .before .before .before .before .before .before .args in
+    let ·name-end = c .before .before .before .before .before .before .before .before .name-end in
+    let ·if1 = c .before .before .before .before .before .before .before .before .before .if1 in
+    let ·is-name = c .before .before .before .is-name in
+    let ·is-word = c .before .before .before .before .before .before .is-word in
+    let ·if2 = c .before .before .before .before .before .if2 in let ·if3 = c .before .before .if3 in
+    name-spaced (·args .name .now) (·name-end .result) (·if1 .left) (·name-end .ensures .0) (·name-end .ensures .1)
+    (told-yes (·is-name .ensures (told-yes (·is-word .ensures) (·if2 .left))) (·if3 .left)) (c .all-spaces .result)
+    (c .all-spaces .ensures)
 
 pub good-name-spec : {M : Type 1} → statement M
 good-name-spec =

@@ -1,119 +1,159 @@
+use borrow.Author.Needs.{needs}
+use mathlib.Core.Path.{_≡_, refl, ap, _∙_}
+use Prim.Native.Nat.{_+_, _*_, _-_, _≤_}
+use native.Mathlib.Omega.{arith}
+use Rattle.statements.specs.Draft.{rows, ownNames}
+use Rattle.statements.specs.Dbd.{distinct}
+use Rattle.dbd_names.proofs.Named.{ownFrom}
+use Rattle.dbd_given.proofs.Apart.{own-start, own-other, own-stop, own-next, own-end}
 use Rattle.dbd_given.proofs.names.own_distinct.Statement.{statement}
 use Rattle.dbd_given.proofs.names.own_distinct.Tie as tie
-use Rattle.dbd_given.proofs.names.own_distinct.Reads as reads
-use Rattle.dbd_given.proofs.names.own_distinct.Lts as lts
-use Rattle.blocks.proofs.wide.Reads as wide-reads
-use Rattle.dbd_names.proofs.is_own.Reads as is-own-reads
 
 abbrev Inv-loop : tie.InvT-loop
-Inv-loop fields names n t i₀ i = ?
+Inv-loop fields names n t i₀ i = (i ≤ n) ×
+    (distinct (ownFrom fields names n t i) ≡ distinct (ownNames t (rows 4 fields 0 n) (rows 8 names 0 n)))
 
 abbrev μ-loop : tie.MeasureT-loop
-μ-loop fields names n t i₀ i = ?
+μ-loop fields names n t i₀ i = n - i
 
 -- src/names.rt:130:5
 loop-holds : tie.Need-loop-holds Inv-loop μ-loop
-loop-holds c = ?
+loop-holds c = let ·args = c .before .before .args in
+    (omega arith, own-start (·args .fields .now) (·args .names .now) (·args .t) (·args .n))
 
 -- src/names.rt:131:25
 wide-requires : tie.Need-wide-requires Inv-loop μ-loop
-wide-requires c κs = ?
+wide-requires c κs = search needs
 
 -- src/names.rt:131:21
 mul-entry : tie.Need-mul-entry Inv-loop μ-loop
-mul-entry c = ?
+mul-entry c = omega arith
 
 -- src/names.rt:132:20
 add-next : tie.Need-add-next Inv-loop μ-loop
-add-next c = ?
+add-next c = omega arith
 
 -- src/names.rt:133:22
 wide-requires-2 : tie.Need-wide-requires-2 Inv-loop μ-loop
-wide-requires-2 c κs = ?
+wide-requires-2 c κs = search needs
 
 -- src/names.rt:133:18
 mul-at : tie.Need-mul-at Inv-loop μ-loop
-mul-at c = ?
+mul-at c = omega arith
 
 -- src/names.rt:134:19
 add-end : tie.Need-add-end Inv-loop μ-loop
-add-end c = ?
+add-end c = omega arith
 
 -- src/names.rt:135:9
 add-i : tie.Need-add-i Inv-loop μ-loop
-add-i c = ?
+add-i c = omega arith
 
 -- src/names.rt:136:12
 shared-slice-read-if1 : tie.Need-shared-slice-read-if1 Inv-loop μ-loop
-shared-slice-read-if1 c = ?
+shared-slice-read-if1 c = omega arith
 
 -- src/names.rt:137:23
 sub-is-own : tie.Need-sub-is-own Inv-loop μ-loop
-sub-is-own c = ?
+sub-is-own c = omega arith
 
 -- src/names.rt:137:23
 part-is-own-start : tie.Need-part-is-own-start Inv-loop μ-loop
-part-is-own-start c = ?
+part-is-own-start c = omega arith
 
 -- src/names.rt:137:23
 part-is-own-end : tie.Need-part-is-own-end Inv-loop μ-loop
-part-is-own-end c = ?
+part-is-own-end c = omega arith
 
 -- src/names.rt:137:40
 sub-is-own-2 : tie.Need-sub-is-own-2 Inv-loop μ-loop
-sub-is-own-2 c = ?
+sub-is-own-2 c = omega arith
 
 -- src/names.rt:137:40
 part-is-own-start-2 : tie.Need-part-is-own-start-2 Inv-loop μ-loop
-part-is-own-start-2 c = ?
+part-is-own-start-2 c = omega arith
 
 -- src/names.rt:137:40
 part-is-own-end-2 : tie.Need-part-is-own-end-2 Inv-loop μ-loop
-part-is-own-end-2 c = ?
+part-is-own-end-2 c = omega arith
 
 -- src/names.rt:137:55
 sub-is-own-3 : tie.Need-sub-is-own-3 Inv-loop μ-loop
-sub-is-own-3 c = ?
+sub-is-own-3 c = omega arith
 
 -- src/names.rt:137:65
 sub-is-own-4 : tie.Need-sub-is-own-4 Inv-loop μ-loop
-sub-is-own-4 c = ?
+sub-is-own-4 c = omega arith
 
 -- src/names.rt:137:65
 part-is-own-start-3 : tie.Need-part-is-own-start-3 Inv-loop μ-loop
-part-is-own-start-3 c = ?
+part-is-own-start-3 c = omega arith
 
 -- src/names.rt:137:65
 part-is-own-end-3 : tie.Need-part-is-own-end-3 Inv-loop μ-loop
-part-is-own-end-3 c = ?
+part-is-own-end-3 c = omega arith
 
 -- src/names.rt:137:16
 is-own-requires : tie.Need-is-own-requires Inv-loop μ-loop
-is-own-requires c κs = ?
+is-own-requires c κs = search needs
 
 -- src/names.rt:138:17
 returns : tie.Need-returns Inv-loop μ-loop
-returns c = ?
+returns c =
+    let ·args = c .before .before .before .before .before .before .before .before .before .before .before .before
+    .before .args in
+    let ·loop = c .before .before .before .before .before .before .before .before .before .before .loop in
+    let ·wide = c .before .before .before .before .before .before .before .before .wide in
+    let ·loop-test = c .before .before .before .before .before .before .before .before .before .loop-test in
+    let ·wide2 = c .before .before .before .before .before .before .before .wide2 in
+    let ·if1 = c .before .before .before .before .before .if1 in
+    own-stop (·args .fields .now) (·args .names .now) (·args .t) (·loop .i) (·args .n) (4 * ·wide .result)
+    (ap (_*_ 4) (·wide .ensures .0)) (·loop-test .taken) (4 * ·wide .result + 4) (8 * ·wide2 .result)
+    (8 * ·wide2 .result + 8) refl (ap (_*_ 8) (·wide2 .ensures .0)) refl (·if1 .taken) (c .before .is-own .result)
+    (c .before .is-own .ensures) (c .if2 .taken) ∙ ·loop .inv .1
 
 -- src/names.rt:130:5
 loop-less : tie.Need-loop-less Inv-loop μ-loop
-loop-less c = ?
+loop-less c = omega arith
 
 -- src/names.rt:130:5
 loop-again : tie.Need-loop-again Inv-loop μ-loop
-loop-again c = ?
+loop-again c =
+    let ·args = c .before .before .before .before .before .before .before .before .before .before .before .before
+    .before .args in (
+      omega arith,
+      own-next (·args .fields .now) (·args .names .now) (·args .t)
+          (c .before .before .before .before .before .before .before .before .before .before .loop .i) (·args .n)
+          (4 * c .before .before .before .before .before .before .before .before .wide .result)
+          (ap (_*_ 4) (c .before .before .before .before .before .before .before .before .wide .ensures .0))
+          (c .before .before .before .before .before .before .before .before .before .loop-test .taken)
+          (4 * c .before .before .before .before .before .before .before .before .wide .result + 4)
+          (8 * c .before .before .before .before .before .before .before .wide2 .result)
+          (8 * c .before .before .before .before .before .before .before .wide2 .result + 8) refl
+          (ap (_*_ 8) (c .before .before .before .before .before .before .before .wide2 .ensures .0)) refl
+          (c .before .before .before .before .before .if1 .taken) (c .before .is-own .result) (c .before .is-own .ensures)
+          (c .if2 .left) ∙ c .before .before .before .before .before .before .before .before .before .before .loop .inv .1,
+    )
 
 -- src/names.rt:130:5
 loop-less-2 : tie.Need-loop-less-2 Inv-loop μ-loop
-loop-less-2 c = ?
+loop-less-2 c = omega arith
 
 -- src/names.rt:130:5
 loop-again-2 : tie.Need-loop-again-2 Inv-loop μ-loop
-loop-again-2 c = ?
+loop-again-2 c = let ·args = c .before .before .before .before .before .before .before .before .args in (
+  omega arith,
+  own-other (·args .fields .now) (·args .names .now) (·args .t)
+      (c .before .before .before .before .before .loop .i) (·args .n) (4 * c .before .before .before .wide .result)
+      (ap (_*_ 4) (c .before .before .before .wide .ensures .0)) (c .before .before .before .before .loop-test .taken)
+      (c .if1 .left) ∙ c .before .before .before .before .before .loop .inv .1,
+)
 
 -- src/names.rt:125:1
 returns-2 : tie.Need-returns-2 Inv-loop μ-loop
-returns-2 c = ?
+returns-2 c = let ·args = c .before .before .before .before .args in
+    own-end (·args .fields .now) (·args .names .now) (·args .t) (c .before .loop .i) (·args .n) (c .loop-test .left) ∙
+    c .before .loop .inv .1
 
 pub own-distinct-spec : {M : Type 1} → statement M
 own-distinct-spec =
