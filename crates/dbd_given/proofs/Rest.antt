@@ -67,19 +67,23 @@ module _ (p q : ℕ → Bool) (f last : ℕ) where
       let w : f + 1 + 1 ≡ suc (f + 1) = omega arith in
       rw (z, w)
 
-  rest : List ℕ
-  rest = range (f + 1 + 1) (last - (f + 1))
+  first-left : f < last → firstOf q (those p (range (f + 1) (last - f))) ≡ firstOf q (those p ((f + 1) ∷ range (f + 1 + 1) (last - (f + 1))))
+  first-left h = ap (λ (is : List ℕ). firstOf q (those p is)) (left h)
 
   pub first-here : f < last → p (f + 1) ≡ true → q (f + 1) ≡ true → f + 1 ≡ firstOf q (those p (range (f + 1) (last - f)))
-  first-here h e g = rw (left h, those-in p q (f + 1) rest e) (sym (first-in p q (f + 1) (those p rest) g))
+  first-here h e g =
+      let is : List ℕ = range (f + 1 + 1) (last - (f + 1)) in
+      sym (first-left h ∙ ap (firstOf q) (those-in p q (f + 1) is e) ∙ first-in p q (f + 1) (those p is) g)
 
   pub first-next : f < last → p (f + 1) ≡ true → q (f + 1) ≡ false
       → firstOf q (those p (range (f + 1 + 1) (last - (f + 1)))) ≡ firstOf q (those p (range (f + 1) (last - f)))
-  first-next h e g = rw (left h, those-in p q (f + 1) rest e) (sym (first-out p q (f + 1) (those p rest) g))
+  first-next h e g =
+      let is : List ℕ = range (f + 1 + 1) (last - (f + 1)) in
+      sym (first-left h ∙ ap (firstOf q) (those-in p q (f + 1) is e) ∙ first-out p q (f + 1) (those p is) g)
 
   pub first-other : f < last → p (f + 1) ≡ false
       → firstOf q (those p (range (f + 1 + 1) (last - (f + 1)))) ≡ firstOf q (those p (range (f + 1) (last - f)))
-  first-other h e = rw (left h, those-out p q (f + 1) rest e)
+  first-other h e = let is : List ℕ = range (f + 1 + 1) (last - (f + 1)) in sym (first-left h ∙ ap (firstOf q) (those-out p q (f + 1) is e))
 
   pub first-none : last ≤ f → 0 ≡ firstOf q (those p (range (f + 1) (last - f)))
   unfolding firstOf those
