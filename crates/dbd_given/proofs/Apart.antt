@@ -5,7 +5,7 @@ use mathlib.Core.List.{List, [], _∷_}
 use Prim.Native.Nat.{ℕ, zero, suc, _+_, _-_, _*_, _<_, _≤_}
 use native.Mathlib.Nat.{sub-zero}
 use native.Mathlib.Omega.{arith}
-use lib.Dec.{ltb, eqb}
+use lib.Dec.{ltb}
 use lib.ListN.{length, take, drop, length-drop}
 use lib.Seq.{take-all, drop-drop, getD-take, getD-drop}
 use borrow.Author.Tests.{lt-ltb}
@@ -56,7 +56,9 @@ module _ (b : Bytes) (i n at end : ℕ) (start : at ≡ 8 * i) (long : end ≡ a
 
   module _ (h : i < n) (r : ℕ) (is : r ≡ placeOf (midOf at (end - at) b) (rows 8 (midOf end (length b - end) b) 0 (n - (i + 1)))) where
     placed : placeOf (part b (8 * i) 8) (rows 8 b (8 * (i + 1)) (n - (i + 1))) ≡ r
-    placed = sym (is ∙ ap (λ (t : Bytes). placeOf t (rows 8 (midOf end (length b - end) b) 0 (n - (i + 1)))) entry-of ∙ ap (placeOf (part b (8 * i) 8)) behind)
+    placed =
+        sym (is ∙ ap (λ (t : Bytes). placeOf t (rows 8 (midOf end (length b - end) b) 0 (n - (i + 1)))) entry-of
+        ∙ ap (placeOf (part b (8 * i) 8)) behind)
 
     pub apart-stop : (r ≡ 0 → ⊥) → false ≡ distinct (rows 8 b (8 * i) (n - i))
     unfolding has

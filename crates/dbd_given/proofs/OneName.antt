@@ -1,6 +1,6 @@
 -- What the tests of one name of 8 bytes say: a word that is a name, and spaces behind it (R82). Assumes nothing.
 use mathlib.Core.Path.{_≡_, refl, ap, sym, _∙_}
-use mathlib.Core.Bool.{Bool, true, false, _&&_, _||_, and-false}
+use mathlib.Core.Bool.{Bool, true, false, and-false}
 use mathlib.Core.List.{[], _∷_}
 use Prim.Native.Nat.{ℕ, _+_, _-_, _*_, _≤_}
 use native.Mathlib.Omega.{arith}
@@ -12,7 +12,7 @@ use borrow.Rule.Slice.PartMut.{midOf}
 use Rattle.forest.specs.Good.{on, off, is}
 use Rattle.rules.specs.Block.{Bytes, part, every}
 use Rattle.rules.proofs.Every.{every-in}
-use Rattle.statements.specs.Words.{isLetter, isDigit, inWord, isName, trimmed}
+use Rattle.statements.specs.Words.{isLetter, inWord, isName, trimmed}
 use Rattle.statements.specs.Dbd.{nameAt, goodName}
 
 letter-in : (b : ℕ) → isLetter b ≡ true → inWord b ≡ true

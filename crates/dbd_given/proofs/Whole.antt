@@ -1,6 +1,6 @@
 -- The tests of a catalogue and its list of names, in their order: the first that fails, or the last (R82). Assumes nothing.
-use mathlib.Core.Path.{_≡_, refl, sym, _∙_}
-use mathlib.Core.Bool.{Bool, true, false, _&&_}
+use mathlib.Core.Path.{_≡_}
+use mathlib.Core.Bool.{Bool, true, false}
 use Rattle.rules.specs.Block.{Bytes}
 use Rattle.rules.specs.Catalogue.{goodCatalogue}
 use Rattle.statements.specs.Dbd.{isPlain, goodNames, differ, ascending, keysListed, couldGive}

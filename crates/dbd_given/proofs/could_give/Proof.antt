@@ -4,31 +4,31 @@ use Rattle.dbd_given.proofs.Whole.{not-good, not-plain, not-named, not-
 use Rattle.dbd_given.proofs.could_give.Statement.{statement}
 use Rattle.dbd_given.proofs.could_give.Tie as tie
 
--- src/lib.rt:13:9
+-- src/lib.rt: if !is_good(cat) {
 is-good-requires : tie.Need-is-good-requires
 is-good-requires c κs = search needs
 
--- src/lib.rt:14:9
+-- src/lib.rt: return false;
 returns : tie.Need-returns
 returns c = let ·args = c .before .before .before .before .args in
     not-good (·args .cat .now) (·args .names .now) (told-no (c .before .is-good .ensures) (c .if1 .taken))
 
--- src/lib.rt:16:9
+-- src/lib.rt: if !plain::is_plain(cat) {
 is-plain-requires : tie.Need-is-plain-requires
 is-plain-requires c κs = search needs
 
--- src/lib.rt:17:9
+-- src/lib.rt: return false;
 returns-2 : tie.Need-returns-2
 returns-2 c = let ·args = c .before .before .before .before .before .before .args in
     let ·is-good = c .before .before .before .is-good in let ·if1 = c .before .before .if1 in
     not-plain (·args .cat .now) (·args .names .now) (told-yes (·is-good .ensures) (·if1 .left))
     (told-no (c .before .is-plain .ensures) (c .if2 .taken))
 
--- src/lib.rt:19:9
+-- src/lib.rt: if !names::good_names(cat, names) {
 good-names-requires : tie.Need-good-names-requires
 good-names-requires c κs = search needs
 
--- src/lib.rt:20:9
+-- src/lib.rt: return false;
 returns-3 : tie.Need-returns-3
 returns-3 c = let ·args = c .before .before .before .before .before .before .before .before .args in
     let ·is-good = c .before .before .before .before .before .is-good in
@@ -37,13 +37,13 @@ returns-3 c = let ·args = c .before .before .before .before .before .before .be
     not-named (·args .cat .now) (·args .names .now) (told-yes (·is-good .ensures) (·if1 .left))
     (told-yes (·is-plain .ensures) (·if2 .left)) (told-no (c .before .good-names .ensures) (c .if3 .taken))
 
--- src/lib.rt:22:9
+-- src/lib.rt: if !names::differ(cat, names) {
 differ-requires : tie.Need-differ-requires
 differ-requires c κs = let ·is-good = c .before .before .before .before .before .is-good in
     let ·if1 = c .before .before .before .before .if1 in
     ((told-yes (·is-good .ensures) (·if1 .left)), (told-yes (c .before .good-names .ensures) (c .if3 .left)))
 
--- src/lib.rt:23:9
+-- src/lib.rt: return false;
 returns-4 : tie.Need-returns-4
 returns-4 c = let ·args = c .before .before .before .before .before .before .before .before .before .before .args in
     let ·is-good = c .before .before .before .before .before .before .before .is-good in
@@ -55,11 +55,11 @@ returns-4 c = let ·args = c .before .before .before .before .before .before .be
     (told-yes (·is-plain .ensures) (·if2 .left)) (told-yes (·good-names .ensures) (·if3 .left))
     (told-no (c .before .differ .ensures) (c .if4 .taken))
 
--- src/lib.rt:25:9
+-- src/lib.rt: if !keys::ascending(cat) {
 ascending-requires : tie.Need-ascending-requires
 ascending-requires c κs = search needs
 
--- src/lib.rt:26:9
+-- src/lib.rt: return false;
 returns-5 : tie.Need-returns-5
 returns-5 c =
     let ·args = c .before .before .before .before .before .before .before .before .before .before .before .before .args
@@ -74,11 +74,11 @@ returns-5 c =
     (told-yes (·is-plain .ensures) (·if2 .left)) (told-yes (·good-names .ensures) (·if3 .left))
     (told-yes (·differ .ensures) (·if4 .left)) (told-no (c .before .ascending .ensures) (c .if5 .taken))
 
--- src/lib.rt:28:5
+-- src/lib.rt: keys::keys_listed(cat)
 keys-listed-requires : tie.Need-keys-listed-requires
 keys-listed-requires c κs = search needs
 
--- src/lib.rt:10:1
+-- src/lib.rt: pub fn could_give(cat: &[u8], names: &[u8]) -> bool
 returns-6 : tie.Need-returns-6
 returns-6 c =
     let ·args = c .before .before .before .before .before .before .before .before .before .before .before .before

@@ -16,28 +16,28 @@ Inv-loop cat last f₀ f = (1 ≤ f) × (every (rises cat) (range f (last - f)) 
 abbrev μ-loop : tie.MeasureT-loop
 μ-loop cat last f₀ f = last - f
 
--- src/keys.rt:18:9
+-- src/keys.rt: let last = fields(cat);
 fields-requires : tie.Need-fields-requires Inv-loop μ-loop
 fields-requires c κs = search needs
 
--- src/keys.rt:20:5
+-- src/keys.rt: while f < last {
 loop-holds : tie.Need-loop-holds Inv-loop μ-loop
 loop-holds c = let ·args = c .before .before .args in
     (omega arith, ascending-of (·args .cat .now) (c .fields .result) (c .fields .ensures))
 
--- src/keys.rt:21:13
+-- src/keys.rt: let t = field_type(cat, FieldNumber(f));
 field-type-requires : tie.Need-field-type-requires Inv-loop μ-loop
 field-type-requires c κs = search needs
 
--- src/keys.rt:22:9
+-- src/keys.rt: f += 1;
 add-f : tie.Need-add-f Inv-loop μ-loop
 add-f c = omega arith
 
--- src/keys.rt:23:13
+-- src/keys.rt: let u = field_type(cat, FieldNumber(f));
 field-type-requires-2 : tie.Need-field-type-requires-2 Inv-loop μ-loop
 field-type-requires-2 c κs = search needs
 
--- src/keys.rt:25:13
+-- src/keys.rt: return false;
 returns : tie.Need-returns Inv-loop μ-loop
 returns c = let ·args = c .before .before .before .before .before .before .before .before .before .args in
     let ·loop = c .before .before .before .before .before .before .loop in
@@ -49,11 +49,11 @@ returns c = let ·args = c .before .before .before .before .before .before .befo
     (rises-not (·args .cat .now) (·loop .f) (·field-type .result) (·field-type2 .result) (·field-type .ensures)
     (·field-type2 .ensures) (c .if1 .taken)) ∙ ·loop .inv .1
 
--- src/keys.rt:20:5
+-- src/keys.rt: while f < last {
 loop-less : tie.Need-loop-less Inv-loop μ-loop
 loop-less c = omega arith
 
--- src/keys.rt:20:5
+-- src/keys.rt: while f < last {
 loop-again : tie.Need-loop-again Inv-loop μ-loop
 loop-again c = let ·args = c .before .before .before .before .before .before .before .before .before .args in (
   omega arith,
@@ -66,7 +66,7 @@ loop-again c = let ·args = c .before .before .before .before .before .before .b
       (c .if1 .left)) ∙ c .before .before .before .before .before .before .loop .inv .1,
 )
 
--- src/keys.rt:15:1
+-- src/keys.rt: pub(crate) fn ascending(cat: &[u8]) -> bool
 returns-2 : tie.Need-returns-2 Inv-loop μ-loop
 returns-2 c = let ·args = c .before .before .before .before .args in let ·fields = c .before .before .fields in
     numbers-end (rises (·args .cat .now)) (c .before .loop .f) (·fields .result) (c .loop-test .left) ∙

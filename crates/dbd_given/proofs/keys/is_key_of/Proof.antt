@@ -3,30 +3,30 @@ use Rattle.dbd_given.proofs.Fields.{key-elsewhere, key-there}
 use Rattle.dbd_given.proofs.keys.is_key_of.Statement.{statement}
 use Rattle.dbd_given.proofs.keys.is_key_of.Tie as tie
 
--- src/keys.rt:34:8
+-- src/keys.rt: if field_start(cat, f) != key_start(cat, t) {
 field-start-requires : tie.Need-field-start-requires
 field-start-requires c κs = search needs
 
--- src/keys.rt:34:31
+-- src/keys.rt: if field_start(cat, f) != key_start(cat, t) {
 key-start-requires : tie.Need-key-start-requires
 key-start-requires c κs = search needs
 
--- src/keys.rt:35:9
+-- src/keys.rt: return false;
 returns : tie.Need-returns
 returns c = let ·args = c .before .before .before .before .args in
     let ·field-start = c .before .before .field-start in
     key-elsewhere (·args .cat .now) (·args .t .0) (·args .f .0) (·field-start .result) (c .before .key-start .result)
     (·field-start .ensures) (c .before .key-start .ensures) (c .if1 .taken)
 
--- src/keys.rt:37:5
+-- src/keys.rt: field_length(cat, f) == key_length(cat, t)
 field-length-requires : tie.Need-field-length-requires
 field-length-requires c κs = search needs
 
--- src/keys.rt:37:29
+-- src/keys.rt: field_length(cat, f) == key_length(cat, t)
 key-length-requires : tie.Need-key-length-requires
 key-length-requires c κs = search needs
 
--- src/keys.rt:31:1
+-- src/keys.rt: fn is_key_of(cat: &[u8], t: TypeCode, f: FieldNumber) -> bool
 returns-2 : tie.Need-returns-2
 returns-2 c = let ·args = c .before .before .before .before .before .before .args in
     let ·field-start = c .before .before .before .before .field-start in

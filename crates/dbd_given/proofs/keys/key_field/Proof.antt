@@ -1,6 +1,6 @@
 use borrow.Author.Needs.{needs}
-use mathlib.Core.Path.{_≡_, sym, ap, _∙_}
-use Prim.Native.Nat.{ℕ, _+_, _-_, _≤_}
+use mathlib.Core.Path.{_≡_, sym, _∙_}
+use Prim.Native.Nat.{_+_, _-_, _≤_}
 use native.Mathlib.Omega.{arith}
 use Rattle.forest.specs.Numbers.{range}
 use Rattle.statements.specs.Dbd.{firstOf, those, isKeyOf, keyField}
@@ -16,11 +16,11 @@ Inv-loop cat t last f₀ f = (f ≤ last) × (firstOf (isKeyOf cat (t .0))
 abbrev μ-loop : tie.MeasureT-loop
 μ-loop cat t last f₀ f = last - f
 
--- src/keys.rt:44:9
+-- src/keys.rt: let last = fields(cat);
 fields-requires : tie.Need-fields-requires Inv-loop μ-loop
 fields-requires c κs = search needs
 
--- src/keys.rt:46:5
+-- src/keys.rt: while f < last {
 loop-holds : tie.Need-loop-holds Inv-loop μ-loop
 loop-holds c = let ·args = c .before .before .args in (
   omega arith,
@@ -28,19 +28,19 @@ loop-holds c = let ·args = c .before .before .args in (
       (key-of (·args .cat .now) (·args .t .0) (c .fields .result) (c .fields .ensures))),
 )
 
--- src/keys.rt:47:9
+-- src/keys.rt: f += 1;
 add-f : tie.Need-add-f Inv-loop μ-loop
 add-f c = omega arith
 
--- src/keys.rt:48:13
+-- src/keys.rt: let u = field_type(cat, FieldNumber(f));
 field-type-requires : tie.Need-field-type-requires Inv-loop μ-loop
 field-type-requires c κs = search needs
 
--- src/keys.rt:50:16
+-- src/keys.rt: if is_key_of(cat, t, FieldNumber(f)) {
 is-key-of-requires : tie.Need-is-key-of-requires Inv-loop μ-loop
 is-key-of-requires c κs = search needs
 
--- src/keys.rt:51:17
+-- src/keys.rt: return f;
 returns : tie.Need-returns Inv-loop μ-loop
 returns c = let ·args = c .before .before .before .before .before .before .before .before .before .before .args in
     let ·loop = c .before .before .before .before .before .before .before .loop in
@@ -51,11 +51,11 @@ returns c = let ·args = c .before .before .before .before .before .before .befo
     (·fields .result) (·loop-test .taken) (type-own (·args .cat .now) (·args .t .0) (·loop .f + 1) (·field-type .result)
     (·field-type .ensures) (·if1 .taken)) (sym (c .before .is-key-of .ensures) ∙ c .if2 .taken) ∙ ·loop .inv .1
 
--- src/keys.rt:46:5
+-- src/keys.rt: while f < last {
 loop-less : tie.Need-loop-less Inv-loop μ-loop
 loop-less c = omega arith
 
--- src/keys.rt:46:5
+-- src/keys.rt: while f < last {
 loop-again : tie.Need-loop-again Inv-loop μ-loop
 loop-again c =
     let ·args = c .before .before .before .before .before .before .before .before .before .before .args in (
@@ -71,11 +71,11 @@ loop-again c =
           c .before .before .before .before .before .before .before .loop .inv .1,
     )
 
--- src/keys.rt:46:5
+-- src/keys.rt: while f < last {
 loop-less-2 : tie.Need-loop-less-2 Inv-loop μ-loop
 loop-less-2 c = omega arith
 
--- src/keys.rt:46:5
+-- src/keys.rt: while f < last {
 loop-again-2 : tie.Need-loop-again-2 Inv-loop μ-loop
 loop-again-2 c = let ·args = c .before .before .before .before .before .before .before .before .args in (
   omega arith,
@@ -88,7 +88,7 @@ loop-again-2 c = let ·args = c .before .before .before .before .before .before 
       c .before .before .before .before .before .loop .inv .1,
 )
 
--- src/keys.rt:41:1
+-- src/keys.rt: pub fn key_field(cat: &[u8], t: TypeCode) -> u8
 returns-2 : tie.Need-returns-2 Inv-loop μ-loop
 returns-2 c = let ·args = c .before .before .before .before .args in let ·fields = c .before .before .fields in
     first-none (ofType (·args .cat .now) (·args .t .0)) (isKeyOf (·args .cat .now) (·args .t .0)) (c .before .loop .f)

@@ -16,11 +16,11 @@ Inv-loop cat top k₀ k = (k ≤ top) × (every (listed cat) (range (k + 1) (top
 abbrev μ-loop : tie.MeasureT-loop
 μ-loop cat top k₀ k = top - k
 
--- src/keys.rt:61:9
+-- src/keys.rt: let top = types(cat);
 types-requires : tie.Need-types-requires Inv-loop μ-loop
 types-requires c κs = search needs
 
--- src/keys.rt:63:5
+-- src/keys.rt: while k < top {
 loop-holds : tie.Need-loop-holds Inv-loop μ-loop
 loop-holds c = let ·args = c .before .before .args in (
   omega arith,
@@ -28,19 +28,19 @@ loop-holds c = let ·args = c .before .before .args in (
       (all-listed (·args .cat .now) (c .types .result) (c .types .ensures))),
 )
 
--- src/keys.rt:64:9
+-- src/keys.rt: k += 1;
 add-k : tie.Need-add-k Inv-loop μ-loop
 add-k c = omega arith
 
--- src/keys.rt:65:12
+-- src/keys.rt: if key_kind(cat, TypeCode(k)) != 0 {
 key-kind-requires : tie.Need-key-kind-requires Inv-loop μ-loop
 key-kind-requires c κs = search needs
 
--- src/keys.rt:66:16
+-- src/keys.rt: if key_field(cat, TypeCode(k)) == 0 {
 key-field-requires : tie.Need-key-field-requires Inv-loop μ-loop
 key-field-requires c κs = search needs
 
--- src/keys.rt:67:17
+-- src/keys.rt: return false;
 returns : tie.Need-returns Inv-loop μ-loop
 returns c = let ·args = c .before .before .before .before .before .before .before .before .args in
     let ·loop = c .before .before .before .before .before .loop in
@@ -51,11 +51,11 @@ returns c = let ·args = c .before .before .before .before .before .before .befo
     (listed-not (·args .cat .now) (·loop .k + 1) (·key-kind .result) (·key-kind .ensures) (·if1 .taken)
     (c .before .key-field .result) (c .before .key-field .ensures) (c .if2 .taken)) ∙ ·loop .inv .1
 
--- src/keys.rt:63:5
+-- src/keys.rt: while k < top {
 loop-less : tie.Need-loop-less Inv-loop μ-loop
 loop-less c = omega arith
 
--- src/keys.rt:63:5
+-- src/keys.rt: while k < top {
 loop-again : tie.Need-loop-again Inv-loop μ-loop
 loop-again c = let ·args = c .before .before .before .before .before .before .before .before .args in (
   omega arith,
@@ -68,11 +68,11 @@ loop-again c = let ·args = c .before .before .before .before .before .before .b
       c .before .before .before .before .before .loop .inv .1,
 )
 
--- src/keys.rt:63:5
+-- src/keys.rt: while k < top {
 loop-less-2 : tie.Need-loop-less-2 Inv-loop μ-loop
 loop-less-2 c = omega arith
 
--- src/keys.rt:63:5
+-- src/keys.rt: while k < top {
 loop-again-2 : tie.Need-loop-again-2 Inv-loop μ-loop
 loop-again-2 c = let ·args = c .before .before .before .before .before .before .args in (
   omega arith,
@@ -82,7 +82,7 @@ loop-again-2 c = let ·args = c .before .before .before .before .before .before 
       (c .before .key-kind .ensures) (c .if1 .left)) ∙ c .before .before .before .loop .inv .1,
 )
 
--- src/keys.rt:58:1
+-- src/keys.rt: pub(crate) fn keys_listed(cat: &[u8]) -> bool
 returns-2 : tie.Need-returns-2 Inv-loop μ-loop
 returns-2 c = let ·args = c .before .before .before .before .args in let ·types = c .before .before .types in
     every-done (listed (·args .cat .now)) (c .before .loop .k) (·types .result) (c .loop-test .left) ∙

@@ -15,30 +15,30 @@ Inv-loop b i₀ i = (i ≤ length b) × (every (λ x. eqb x 0x20) (drop i b) ≡
 abbrev μ-loop : tie.MeasureT-loop
 μ-loop b i₀ i = length b - i
 
--- src/names.rt:42:5
+-- src/names.rt: while i < b.len() {
 loop-holds : tie.Need-loop-holds Inv-loop μ-loop
 loop-holds c = (omega arith, refl)
 
--- src/names.rt:43:12
+-- src/names.rt: if b[i] != 0x20 {
 shared-slice-read-if1 : tie.Need-shared-slice-read-if1 Inv-loop μ-loop
 shared-slice-read-if1 c = omega arith
 
--- src/names.rt:44:13
+-- src/names.rt: return false;
 returns : tie.Need-returns Inv-loop μ-loop
 returns c = let ·args = c .before .before .before .before .args in let ·loop = c .before .before .before .loop in
     let ·loop-test = c .before .before .loop-test in
     bytes-stop (λ x. eqb x 0x20) (·args .b .now) (·loop .i) (·loop-test .taken) (ne-eqb _ _ (c .if1 .taken)) ∙
     ·loop .inv .1
 
--- src/names.rt:46:9
+-- src/names.rt: i += 1;
 add-i : tie.Need-add-i Inv-loop μ-loop
 add-i c = omega arith
 
--- src/names.rt:42:5
+-- src/names.rt: while i < b.len() {
 loop-less : tie.Need-loop-less Inv-loop μ-loop
 loop-less c = omega arith
 
--- src/names.rt:42:5
+-- src/names.rt: while i < b.len() {
 loop-again : tie.Need-loop-again Inv-loop μ-loop
 loop-again c = let ·args = c .before .before .before .before .args in (
   omega arith,
@@ -46,7 +46,7 @@ loop-again c = let ·args = c .before .before .before .before .args in (
       (c .before .before .loop-test .taken) (eq-eqb _ _ (c .if1 .left)) ∙ c .before .before .before .loop .inv .1,
 )
 
--- src/names.rt:38:1
+-- src/names.rt: fn all_spaces(b: &[u8]) -> bool
 returns-2 : tie.Need-returns-2 Inv-loop μ-loop
 returns-2 c = let ·args = c .before .before .args in
     bytes-end (λ x. eqb x 0x20) (·args .b .now) (c .before .loop .i) (c .loop-test .left) ∙ c .before .loop .inv .1

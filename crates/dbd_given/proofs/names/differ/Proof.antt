@@ -2,7 +2,6 @@ use borrow.Author.Needs.{needs}
 use mathlib.Core.Path.{_≡_, refl, ap, _∙_}
 use Prim.Native.Nat.{ℕ, _+_, _*_, _-_, _≤_}
 use native.Mathlib.Omega.{arith}
-use lib.ListN.{length, length-drop, length-take}
 use Rattle.forest.specs.Numbers.{range}
 use Rattle.rules.specs.Block.{every}
 use Rattle.statements.specs.Dbd.{differ}
@@ -19,15 +18,15 @@ Inv-loop cat names top last entries own k₀ k = (k ≤ top) ×
 abbrev μ-loop : tie.MeasureT-loop
 μ-loop cat names top last entries own k₀ k = top - k
 
--- src/names.rt:149:9
+-- src/names.rt: let top = types(cat);
 types-requires : tie.Need-types-requires Inv-loop μ-loop
 types-requires c κs = search needs
 
--- src/names.rt:150:9
+-- src/names.rt: let last = fields(cat);
 fields-requires : tie.Need-fields-requires Inv-loop μ-loop
 fields-requires c κs = search needs
 
--- src/names.rt:151:22
+-- src/names.rt: if !are_distinct(&names[16..], top) {
 sub-are-distinct : tie.Need-sub-are-distinct Inv-loop μ-loop
 sub-are-distinct c = let ·args = c .before .before .before .before .args in
     omega (
@@ -39,7 +38,7 @@ sub-are-distinct c = let ·args = c .before .before .before .before .args in
       c .fields .ensures,
     )
 
--- src/names.rt:151:22
+-- src/names.rt: if !are_distinct(&names[16..], top) {
 part-are-distinct-start : tie.Need-part-are-distinct-start Inv-loop μ-loop
 part-are-distinct-start c = let ·args = c .before .before .before .before .args in
     omega (
@@ -51,7 +50,7 @@ part-are-distinct-start c = let ·args = c .before .before .before .before .args
       c .fields .ensures,
     )
 
--- src/names.rt:151:22
+-- src/names.rt: if !are_distinct(&names[16..], top) {
 part-are-distinct-end : tie.Need-part-are-distinct-end Inv-loop μ-loop
 part-are-distinct-end c = let ·args = c .before .before .before .before .args in
     omega (
@@ -63,7 +62,7 @@ part-are-distinct-end c = let ·args = c .before .before .before .before .args i
       c .fields .ensures,
     )
 
--- src/names.rt:151:9
+-- src/names.rt: if !are_distinct(&names[16..], top) {
 are-distinct-requires : tie.Need-are-distinct-requires Inv-loop μ-loop
 are-distinct-requires c κs = let ·args = c .before .before .before .before .before .args in
     omega (
@@ -75,30 +74,30 @@ are-distinct-requires c κs = let ·args = c .before .before .before .before .be
       c .before .fields .ensures,
     )
 
--- src/names.rt:152:9
+-- src/names.rt: return false;
 returns : tie.Need-returns Inv-loop μ-loop
 returns c = let ·args = c .before .before .before .before .before .before .before .args in
     let ·types = c .before .before .before .before .types in
     differ-not (·args .cat .now) (·args .names .now) (·types .result) (·types .ensures)
     (c .before .are-distinct .result) (c .before .are-distinct .ensures) (told-no refl (c .if1 .taken))
 
--- src/names.rt:154:27
+-- src/names.rt: let entries = 8 + 8 * wide(top);
 wide-requires : tie.Need-wide-requires Inv-loop μ-loop
 wide-requires c κs = search needs
 
--- src/names.rt:154:23
+-- src/names.rt: let entries = 8 + 8 * wide(top);
 mul-entries : tie.Need-mul-entries Inv-loop μ-loop
 mul-entries c = omega arith
 
--- src/names.rt:154:19
+-- src/names.rt: let entries = 8 + 8 * wide(top);
 add-entries : tie.Need-add-entries Inv-loop μ-loop
 add-entries c = omega arith
 
--- src/names.rt:155:15
+-- src/names.rt: let own = 8 + entries;
 add-own : tie.Need-add-own Inv-loop μ-loop
 add-own c = omega arith
 
--- src/names.rt:157:5
+-- src/names.rt: while k < top {
 loop-holds : tie.Need-loop-holds Inv-loop μ-loop
 loop-holds c = let ·args = c .before .before .before .before .before .before .before .before .args in (
   omega arith,
@@ -109,11 +108,11 @@ loop-holds c = let ·args = c .before .before .before .before .before .before .b
       (c .before .before .are-distinct .ensures) (told-yes refl (c .before .if1 .left)))),
 )
 
--- src/names.rt:158:9
+-- src/names.rt: k += 1;
 add-k : tie.Need-add-k Inv-loop μ-loop
 add-k c = omega arith
 
--- src/names.rt:159:26
+-- src/names.rt: if !own_distinct(&cat[entries..], &names[own..], last, k) {
 sub-own-distinct : tie.Need-sub-own-distinct Inv-loop μ-loop
 sub-own-distinct c =
     let ·args = c .before .before .before .before .before .before .before .before .before .before .args in
@@ -128,7 +127,7 @@ sub-own-distinct c =
       c .before .before .before .before .before .before .fields .ensures,
     )
 
--- src/names.rt:159:26
+-- src/names.rt: if !own_distinct(&cat[entries..], &names[own..], last, k) {
 part-own-distinct-start : tie.Need-part-own-distinct-start Inv-loop μ-loop
 part-own-distinct-start c =
     let ·args = c .before .before .before .before .before .before .before .before .before .before .args in
@@ -143,7 +142,7 @@ part-own-distinct-start c =
       c .before .before .before .before .before .before .fields .ensures,
     )
 
--- src/names.rt:159:26
+-- src/names.rt: if !own_distinct(&cat[entries..], &names[own..], last, k) {
 part-own-distinct-end : tie.Need-part-own-distinct-end Inv-loop μ-loop
 part-own-distinct-end c =
     let ·args = c .before .before .before .before .before .before .before .before .before .before .args in
@@ -158,7 +157,7 @@ part-own-distinct-end c =
       c .before .before .before .before .before .before .fields .ensures,
     )
 
--- src/names.rt:159:43
+-- src/names.rt: if !own_distinct(&cat[entries..], &names[own..], last, k) {
 sub-own-distinct-2 : tie.Need-sub-own-distinct-2 Inv-loop μ-loop
 sub-own-distinct-2 c =
     let ·args = c .before .before .before .before .before .before .before .before .before .before .before .args in
@@ -173,7 +172,7 @@ sub-own-distinct-2 c =
       c .before .before .before .before .before .before .before .fields .ensures,
     )
 
--- src/names.rt:159:43
+-- src/names.rt: if !own_distinct(&cat[entries..], &names[own..], last, k) {
 part-own-distinct-start-2 : tie.Need-part-own-distinct-start-2 Inv-loop μ-loop
 part-own-distinct-start-2 c =
     let ·args = c .before .before .before .before .before .before .before .before .before .before .before .args in
@@ -188,7 +187,7 @@ part-own-distinct-start-2 c =
       c .before .before .before .before .before .before .before .fields .ensures,
     )
 
--- src/names.rt:159:43
+-- src/names.rt: if !own_distinct(&cat[entries..], &names[own..], last, k) {
 part-own-distinct-end-2 : tie.Need-part-own-distinct-end-2 Inv-loop μ-loop
 part-own-distinct-end-2 c =
     let ·args = c .before .before .before .before .before .before .before .before .before .before .before .args in
@@ -203,7 +202,7 @@ part-own-distinct-end-2 c =
       c .before .before .before .before .before .before .before .fields .ensures,
     )
 
--- src/names.rt:159:13
+-- src/names.rt: if !own_distinct(&cat[entries..], &names[own..], last, k) {
 own-distinct-requires : tie.Need-own-distinct-requires Inv-loop μ-loop
 own-distinct-requires c κs =
     let ·args = c .before .before .before .before .before .before .before .before .before .before .before .before .args
@@ -228,7 +227,7 @@ own-distinct-requires c κs =
       ),
     )
 
--- src/names.rt:160:13
+-- src/names.rt: return false;
 returns-2 : tie.Need-returns-2 Inv-loop μ-loop
 returns-2 c =
     let ·args = c .before .before .before .before .before .before .before .before .before .before .before .before
@@ -243,11 +242,11 @@ returns-2 c =
     (ap (λ (n : ℕ). 8 + 8 * n) (·wide .ensures .0)) refl (c .before .own-distinct .result)
     (c .before .own-distinct .ensures)) (c .if2 .taken)) ∙ ·loop .inv .1
 
--- src/names.rt:157:5
+-- src/names.rt: while k < top {
 loop-less : tie.Need-loop-less Inv-loop μ-loop
 loop-less c = omega arith
 
--- src/names.rt:157:5
+-- src/names.rt: while k < top {
 loop-again : tie.Need-loop-again Inv-loop μ-loop
 loop-again c =
     let ·args = c .before .before .before .before .before .before .before .before .before .before .before .before
@@ -270,7 +269,7 @@ loop-again c =
           c .before .before .before .before .before .loop .inv .1,
     )
 
--- src/names.rt:145:1
+-- src/names.rt: pub(crate) fn differ(cat: &[u8], names: &[u8]) -> bool
 returns-3 : tie.Need-returns-3 Inv-loop μ-loop
 returns-3 c = let ·args = c .before .before .before .before .before .before .before .before .before .before .args in
     let ·types = c .before .before .before .before .before .before .before .types in

@@ -1,5 +1,5 @@
 use borrow.Author.Needs.{needs}
-use mathlib.Core.Path.{_≡_, refl, sym, ap, _∙_}
+use mathlib.Core.Path.{_≡_, sym, ap, _∙_}
 use Prim.Native.Nat.{ℕ, _+_}
 use native.Mathlib.Omega.{arith}
 use Rattle.forest.specs.Numbers.{range}
@@ -9,39 +9,39 @@ use Rattle.dbd_given.proofs.NameList.{goodAt, list-not-long, list-unmar
 use Rattle.dbd_given.proofs.names.good_names.Statement.{statement}
 use Rattle.dbd_given.proofs.names.good_names.Tie as tie
 
--- src/names.rt:87:9
+-- src/names.rt: let top = types(cat);
 types-requires : tie.Need-types-requires
 types-requires c κs = search needs
 
--- src/names.rt:88:9
+-- src/names.rt: let last = fields(cat);
 fields-requires : tie.Need-fields-requires
 fields-requires c κs = search needs
 
--- src/names.rt:89:32
+-- src/names.rt: if names.len() != 16 + 8 * wide(top) + 8 * wide(last) {
 wide-requires : tie.Need-wide-requires
 wide-requires c κs = search needs
 
--- src/names.rt:89:28
+-- src/names.rt: if names.len() != 16 + 8 * wide(top) + 8 * wide(last) {
 mul-if1 : tie.Need-mul-if1
 mul-if1 c = omega arith
 
--- src/names.rt:89:23
+-- src/names.rt: if names.len() != 16 + 8 * wide(top) + 8 * wide(last) {
 add-if1 : tie.Need-add-if1
 add-if1 c = omega arith
 
--- src/names.rt:89:48
+-- src/names.rt: if names.len() != 16 + 8 * wide(top) + 8 * wide(last) {
 wide-requires-2 : tie.Need-wide-requires-2
 wide-requires-2 c κs = search needs
 
--- src/names.rt:89:44
+-- src/names.rt: if names.len() != 16 + 8 * wide(top) + 8 * wide(last) {
 mul-if1-2 : tie.Need-mul-if1-2
 mul-if1-2 c = omega arith
 
--- src/names.rt:89:23
+-- src/names.rt: if names.len() != 16 + 8 * wide(top) + 8 * wide(last) {
 add-if1-2 : tie.Need-add-if1-2
 add-if1-2 c = omega arith
 
--- src/names.rt:90:9
+-- src/names.rt: return false;
 returns : tie.Need-returns
 returns c = let ·args = c .before .before .before .before .before .before .before .args in
     let ·wide = c .before .before .wide in let ·types = c .before .before .before .before .types in
@@ -49,11 +49,11 @@ returns c = let ·args = c .before .before .before .before .before .before .befo
     list-not-long (·args .cat .now) (·args .names .now) (·wide .result) (c .before .wide2 .result)
     (·wide .ensures .0 ∙ ·types .ensures) (c .before .wide2 .ensures .0 ∙ ·fields .ensures) (c .if1 .taken)
 
--- src/names.rt:92:9
+-- src/names.rt: if !is_marked(0x4E, names) {
 is-marked-requires : tie.Need-is-marked-requires
 is-marked-requires c κs = search needs
 
--- src/names.rt:93:9
+-- src/names.rt: return false;
 returns-2 : tie.Need-returns-2
 returns-2 c = let ·args = c .before .before .before .before .before .before .before .before .before .args in
     let ·wide = c .before .before .before .before .wide in let ·wide2 = c .before .before .before .wide2 in
@@ -63,11 +63,11 @@ returns-2 c = let ·args = c .before .before .before .before .before .before .be
     (·wide .ensures .0 ∙ ·types .ensures) (·wide2 .ensures .0 ∙ ·fields .ensures) (·if1 .left)
     (told-no (c .before .is-marked .ensures) (c .if2 .taken))
 
--- src/names.rt:95:8
+-- src/names.rt: if byte_at(names, 5) != top {
 byte-at-requires : tie.Need-byte-at-requires
 byte-at-requires c κs = search needs
 
--- src/names.rt:96:9
+-- src/names.rt: return false;
 returns-3 : tie.Need-returns-3
 returns-3 c =
     let ·args = c .before .before .before .before .before .before .before .before .before .before .before .args in
@@ -82,11 +82,11 @@ returns-3 c =
     (told-yes (·is-marked .ensures) (·if2 .left))
     (λ e. c .if3 .taken (c .before .byte-at .ensures ∙ e ∙ ·wide .ensures .0))
 
--- src/names.rt:98:8
+-- src/names.rt: if byte_at(names, 6) != last {
 byte-at-requires-2 : tie.Need-byte-at-requires-2
 byte-at-requires-2 c κs = search needs
 
--- src/names.rt:99:9
+-- src/names.rt: return false;
 returns-4 : tie.Need-returns-4
 returns-4 c =
     let ·args = c .before .before .before .before .before .before .before .before .before .before .before .before
@@ -103,11 +103,11 @@ returns-4 c =
     (told-yes (·is-marked .ensures) (·if2 .left)) (sym (·byte-at .ensures) ∙ ·if3 .left ∙ sym (·wide .ensures .0))
     (λ e. c .if4 .taken (c .before .byte-at2 .ensures ∙ e ∙ ·wide2 .ensures .0))
 
--- src/names.rt:101:8
+-- src/names.rt: if byte_at(names, 7) != 0 {
 byte-at-requires-3 : tie.Need-byte-at-requires-3
 byte-at-requires-3 c κs = search needs
 
--- src/names.rt:102:9
+-- src/names.rt: return false;
 returns-5 : tie.Need-returns-5
 returns-5 c =
     let ·args = c .before .before .before .before .before .before .before .before .before .before .before .before
@@ -129,27 +129,27 @@ returns-5 c =
     (sym (·byte-at2 .ensures) ∙ ·if4 .left ∙ sym (·wide2 .ensures .0))
     (λ e. c .if5 .taken (c .before .byte-at3 .ensures ∙ e))
 
--- src/names.rt:104:25
+-- src/names.rt: all_good(names, 1 + wide(top) + wide(last))
 wide-requires-3 : tie.Need-wide-requires-3
 wide-requires-3 c κs = search needs
 
--- src/names.rt:104:21
+-- src/names.rt: all_good(names, 1 + wide(top) + wide(last))
 add-all-good : tie.Need-add-all-good
 add-all-good c = omega arith
 
--- src/names.rt:104:37
+-- src/names.rt: all_good(names, 1 + wide(top) + wide(last))
 wide-requires-4 : tie.Need-wide-requires-4
 wide-requires-4 c κs = search needs
 
--- src/names.rt:104:21
+-- src/names.rt: all_good(names, 1 + wide(top) + wide(last))
 add-all-good-2 : tie.Need-add-all-good-2
 add-all-good-2 c = omega arith
 
--- src/names.rt:104:5
+-- src/names.rt: all_good(names, 1 + wide(top) + wide(last))
 all-good-requires : tie.Need-all-good-requires
 all-good-requires c κs = omega arith
 
--- src/names.rt:84:1
+-- src/names.rt: pub(crate) fn good_names(cat: &[u8], names: &[u8]) -> bool
 returns-6 : tie.Need-returns-6
 returns-6 c =
     let ·args = c .before .before .before .before .before .before .before .before .before .before .before .before

@@ -16,34 +16,34 @@ Inv-loop word i₀ i = (i ≤ length word) × (every inWord (drop i word) ≡ ev
 abbrev μ-loop : tie.MeasureT-loop
 μ-loop word i₀ i = length word - i
 
--- src/names.rt:29:5
+-- src/names.rt: while i < word.len() {
 loop-holds : tie.Need-loop-holds Inv-loop μ-loop
 loop-holds c = (omega arith, refl)
 
--- src/names.rt:30:21
+-- src/names.rt: if !in_word(word[i]) {
 shared-slice-read-in-word : tie.Need-shared-slice-read-in-word Inv-loop μ-loop
 shared-slice-read-in-word c = omega arith
 
--- src/names.rt:30:13
+-- src/names.rt: if !in_word(word[i]) {
 in-word-requires : tie.Need-in-word-requires Inv-loop μ-loop
 in-word-requires c κs = search needs
 
--- src/names.rt:31:13
+-- src/names.rt: return false;
 returns : tie.Need-returns Inv-loop μ-loop
 returns c = let ·args = c .before .before .before .before .before .before .args in
     let ·loop = c .before .before .before .before .loop in let ·loop-test = c .before .before .before .loop-test in
     bytes-stop inWord (·args .word .now) (·loop .i) (·loop-test .taken)
     (told-no (c .before .in-word .ensures) (c .if1 .taken)) ∙ ·loop .inv .1
 
--- src/names.rt:33:9
+-- src/names.rt: i += 1;
 add-i : tie.Need-add-i Inv-loop μ-loop
 add-i c = omega arith
 
--- src/names.rt:29:5
+-- src/names.rt: while i < word.len() {
 loop-less : tie.Need-loop-less Inv-loop μ-loop
 loop-less c = omega arith
 
--- src/names.rt:29:5
+-- src/names.rt: while i < word.len() {
 loop-again : tie.Need-loop-again Inv-loop μ-loop
 loop-again c = let ·args = c .before .before .before .before .before .before .args in (
   omega arith,
@@ -52,7 +52,7 @@ loop-again c = let ·args = c .before .before .before .before .before .before .a
       c .before .before .before .before .loop .inv .1,
 )
 
--- src/names.rt:25:1
+-- src/names.rt: fn is_word(word: &[u8]) -> bool
 returns-2 : tie.Need-returns-2 Inv-loop μ-loop
 returns-2 c = let ·args = c .before .before .before .args in
     bytes-end inWord (·args .word .now) (c .before .loop .i) (c .loop-test .left) ∙ c .before .loop .inv .1

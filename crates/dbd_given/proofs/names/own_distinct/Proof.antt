@@ -16,88 +16,88 @@ Inv-loop fields names n t i₀ i = (i ≤ n) ×
 abbrev μ-loop : tie.MeasureT-loop
 μ-loop fields names n t i₀ i = n - i
 
--- src/names.rt:130:5
+-- src/names.rt: while i < n {
 loop-holds : tie.Need-loop-holds Inv-loop μ-loop
 loop-holds c = let ·args = c .before .before .args in
     (omega arith, own-start (·args .fields .now) (·args .names .now) (·args .t) (·args .n))
 
--- src/names.rt:131:25
+-- src/names.rt: let entry = 4 * wide(i);
 wide-requires : tie.Need-wide-requires Inv-loop μ-loop
 wide-requires c κs = search needs
 
--- src/names.rt:131:21
+-- src/names.rt: let entry = 4 * wide(i);
 mul-entry : tie.Need-mul-entry Inv-loop μ-loop
 mul-entry c = omega arith
 
--- src/names.rt:132:20
+-- src/names.rt: let next = entry + 4;
 add-next : tie.Need-add-next Inv-loop μ-loop
 add-next c = omega arith
 
--- src/names.rt:133:22
+-- src/names.rt: let at = 8 * wide(i);
 wide-requires-2 : tie.Need-wide-requires-2 Inv-loop μ-loop
 wide-requires-2 c κs = search needs
 
--- src/names.rt:133:18
+-- src/names.rt: let at = 8 * wide(i);
 mul-at : tie.Need-mul-at Inv-loop μ-loop
 mul-at c = omega arith
 
--- src/names.rt:134:19
+-- src/names.rt: let end = at + 8;
 add-end : tie.Need-add-end Inv-loop μ-loop
 add-end c = omega arith
 
--- src/names.rt:135:9
+-- src/names.rt: i += 1;
 add-i : tie.Need-add-i Inv-loop μ-loop
 add-i c = omega arith
 
--- src/names.rt:136:12
+-- src/names.rt: if fields[entry] == t {
 shared-slice-read-if1 : tie.Need-shared-slice-read-if1 Inv-loop μ-loop
 shared-slice-read-if1 c = omega arith
 
--- src/names.rt:137:23
+-- src/names.rt: if is_own(&fields[next..], &names[end..], n - i, t, &names[at..end]) {
 sub-is-own : tie.Need-sub-is-own Inv-loop μ-loop
 sub-is-own c = omega arith
 
--- src/names.rt:137:23
+-- src/names.rt: if is_own(&fields[next..], &names[end..], n - i, t, &names[at..end]) {
 part-is-own-start : tie.Need-part-is-own-start Inv-loop μ-loop
 part-is-own-start c = omega arith
 
--- src/names.rt:137:23
+-- src/names.rt: if is_own(&fields[next..], &names[end..], n - i, t, &names[at..end]) {
 part-is-own-end : tie.Need-part-is-own-end Inv-loop μ-loop
 part-is-own-end c = omega arith
 
--- src/names.rt:137:40
+-- src/names.rt: if is_own(&fields[next..], &names[end..], n - i, t, &names[at..end]) {
 sub-is-own-2 : tie.Need-sub-is-own-2 Inv-loop μ-loop
 sub-is-own-2 c = omega arith
 
--- src/names.rt:137:40
+-- src/names.rt: if is_own(&fields[next..], &names[end..], n - i, t, &names[at..end]) {
 part-is-own-start-2 : tie.Need-part-is-own-start-2 Inv-loop μ-loop
 part-is-own-start-2 c = omega arith
 
--- src/names.rt:137:40
+-- src/names.rt: if is_own(&fields[next..], &names[end..], n - i, t, &names[at..end]) {
 part-is-own-end-2 : tie.Need-part-is-own-end-2 Inv-loop μ-loop
 part-is-own-end-2 c = omega arith
 
--- src/names.rt:137:55
+-- src/names.rt: if is_own(&fields[next..], &names[end..], n - i, t, &names[at..end]) {
 sub-is-own-3 : tie.Need-sub-is-own-3 Inv-loop μ-loop
 sub-is-own-3 c = omega arith
 
--- src/names.rt:137:65
+-- src/names.rt: if is_own(&fields[next..], &names[end..], n - i, t, &names[at..end]) {
 sub-is-own-4 : tie.Need-sub-is-own-4 Inv-loop μ-loop
 sub-is-own-4 c = omega arith
 
--- src/names.rt:137:65
+-- src/names.rt: if is_own(&fields[next..], &names[end..], n - i, t, &names[at..end]) {
 part-is-own-start-3 : tie.Need-part-is-own-start-3 Inv-loop μ-loop
 part-is-own-start-3 c = omega arith
 
--- src/names.rt:137:65
+-- src/names.rt: if is_own(&fields[next..], &names[end..], n - i, t, &names[at..end]) {
 part-is-own-end-3 : tie.Need-part-is-own-end-3 Inv-loop μ-loop
 part-is-own-end-3 c = omega arith
 
--- src/names.rt:137:16
+-- src/names.rt: if is_own(&fields[next..], &names[end..], n - i, t, &names[at..end]) {
 is-own-requires : tie.Need-is-own-requires Inv-loop μ-loop
 is-own-requires c κs = search needs
 
--- src/names.rt:138:17
+-- src/names.rt: return false;
 returns : tie.Need-returns Inv-loop μ-loop
 returns c =
     let ·args = c .before .before .before .before .before .before .before .before .before .before .before .before
@@ -112,11 +112,11 @@ returns c =
     (8 * ·wide2 .result + 8) refl (ap (_*_ 8) (·wide2 .ensures .0)) refl (·if1 .taken) (c .before .is-own .result)
     (c .before .is-own .ensures) (c .if2 .taken) ∙ ·loop .inv .1
 
--- src/names.rt:130:5
+-- src/names.rt: while i < n {
 loop-less : tie.Need-loop-less Inv-loop μ-loop
 loop-less c = omega arith
 
--- src/names.rt:130:5
+-- src/names.rt: while i < n {
 loop-again : tie.Need-loop-again Inv-loop μ-loop
 loop-again c =
     let ·args = c .before .before .before .before .before .before .before .before .before .before .before .before
@@ -135,11 +135,11 @@ loop-again c =
           (c .if2 .left) ∙ c .before .before .before .before .before .before .before .before .before .before .loop .inv .1,
     )
 
--- src/names.rt:130:5
+-- src/names.rt: while i < n {
 loop-less-2 : tie.Need-loop-less-2 Inv-loop μ-loop
 loop-less-2 c = omega arith
 
--- src/names.rt:130:5
+-- src/names.rt: while i < n {
 loop-again-2 : tie.Need-loop-again-2 Inv-loop μ-loop
 loop-again-2 c = let ·args = c .before .before .before .before .before .before .before .before .args in (
   omega arith,
@@ -149,7 +149,7 @@ loop-again-2 c = let ·args = c .before .before .before .before .before .before 
       (c .if1 .left) ∙ c .before .before .before .before .before .loop .inv .1,
 )
 
--- src/names.rt:125:1
+-- src/names.rt: fn own_distinct(fields: &[u8], names: &[u8], n: u8, t: u8) -> bool
 returns-2 : tie.Need-returns-2 Inv-loop μ-loop
 returns-2 c = let ·args = c .before .before .before .before .args in
     own-end (·args .fields .now) (·args .names .now) (·args .t) (c .before .loop .i) (·args .n) (c .loop-test .left) ∙

@@ -1,6 +1,6 @@
 use borrow.Author.Needs.{needs}
 use mathlib.Core.Path.{_≡_, sym, _∙_}
-use Prim.Native.Nat.{ℕ, _+_, _-_, _≤_}
+use Prim.Native.Nat.{_+_, _-_, _≤_}
 use native.Mathlib.Omega.{arith}
 use lib.Dec.{eqb}
 use borrow.Author.Tests.{eq-eqb, ne-eqb}
@@ -19,11 +19,11 @@ Inv-loop cat last f₀ f = (f ≤ last) × (every (λ u. eqb (fieldByte cat (fie
 abbrev μ-loop : tie.MeasureT-loop
 μ-loop cat last f₀ f = last - f
 
--- src/plain.rt:35:9
+-- src/plain.rt: let last = fields(cat);
 fields-requires : tie.Need-fields-requires Inv-loop μ-loop
 fields-requires c κs = search needs
 
--- src/plain.rt:37:5
+-- src/plain.rt: while f < last {
 loop-holds : tie.Need-loop-holds Inv-loop μ-loop
 loop-holds c = let ·args = c .before .before .args in (
   omega arith,
@@ -31,15 +31,15 @@ loop-holds c = let ·args = c .before .before .args in (
       z),
 )
 
--- src/plain.rt:38:9
+-- src/plain.rt: f += 1;
 add-f : tie.Need-add-f Inv-loop μ-loop
 add-f c = omega arith
 
--- src/plain.rt:39:12
+-- src/plain.rt: if field_byte(cat, FieldNumber(f), 3) != 0 {
 field-byte-requires : tie.Need-field-byte-requires Inv-loop μ-loop
 field-byte-requires c κs = search needs
 
--- src/plain.rt:40:13
+-- src/plain.rt: return false;
 returns : tie.Need-returns Inv-loop μ-loop
 returns c = let ·args = c .before .before .before .before .before .before .args in
     let ·loop = c .before .before .before .loop in let ·fields = c .before .before .before .before .fields in
@@ -47,11 +47,11 @@ returns c = let ·args = c .before .before .before .before .before .before .args
     every-stop (λ u. eqb (fieldByte (·args .cat .now) (field u) 3) 0) (·loop .f) (·fields .result) (·loop-test .taken)
     (ne-eqb _ _ (λ e. c .if1 .taken (c .before .field-byte .ensures ∙ e))) ∙ ·loop .inv .1
 
--- src/plain.rt:37:5
+-- src/plain.rt: while f < last {
 loop-less : tie.Need-loop-less Inv-loop μ-loop
 loop-less c = omega arith
 
--- src/plain.rt:37:5
+-- src/plain.rt: while f < last {
 loop-again : tie.Need-loop-again Inv-loop μ-loop
 loop-again c = let ·args = c .before .before .before .before .before .before .args in (
   omega arith,
@@ -60,7 +60,7 @@ loop-again c = let ·args = c .before .before .before .before .before .before .a
       (eq-eqb _ _ (sym (c .before .field-byte .ensures) ∙ c .if1 .left)) ∙ c .before .before .before .loop .inv .1,
 )
 
--- src/plain.rt:32:1
+-- src/plain.rt: fn plain_fields(cat: &[u8]) -> bool
 returns-2 : tie.Need-returns-2 Inv-loop μ-loop
 returns-2 c = let ·args = c .before .before .before .before .args in let ·fields = c .before .before .fields in
     every-done (λ u. eqb (fieldByte (·args .cat .now) (field u) 3) 0) (c .before .loop .f) (·fields .result)

@@ -1,9 +1,9 @@
 use borrow.Author.Needs.{needs}
-use mathlib.Core.Path.{_≡_, ap, _∙_}
-use Prim.Native.Nat.{ℕ, _+_, _*_, _-_, _≤_}
+use mathlib.Core.Path.{_≡_, _∙_}
+use Prim.Native.Nat.{_+_, _*_, _-_, _≤_}
 use native.Mathlib.Omega.{arith}
 use Rattle.forest.specs.Numbers.{range}
-use Rattle.rules.specs.Block.{Bytes, part, every, zeros}
+use Rattle.rules.specs.Block.{part, every, zeros}
 use Rattle.rules.specs.Catalogue.{types}
 use Rattle.blocks.proofs.Negated.{told-no, told-yes}
 use Rattle.catalogue_check.proofs.LeftToTest.{every-next, every-stop, every-done}
@@ -17,24 +17,24 @@ Inv-loop cat top k₀ k = (k ≤ top) × (every (λ u. zeros (part cat (8 * u + 
 abbrev μ-loop : tie.MeasureT-loop
 μ-loop cat top k₀ k = top - k
 
--- src/plain.rt:21:9
+-- src/plain.rt: let top = types(cat);
 types-requires : tie.Need-types-requires Inv-loop μ-loop
 types-requires c κs = search needs
 
--- src/plain.rt:23:5
+-- src/plain.rt: while k < top {
 loop-holds : tie.Need-loop-holds Inv-loop μ-loop
 loop-holds c = let ·args = c .before .before .args in
     (omega arith, (let z : c .types .result - 0 ≡ types (·args .cat .now) = omega (arith, c .types .ensures) in rw z))
 
--- src/plain.rt:24:9
+-- src/plain.rt: k += 1;
 add-k : tie.Need-add-k Inv-loop μ-loop
 add-k c = omega arith
 
--- src/plain.rt:25:13
+-- src/plain.rt: if !ends_in_zeros(cat, TypeCode(k)) {
 ends-in-zeros-requires : tie.Need-ends-in-zeros-requires Inv-loop μ-loop
 ends-in-zeros-requires c κs = search needs
 
--- src/plain.rt:26:13
+-- src/plain.rt: return false;
 returns : tie.Need-returns Inv-loop μ-loop
 returns c = let ·args = c .before .before .before .before .before .before .args in
     let ·loop = c .before .before .before .loop in let ·types = c .before .before .before .before .types in
@@ -42,11 +42,11 @@ returns c = let ·args = c .before .before .before .before .before .before .args
     every-stop (λ u. zeros (part (·args .cat .now) (8 * u + 5) 3)) (·loop .k) (·types .result) (·loop-test .taken)
     (told-no (c .before .ends-in-zeros .ensures) (c .if1 .taken)) ∙ ·loop .inv .1
 
--- src/plain.rt:23:5
+-- src/plain.rt: while k < top {
 loop-less : tie.Need-loop-less Inv-loop μ-loop
 loop-less c = omega arith
 
--- src/plain.rt:23:5
+-- src/plain.rt: while k < top {
 loop-again : tie.Need-loop-again Inv-loop μ-loop
 loop-again c = let ·args = c .before .before .before .before .before .before .args in (
   omega arith,
@@ -55,7 +55,7 @@ loop-again c = let ·args = c .before .before .before .before .before .before .a
       (told-yes (c .before .ends-in-zeros .ensures) (c .if1 .left)) ∙ c .before .before .before .loop .inv .1,
 )
 
--- src/plain.rt:18:1
+-- src/plain.rt: fn plain_types(cat: &[u8]) -> bool
 returns-2 : tie.Need-returns-2 Inv-loop μ-loop
 returns-2 c = let ·args = c .before .before .before .before .args in let ·types = c .before .before .types in
     every-done (λ u. zeros (part (·args .cat .now) (8 * u + 5) 3)) (c .before .loop .k) (·types .result)
