@@ -1,0 +1,6 @@
+pub mod Rest
+pub mod Fields
+pub mod Apart
+pub mod OneName
+pub mod NameList
+pub mod Whole
