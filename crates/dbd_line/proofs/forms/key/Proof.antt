@@ -1,5 +1,6 @@
+use lib.Dec.{lit<}
+use borrow.Author.Needs.{zero≤}
 use mathlib.Core.Path.{refl, _∙_}
-use native.Mathlib.Omega.{arith}
 use borrow.Author.Tests.{not-true, not-false}
 use Rattle.statements.specs.Text.{bytesOf}
 use Rattle.statements.specs.Words.{isDigit, isLetter, inWord, isBlank}
@@ -14,7 +15,7 @@ slice-aggregate-keyword c = refl
 
 -- src/forms.rt: let first = keyword(line, 0, b"FIELD");
 keyword-requires : tie.Need-keyword-requires
-keyword-requires c κs = omega arith
+keyword-requires c κs = (zero≤, lit< tt)
 
 -- src/forms.rt: let at = assigned(line, first, b"NAME");
 slice-aggregate-assigned : tie.Need-slice-aggregate-assigned
@@ -22,21 +23,21 @@ slice-aggregate-assigned c = refl
 
 -- src/forms.rt: let at = assigned(line, first, b"NAME");
 assigned-requires : tie.Need-assigned-requires
-assigned-requires c κs = omega arith
+assigned-requires c κs = (c .before .keyword .ensures .inside, lit< tt)
 
 -- src/forms.rt: let at = sign(line, at, b'(');
 sign-requires : tie.Need-sign-requires
 unfolding inWord isLetter isDigit isBlank
-sign-requires c κs = (omega arith, refl, refl)
+sign-requires c κs = (c .assigned .ensures .inside, refl, refl)
 
 -- src/forms.rt: let name = held(line, at, Asks::AName);
 held-requires : tie.Need-held-requires
-held-requires c κs = omega arith
+held-requires c κs = c .sign .ensures .inside
 
 -- src/forms.rt: let at = sign(line, name.to, b',');
 sign-requires-2 : tie.Need-sign-requires-2
 unfolding inWord isLetter isDigit isBlank
-sign-requires-2 c κs = (omega arith, refl, refl)
+sign-requires-2 c κs = (c .held .ensures .inside, refl, refl)
 
 -- src/forms.rt: let at = keyword(line, at, b"SEQ");
 slice-aggregate-keyword-2 : tie.Need-slice-aggregate-keyword-2
@@ -44,25 +45,25 @@ slice-aggregate-keyword-2 c = refl
 
 -- src/forms.rt: let at = keyword(line, at, b"SEQ");
 keyword-requires-2 : tie.Need-keyword-requires-2
-keyword-requires-2 c κs = omega arith
+keyword-requires-2 c κs = (c .before .sign2 .ensures .inside, lit< tt)
 
 -- src/forms.rt: let at = sign(line, at, b',');
 sign-requires-3 : tie.Need-sign-requires-3
 unfolding inWord isLetter isDigit isBlank
-sign-requires-3 c κs = (omega arith, refl, refl)
+sign-requires-3 c κs = (c .keyword2 .ensures .inside, refl, refl)
 
 -- src/forms.rt: let letter = held(line, at, Asks::OneOf(b'U', b'M'));
 held-requires-2 : tie.Need-held-requires-2
-held-requires-2 c κs = omega arith
+held-requires-2 c κs = c .sign3 .ensures .inside
 
 -- src/forms.rt: let at = sign(line, letter.to, b')');
 sign-requires-4 : tie.Need-sign-requires-4
 unfolding inWord isLetter isDigit isBlank
-sign-requires-4 c κs = (omega arith, refl, refl)
+sign-requires-4 c κs = (c .held2 .ensures .inside, refl, refl)
 
 -- src/forms.rt: let e = rest(line, at);
 rest-requires : tie.Need-rest-requires
-rest-requires c κs = omega arith
+rest-requires c κs = c .sign4 .ensures .inside
 
 -- src/forms.rt: return Line::Wrong;
 returns : tie.Need-returns

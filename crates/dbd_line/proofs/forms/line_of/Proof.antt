@@ -1,4 +1,4 @@
-use native.Mathlib.Omega.{arith}
+use borrow.Author.Needs.{zero≤}
 use Rattle.statements.specs.Statement.{dbdForm, segmForm, fieldForm}
 use Rattle.dbd_line.proofs.Said.{blank-line, line-more, wrong-form, dbd-says, segm-says, field-says, key-says}
 use Rattle.dbd_line.proofs.forms.line_of.Statement.{statement}
@@ -6,7 +6,7 @@ use Rattle.dbd_line.proofs.forms.line_of.Tie as tie
 
 -- src/forms.rt: if past_blanks(line, 0) == line.len() {
 past-blanks-requires : tie.Need-past-blanks-requires
-past-blanks-requires c κs = omega arith
+past-blanks-requires c κs = zero≤
 
 -- src/forms.rt: return Line::Empty;
 returns : tie.Need-returns

@@ -1,5 +1,5 @@
+use lib.Dec.{lit<}
 use mathlib.Core.Path.{refl}
-use native.Mathlib.Omega.{arith}
 use borrow.Author.Tests.{not-true, not-false}
 use Rattle.statements.specs.Text.{bytesOf}
 use Rattle.statements.specs.Statement.{wordBytes, wordStart, wordType}
@@ -13,11 +13,12 @@ slice-aggregate-operand c = refl
 
 -- src/forms.rt: let at = operand(line, at, b"BYTES");
 operand-requires : tie.Need-operand-requires
-operand-requires c κs = omega arith
+operand-requires c κs = let ·pre = c .before .before .pre in
+    (·pre, lit< tt)
 
 -- src/forms.rt: let long = held(line, at, Asks::ANumber);
 held-requires : tie.Need-held-requires
-held-requires c κs = omega arith
+held-requires c κs = c .operand .ensures .inside
 
 -- src/forms.rt: let at = operand(line, long.to, b"START");
 slice-aggregate-operand-2 : tie.Need-slice-aggregate-operand-2
@@ -25,11 +26,11 @@ slice-aggregate-operand-2 c = refl
 
 -- src/forms.rt: let at = operand(line, long.to, b"START");
 operand-requires-2 : tie.Need-operand-requires-2
-operand-requires-2 c κs = omega arith
+operand-requires-2 c κs = (c .before .held .ensures .inside, lit< tt)
 
 -- src/forms.rt: let start = held(line, at, Asks::ANumber);
 held-requires-2 : tie.Need-held-requires-2
-held-requires-2 c κs = omega arith
+held-requires-2 c κs = c .operand2 .ensures .inside
 
 -- src/forms.rt: let at = operand(line, start.to, b"TYPE");
 slice-aggregate-operand-3 : tie.Need-slice-aggregate-operand-3
@@ -37,15 +38,15 @@ slice-aggregate-operand-3 c = refl
 
 -- src/forms.rt: let at = operand(line, start.to, b"TYPE");
 operand-requires-3 : tie.Need-operand-requires-3
-operand-requires-3 c κs = omega arith
+operand-requires-3 c κs = (c .before .held2 .ensures .inside, lit< tt)
 
 -- src/forms.rt: let letter = held(line, at, Asks::OneOf(b'C', b'X'));
 held-requires-3 : tie.Need-held-requires-3
-held-requires-3 c κs = omega arith
+held-requires-3 c κs = c .operand3 .ensures .inside
 
 -- src/forms.rt: if !ends(line, letter) {
 ends-requires : tie.Need-ends-requires
-ends-requires c κs = omega arith
+ends-requires c κs = (c .held3 .ensures .ordered, c .held3 .ensures .inside)
 
 -- src/forms.rt: return Extent {
 returns : tie.Need-returns
@@ -60,15 +61,18 @@ returns c = let ·operand = c .before .before .before .before .before .before .b
 
 -- src/forms.rt: long: number(&line[a..b]),
 sub-number : tie.Need-sub-number
-sub-number c = omega arith
+sub-number c = let ·held = c .before .before .before .before .before .before .before .before .held in
+    ·held .ensures .ordered
 
 -- src/forms.rt: long: number(&line[a..b]),
 part-number-start : tie.Need-part-number-start
-part-number-start c = omega arith
+part-number-start c = let ·held = c .before .before .before .before .before .before .before .before .held in
+    ·held .ensures .ordered
 
 -- src/forms.rt: long: number(&line[a..b]),
 part-number-end : tie.Need-part-number-end
-part-number-end c = omega arith
+part-number-end c = let ·held = c .before .before .before .before .before .before .before .before .held in
+    ·held .ensures .inside
 
 -- src/forms.rt: long: number(&line[a..b]),
 number-requires : tie.Need-number-requires
@@ -85,15 +89,18 @@ number-requires c κs =
 
 -- src/forms.rt: start: number(&line[c..d]),
 sub-number-2 : tie.Need-sub-number-2
-sub-number-2 c = omega arith
+sub-number-2 c = let ·held2 = c .before .before .before .before .before .before .before .held2 in
+    ·held2 .ensures .ordered
 
 -- src/forms.rt: start: number(&line[c..d]),
 part-number-start-2 : tie.Need-part-number-start-2
-part-number-start-2 c = omega arith
+part-number-start-2 c = let ·held2 = c .before .before .before .before .before .before .before .held2 in
+    ·held2 .ensures .ordered
 
 -- src/forms.rt: start: number(&line[c..d]),
 part-number-end-2 : tie.Need-part-number-end-2
-part-number-end-2 c = omega arith
+part-number-end-2 c = let ·held2 = c .before .before .before .before .before .before .before .held2 in
+    ·held2 .ensures .inside
 
 -- src/forms.rt: start: number(&line[c..d]),
 number-requires-2 : tie.Need-number-requires-2

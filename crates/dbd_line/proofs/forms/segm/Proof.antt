@@ -1,5 +1,6 @@
+use lib.Dec.{lit<}
+use borrow.Author.Needs.{zero≤}
 use mathlib.Core.Path.{refl, _∙_}
-use native.Mathlib.Omega.{arith}
 use borrow.Author.Tests.{not-true, not-false}
 use Rattle.statements.specs.Text.{bytesOf}
 use Rattle.statements.specs.Statement.{wordSegm, wordName, wordParent, wordBytes, segmOf}
@@ -13,7 +14,7 @@ slice-aggregate-keyword c = refl
 
 -- src/forms.rt: let first = keyword(line, 0, b"SEGM");
 keyword-requires : tie.Need-keyword-requires
-keyword-requires c κs = omega arith
+keyword-requires c κs = (zero≤, lit< tt)
 
 -- src/forms.rt: let at = assigned(line, first, b"NAME");
 slice-aggregate-assigned : tie.Need-slice-aggregate-assigned
@@ -21,11 +22,11 @@ slice-aggregate-assigned c = refl
 
 -- src/forms.rt: let at = assigned(line, first, b"NAME");
 assigned-requires : tie.Need-assigned-requires
-assigned-requires c κs = omega arith
+assigned-requires c κs = (c .before .keyword .ensures .inside, lit< tt)
 
 -- src/forms.rt: let name = held(line, at, Asks::AName);
 held-requires : tie.Need-held-requires
-held-requires c κs = omega arith
+held-requires c κs = c .assigned .ensures .inside
 
 -- src/forms.rt: let at = operand(line, name.to, b"PARENT");
 slice-aggregate-operand : tie.Need-slice-aggregate-operand
@@ -33,11 +34,11 @@ slice-aggregate-operand c = refl
 
 -- src/forms.rt: let at = operand(line, name.to, b"PARENT");
 operand-requires : tie.Need-operand-requires
-operand-requires c κs = omega arith
+operand-requires c κs = (c .before .held .ensures .inside, lit< tt)
 
 -- src/forms.rt: let parent = held(line, at, Asks::AParent);
 held-requires-2 : tie.Need-held-requires-2
-held-requires-2 c κs = omega arith
+held-requires-2 c κs = c .operand .ensures .inside
 
 -- src/forms.rt: let at = operand(line, parent.to, b"BYTES");
 slice-aggregate-operand-2 : tie.Need-slice-aggregate-operand-2
@@ -45,15 +46,15 @@ slice-aggregate-operand-2 c = refl
 
 -- src/forms.rt: let at = operand(line, parent.to, b"BYTES");
 operand-requires-2 : tie.Need-operand-requires-2
-operand-requires-2 c κs = omega arith
+operand-requires-2 c κs = (c .before .held2 .ensures .inside, lit< tt)
 
 -- src/forms.rt: let long = held(line, at, Asks::ANumber);
 held-requires-3 : tie.Need-held-requires-3
-held-requires-3 c κs = omega arith
+held-requires-3 c κs = c .operand2 .ensures .inside
 
 -- src/forms.rt: if !ends(line, long) {
 ends-requires : tie.Need-ends-requires
-ends-requires c κs = omega arith
+ends-requires c κs = (c .held3 .ensures .ordered, c .held3 .ensures .inside)
 
 -- src/forms.rt: return Line::Wrong;
 returns : tie.Need-returns
@@ -70,15 +71,18 @@ returns c =
 
 -- src/forms.rt: Line::IsSegm(name, parent, number(&line[from..to]))
 sub-number : tie.Need-sub-number
-sub-number c = omega arith
+sub-number c = let ·held3 = c .before .before .held3 in
+    ·held3 .ensures .ordered
 
 -- src/forms.rt: Line::IsSegm(name, parent, number(&line[from..to]))
 part-number-start : tie.Need-part-number-start
-part-number-start c = omega arith
+part-number-start c = let ·held3 = c .before .before .held3 in
+    ·held3 .ensures .ordered
 
 -- src/forms.rt: Line::IsSegm(name, parent, number(&line[from..to]))
 part-number-end : tie.Need-part-number-end
-part-number-end c = omega arith
+part-number-end c = let ·held3 = c .before .before .held3 in
+    ·held3 .ensures .inside
 
 -- src/forms.rt: Line::IsSegm(name, parent, number(&line[from..to]))
 number-requires : tie.Need-number-requires
