@@ -7,6 +7,7 @@ use crate::comparison::hex;
 use crate::dice::Dice;
 use face::Statements;
 use std::collections::BTreeMap;
+use std::thread;
 
 /// How many texts were read, by fault, and how many pairs were written, by status.
 #[derive(Default, Debug)]
@@ -16,10 +17,45 @@ pub struct Tally {
     pub written: BTreeMap<u8, u64>,
 }
 
-/// Compares so many texts, and the pairs that they lead to, or to the first difference.
+impl Tally {
+    fn add(&mut self, other: Tally) {
+        self.texts += other.texts;
+        for (mine, more) in [
+            (&mut self.read, other.read),
+            (&mut self.written, other.written),
+        ] {
+            for (number, count) in more {
+                *mine.entry(number).or_default() += count;
+            }
+        }
+    }
+}
+
+/// Compares so many texts, and the pairs that they lead to, or to the first difference. The texts are shared out among the processors.
 pub fn run(judge: &Statements, store: &Statements, seed: u64, texts: u64) -> Result<Tally, String> {
+    let shares = thread::available_parallelism().map_or(1, |count| count.get() as u64);
+    thread::scope(|scope| {
+        let share =
+            |first: u64| run_share(judge, store, seed, (first..texts).step_by(shares as usize));
+        let running: Vec<_> = (0..shares)
+            .map(|first| scope.spawn(move || share(first)))
+            .collect();
+        let mut whole = Tally::default();
+        for each in running {
+            whole.add(each.join().expect("a comparison does not panic")?);
+        }
+        Ok(whole)
+    })
+}
+
+fn run_share(
+    judge: &Statements,
+    store: &Statements,
+    seed: u64,
+    cases: impl Iterator<Item = u64>,
+) -> Result<Tally, String> {
     let mut tally = Tally::default();
-    for case in 0..texts {
+    for case in cases {
         let mut dice = Dice::new(seed, case);
         play(judge, store, &mut dice, &mut tally)
             .map_err(|said| format!("seed {seed}, text {case}: {said}"))?;
@@ -41,7 +77,8 @@ fn play(
     *tally.read.entry(read.result as u8).or_default() += 1;
     let mut pair = match read.result as u8 {
         0 => pairs::cut(&read),
-        _ => pairs::draw(dice),
+        _ if dice.percent(20) => pairs::draw(dice),
+        _ => return Ok(()),
     };
     if dice.percent(60) {
         pairs::damage(dice, &mut pair);

@@ -46,7 +46,7 @@ fn name(dice: &mut Dice, number: usize) -> String {
 /// The statements of a drawn catalogue, its fields by their types and every key among them.
 fn sound(dice: &mut Dice) -> Vec<Line> {
     let mut plan = Plan::draw(dice);
-    if dice.percent(88) {
+    if dice.percent(95) {
         let few = dice.between(1, 5).min(plan.types.len());
         plan.types.truncate(few);
         plan.fields
