@@ -2,7 +2,7 @@
 use mathlib.Core.Path.{_≡_, refl, ap, sym, _∙_, subst}
 use mathlib.Core.Bool.{Bool, true, false}
 use mathlib.Core.Logic.{inl, inr}
-use mathlib.Core.Option.{Option, none, some}
+use mathlib.Core.Option.{none, some}
 use mathlib.Core.List.{List, [], _∷_}
 use Prim.Native.Nat.{ℕ, suc, _<_, _≤_}
 use native.Mathlib.Omega.{arith}
@@ -13,14 +13,14 @@ use denote.Enum.Declared.{tagOf, declared}
 use Rattle.forest.specs.Good.{on, off, is}
 use Rattle.rules.specs.Block.{Bytes, byte}
 use Rattle.statements.specs.Words.{Token, word, sign, inWord, isBlank, inFront, joined, tokens}
-use Rattle.statements.specs.Statement.{Statement, Slot, formed, dbdForm, segmForm, spanForm, fieldForm, keyForm, dbdOf, segmOf, fieldOf, keyOf, statementOf}
+use Rattle.statements.specs.Statement.{Statement, Slot, formed, dbdForm, segmForm, fieldForm, keyForm, dbdOf, segmOf, fieldOf, keyOf, statementOf}
 use Rattle.statements.specs.Draft.{Draft, misplaced, bad, taken, takenIf, lineTaken}
 use Rattle.statements.proofs.Words.{clash, token-word, token-sign}
 use Rattle.statements.proofs.Forms.{is-dbd, is-segm, is-field, is-key}
 use Rattle.dbd_words.specs.Row.{PastBlanks}
 use Rattle.dbd_line.specs.declared.Line.{Line}
 use Rattle.dbd_line.specs.declared.Line.the-variants.{Empty, Wrong, IsDbd, IsSegm, IsField}
-use Rattle.dbd_line.specs.Meant.{Meant, Tells, Says, Means}
+use Rattle.dbd_line.specs.Meant.{Tells, Means}
 use Rattle.dbd_line.proofs.Line.{enum}
 
 -- R73: a line of blanks alone has no token, and any other line has one

@@ -5,24 +5,22 @@ use mathlib.Core.List.{List, [], _∷_, _++_}
 use Prim.Native.Nat.{ℕ, suc, _+_, _-_, _<_, _≤_}
 use native.Mathlib.Omega.{arith}
 use lib.Dec.{leb, eqb}
-use lib.ListN.{length, getD, take, drop, length-drop}
+use lib.ListN.{length, take, drop, length-drop}
 use lib.Seq.{length-take-le, drop-cons}
 use borrow.Author.Tests.{leb-true, leb-false, ne-eqb}
-use Rattle.terms.specs.Choice.{pick}
 use Rattle.forest.specs.Good.{on, off, is, both-left, both-right}
 use Rattle.rules.specs.Block.{Bytes, byte, part, every, sameBytes}
 use Rattle.blocks.proofs.Remaining.{same-length}
 use Rattle.statements.specs.Text.{bytesOf}
-use Rattle.statements.specs.Words.{Token, tokens, inWord, isLetter, isName, isNumber, value}
+use Rattle.statements.specs.Words.{tokens, inWord, isLetter, isName, isNumber, value}
 use Rattle.statements.specs.Statement.{Slot, only, mark, either, name, number, parent, equals, comma, opens, shuts, noParent, suits, formed, wordAt, kindOf}
 use Rattle.statements.specs.Statement.{wordDbd, wordSegm, wordField, wordName, wordParent, wordBytes, wordStart, wordType, wordSeq}
 use Rattle.statements.specs.Statement.{dbdForm, segmForm, spanForm, fieldForm, keyForm, dbdOf, segmOf, fieldOf, keyOf}
 use Rattle.statements.proofs.Words.{clash}
 use Rattle.dbd_words.specs.declared.Span.{Span}
 use Rattle.dbd_words.specs.Capped.{capped}
-use Rattle.dbd_words.specs.Row.{cut, behindAll, Reached, Held, Ends}
-use Rattle.dbd_line.specs.declared.Line.{Line}
-use Rattle.dbd_line.specs.declared.Line.the-variants.{Empty, Wrong, IsDbd, IsSegm, IsField}
+use Rattle.dbd_words.specs.Row.{cut, Reached, Held, Ends}
+use Rattle.dbd_line.specs.declared.Line.the-variants.{IsDbd, IsSegm, IsField}
 use Rattle.dbd_line.specs.declared.forms.Extent.{Extent}
 use Rattle.dbd_line.specs.Meant.{InLine, Meant, Spanned}
 use Rattle.dbd_line.proofs.Row.{formed-row, behind-row, word-behind, reach-more, reach-held, There, there, form-ends}
