@@ -13,6 +13,7 @@ use Rattle.rules.specs.Block.{Bytes}
 use Rattle.statements.specs.Words.{Token, word, tokens}
 use Rattle.statements.specs.Statement.{Slot, suits, fits, formed, wordIn, wordAt}
 use Rattle.statements.proofs.Words.{clash}
+use Rattle.dbd_words.proofs.Behind.{reached-on}
 use Rattle.dbd_words.specs.declared.Span.{Span}
 use Rattle.dbd_words.specs.Row.{cut, behind, behindAll, isNone, Reached, Held, Ends}
 
@@ -60,11 +61,6 @@ formed-row [] u us ts = refl
 formed-row (s ∷ []) u us ts = formed-step s u us ts
 formed-row (s ∷ p ∷ pre) u us ts = formed-step s p (pre ++ (u ∷ us)) ts ∙ formed-row (p ∷ pre) u us (behind s ts)
 
-pub behind-append : (pre us : List Slot) (ts : List Token) → behindAll (pre ++ us) ts ≡ behindAll us (behindAll pre ts)
-unfolding behindAll
-behind-append [] us ts = refl
-behind-append (s ∷ pre) us ts = behind-append pre us (behind s ts)
-
 -- where all fits, each slot has taken one token
 pub behind-row : (pre us : List Slot) (ts : List Token) → formed (pre ++ us) ts ≡ true → behindAll pre ts ≡ drop (length pre) ts
 unfolding behindAll
@@ -89,8 +85,7 @@ word-behind ts us n k e = ap (λ (l : List Token). wordIn (getD l k (word []))) 
 
 -- places that were reached one behind the other
 pub reach-more : {line : Bytes} {i j k : ℕ} {ss us : List Slot} → Reached line i ss j → Reached line j us k → Reached line i (ss ++ us) k
-reach-more {line} {i} {j} {k} {ss} {us} a b =
-    record { inside = b .inside; left = b .left ∙ ap (behindAll us) (a .left) ∙ sym (behind-append ss us (tokens (drop i line))) }
+reach-more {line} {i} {j} {k} {ss} {us} a b = reached-on line i j k ss us a b
 
 pub reach-held : {line : Bytes} {i : ℕ} {a : Slot} {s : Span} → Held line i a s → Reached line i (a ∷ []) (s .to)
 unfolding behindAll
