@@ -166,8 +166,8 @@ fn crowd(dice: &mut Dice, lines: &mut Vec<Line>) {
 
 /// A chain down to level 15 or 16.
 fn deepen(lines: &mut Vec<Line>) {
-    let segments = lines.iter().filter(|line| line[0] == "SEGM");
-    let Some(last) = segments.last().and_then(|line| line.get(3)).cloned() else {
+    let mut segments = lines.iter().filter(|line| line[0] == "SEGM");
+    let Some(last) = segments.next_back().and_then(|line| line.get(3)).cloned() else {
         return;
     };
     let mut above = last;
