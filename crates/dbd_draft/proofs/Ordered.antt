@@ -34,15 +34,11 @@ module _ (p q : ℕ → ℕ) (top : ℕ) (s : (u : ℕ) → 0 < u → u ≤ top 
         let l : p (suc u) < suc u = Types.lower-at p top (suc u) low (omega arith) h in
         ap (_∷_ (suc u)) (from-same n (p (suc u)) (omega arith) ∙ ap (Types.lineageFrom q n) (s (suc u) (omega arith) h))
 
--- the entries of the types from 1 to k are the same
-module _ (a b : Bytes) (k : ℕ) (s : Alike a b 8 (8 * k + 8)) where
-  entry-same : (u j : ℕ) → 0 < u → u ≤ k → j < 8 → typeByte a (code u) j ≡ typeByte b (code u) j
-  unfolding typeByte
-  entry-same u j l m h = s (8 * u + j) (omega arith) (omega arith)
-
+-- the parents of the types from 1 to k are the same
+module _ (a b : Bytes) (k : ℕ) (s : Alike a b 8 (8 * k + 1)) where
   par-same : (u : ℕ) → 0 < u → u ≤ k → par a u ≡ par b u
-  unfolding parentOf
-  par-same u l m = entry-same u 0 l m (omega arith)
+  unfolding parentOf typeByte
+  par-same u l m = s (8 * u + 0) (omega arith) (omega arith)
 
   pub lower-same : Types.lower (par a) k ≡ Types.lower (par b) k
   lower-same = lower-to (par a) (par b) k par-same k (omega arith)
@@ -57,7 +53,7 @@ module _ (a b : Bytes) (k : ℕ) (s : Alike a b 8 (8 * k + 8)) where
     level-same u h = ap length (lineage-same u h)
 
 -- so the row of levels serves the other block too
-pub ready-same : (a b levels : Bytes) (k : ℕ) → Alike a b 8 (8 * k + 8) → length a ≡ length b → Ready a levels k → Ready b levels k
+pub ready-same : (a b levels : Bytes) (k : ℕ) → Alike a b 8 (8 * k + 1) → length a ≡ length b → Ready a levels k → Ready b levels k
 ready-same a b levels k s e r = record {
   ordered = record {
     few = r .ordered .few;
@@ -72,33 +68,40 @@ ready-same a b levels k s e r = record {
 
 -- the next type, behind k that are in order
 module _ (a b : Bytes) (k : ℕ) (s : Alike a b 8 (8 * suc k + 8)) (low : Types.lower (par a) k ≡ true) where
-  before : Alike a b 8 (8 * k + 8)
+  before : Alike a b 8 (8 * k + 1)
   before j l m = s j l (omega arith)
+
+  parents : Alike a b 8 (8 * suc k + 1)
+  parents j l m = s j l (omega arith)
+
+  entry-same : (j : ℕ) → j < 8 → typeByte a (code (suc k)) j ≡ typeByte b (code (suc k)) j
+  unfolding typeByte
+  entry-same j h = s (8 * suc k + j) (omega arith) (omega arith)
 
   parent-same : goodParent a (suc k) ≡ goodParent b (suc k)
   unfolding goodParent
   parent-same =
       let z : suc k - 1 ≡ k = omega arith in
-      let e : par a (suc k) ≡ par b (suc k) = par-same a b (suc k) s (suc k) (omega arith) (omega arith) in
+      let e : par a (suc k) ≡ par b (suc k) = par-same a b (suc k) parents (suc k) (omega arith) (omega arith) in
       let l : lineage a (code k) ≡ lineage b (code k) = lineage-same a b k before low k (omega arith) in
       rw (z, l, e)
 
   own-level : goodParent a (suc k) ≡ true → level a (code (suc k)) ≡ level b (code (suc k))
   own-level g =
       let h : par a (suc k) < suc k = parent-low a k low g in
-      level-same a b (suc k) s (rw (lt-ltb (par a (suc k)) (suc k) h, low)) (suc k) (omega arith)
+      level-same a b (suc k) parents (rw (lt-ltb (par a (suc k)) (suc k) h, low)) (suc k) (omega arith)
 
   key-same : goodKey a (code (suc k)) ≡ goodKey b (code (suc k))
   unfolding goodKey keyKind keyStart keyLength lengthOf
   key-same =
-      rw (entry-same a b (suc k) s (suc k) 1 (omega arith) (omega arith) (omega arith), entry-same a b (suc k) s (suc k) 2 (omega arith) (omega arith) (omega arith), entry-same a b (suc k) s (suc k) 3 (omega arith) (omega arith) (omega arith), entry-same a b (suc k) s (suc k) 4 (omega arith) (omega arith) (omega arith))
+      rw (entry-same 1 (omega arith), entry-same 2 (omega arith), entry-same 3 (omega arith), entry-same 4 (omega arith))
 
   -- LAW: nothing but the entries decides whether it is good
   pub type-same : 8 * suc k + 8 ≤ length a → 8 * suc k + 8 ≤ length b → goodType a (suc k) ≡ goodType b (suc k)
   unfolding goodType lengthOf
   type-same m n =
       let z : part a (8 * suc k + 5) 3 ≡ part b (8 * suc k + 5) 3 = part-alike a b (8 * suc k + 5) 3 (omega arith) (omega arith) (λ j l h. s j (omega arith) (omega arith)) in
-      let e : typeByte a (code (suc k)) 1 ≡ typeByte b (code (suc k)) 1 = entry-same a b (suc k) s (suc k) 1 (omega arith) (omega arith) (omega arith) in
+      let e : typeByte a (code (suc k)) 1 ≡ typeByte b (code (suc k)) 1 = entry-same 1 (omega arith) in
       elim (is (goodParent a (suc k))) [
         | on g ↦ (let l : level a (code (suc k)) ≡ level b (code (suc k)) = own-level g in rw (e, key-same, z, l, parent-same))
         | off g ↦ (let h : goodParent b (suc k) ≡ false = sym parent-same ∙ g in rw (g, h))
