@@ -1,3 +1,5 @@
 pub mod Writes
 pub mod Ordered
 pub mod Drafts
+pub mod Sounds
+pub mod Catalogues
