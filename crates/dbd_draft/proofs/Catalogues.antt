@@ -16,7 +16,17 @@ use Rattle.statements.proofs.Rows.{rows-length, joined-rows, part-then, part-le
 use Rattle.dbd_draft.specs.Kept.{draftOf, Sound}
 use Rattle.dbd_draft.proofs.Drafts.{types-are}
 
-module _ (b levels : Bytes) (s : Sound b levels) where
+-- an array with its header and room for what it counts
+pub record Framed (b : Bytes) : Type 0 where
+  pub long : length b ≡ 1296
+  pub few : types b ≤ 32
+  pub fewFields : fields b ≤ 64
+  pub headed : part b 0 8 ≡ header 0x43 (types b) (fields b)
+
+pub framed : (b levels : Bytes) → Sound b levels → Framed b
+framed b levels s = record { long = s .long; few = s .few; fewFields = s .fewFields; headed = s .headed }
+
+module _ (b : Bytes) (s : Framed b) where
   block-is : catalogueOf (draftOf b) ≡ part b 0 (8 + 8 * types b) ++ part b 264 (4 * fields b)
   unfolding catalogueOf draftOf
   block-is =

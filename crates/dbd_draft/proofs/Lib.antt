@@ -3,3 +3,4 @@ pub mod Ordered
 pub mod Drafts
 pub mod Sounds
 pub mod Catalogues
+pub mod Rulings

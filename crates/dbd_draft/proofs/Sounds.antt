@@ -71,7 +71,7 @@ abbrev pub typeWritten : Bytes → Bytes → ℕ → ℕ → Bytes
 typeWritten b name above long = sets (sets b (8 + 8 * types b) (typeEntry above long)) (520 + (8 + 8 * types b)) name
 
 module _ (b levels : Bytes) (s : Sound b levels) (name : Bytes) (above long : ℕ) (named : length name ≡ 8) (room : types b < 32) where
-  type-long : length (typeWritten b name above long) ≡ 1296
+  pub type-long : length (typeWritten b name above long) ≡ 1296
   type-long =
       length-sets (sets b (8 + 8 * types b) (typeEntry above long)) (520 + (8 + 8 * types b)) name ∙ length-sets b (8 + 8 * types b) (typeEntry above long) ∙ s .long
 
@@ -90,7 +90,7 @@ module _ (b levels : Bytes) (s : Sound b levels) (name : Bytes) (above long : �
       kept-behind name (sets b (8 + 8 * types b) (typeEntry above long)) (520 + (8 + 8 * types b)) j (omega arith)
       ∙ kept-behind (typeEntry above long) b (8 + 8 * types b) j (omega arith)
 
-  type-entry : part (typeWritten b name above long) (8 + 8 * types b) 8 ≡ typeEntry above long
+  pub type-entry : part (typeWritten b name above long) (8 + 8 * types b) 8 ≡ typeEntry above long
   type-entry =
       let c = sets b (8 + 8 * types b) (typeEntry above long) in
       let n : length c ≡ 1296 = length-sets b (8 + 8 * types b) (typeEntry above long) ∙ s .long in
@@ -106,7 +106,7 @@ module _ (b levels : Bytes) (s : Sound b levels) (name : Bytes) (above long : �
       let m : part (typeWritten b name above long) (520 + (8 + 8 * types b)) (length name) ≡ name = made c (520 + (8 + 8 * types b)) name (omega arith) in
       ap (λ (i : ℕ). part (typeWritten b name above long) i 8) (sym z) ∙ ap (part (typeWritten b name above long) (520 + (8 + 8 * types b))) (sym named) ∙ m
 
-  type-ready : Ready (typeWritten b name above long) levels (types b)
+  pub type-ready : Ready (typeWritten b name above long) levels (types b)
   type-ready = ready-same b (typeWritten b name above long) levels (types b) (λ j l m. sym (type-before j (omega arith))) (s .long ∙ sym type-long) (s .ready)
 
   -- what is asked before the type is judged
@@ -116,17 +116,17 @@ module _ (b levels : Bytes) (s : Sound b levels) (name : Bytes) (above long : �
       record { some = omega arith; few = omega arith; within = omega (arith, type-long); before = rw z type-ready }
 
   module _ (v : ℕ) (one : v ≡ suc (types b)) where
-    type-other : (j : ℕ) → (j ≡ 5 → ⊥) → byte (set (typeWritten b name above long) 5 v) j ≡ byte (typeWritten b name above long) j
+    pub type-other : (j : ℕ) → (j ≡ 5 → ⊥) → byte (set (typeWritten b name above long) 5 v) j ≡ byte (typeWritten b name above long) j
     type-other j h = getD-set-other (typeWritten b name above long) 5 j v 0 h
 
-    counted-long : length (set (typeWritten b name above long) 5 v) ≡ 1296
+    pub counted-long : length (set (typeWritten b name above long) 5 v) ≡ 1296
     counted-long = length-set (typeWritten b name above long) 5 v ∙ type-long
 
     pub counted-types : types (set (typeWritten b name above long) 5 v) ≡ v
     unfolding types
     counted-types = getD-set-same (typeWritten b name above long) 5 v 0 (omega (arith, type-long))
 
-    counted-fields : fields (set (typeWritten b name above long) 5 v) ≡ fields b
+    pub counted-fields : fields (set (typeWritten b name above long) 5 v) ≡ fields b
     unfolding fields
     counted-fields = type-other 6 (λ z. omega arith) ∙ type-before 6 (omega arith)
 
@@ -135,7 +135,7 @@ module _ (b levels : Bytes) (s : Sound b levels) (name : Bytes) (above long : �
         part-alike (set (typeWritten b name above long) 5 v) (typeWritten b name above long) i 8 (omega (arith, counted-long)) (omega (arith, type-long))
         (λ j k m. type-other j (λ z. omega arith))
 
-    counted-headed : part (set (typeWritten b name above long) 5 v) 0 8 ≡ header 0x43 v (fields b)
+    pub counted-headed : part (set (typeWritten b name above long) 5 v) 0 8 ≡ header 0x43 v (fields b)
     counted-headed =
         header-types (typeWritten b name above long) (types b) (fields b) v
         (part-alike (typeWritten b name above long) b 0 8 (omega (arith, type-long)) (omega (arith, s .long)) (λ j l m. type-before j (omega arith)) ∙ s .headed)
