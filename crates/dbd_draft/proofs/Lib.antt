@@ -4,3 +4,4 @@ pub mod Drafts
 pub mod Sounds
 pub mod Catalogues
 pub mod Rulings
+pub mod Judgements

@@ -1,11 +1,17 @@
+use mathlib.Core.Path.{_≡_, refl, ap, sym, _∙_}
+use mathlib.Core.Logic.{⊎-elim}
+use Prim.Native.Nat.{_+_, _*_, _-_, _≤_, _<_}
+use native.Mathlib.Omega.{arith}
+use lib.ListN.{length, set, length-set}
+use lib.Seq.{sets, length-sets}
+use Rattle.rules.specs.Block.{byte}
+use Rattle.rules.specs.Catalogue.{types, fields}
+use Rattle.dbd_draft.proofs.Judgements.{left-unruled, type-array, type-asks, type-bad, type-good}
+use Rattle.dbd_draft.proofs.Rulings.{type-full}
+use Rattle.blocks.proofs.Negated.{told-no, told-yes}
 use borrow.Author.Needs.{needs}
 use Rattle.dbd_draft.proofs.segments.add_type.Statement.{statement}
 use Rattle.dbd_draft.proofs.segments.add_type.Tie as tie
-use Rattle.dbd_draft.proofs.segments.add_type.Reads as reads
-use Rattle.dbd_draft.proofs.segments.add_type.Lts as lts
-use Rattle.blocks.proofs.wide.Reads as wide-reads
-use Rattle.catalogue_check.proofs.entry.good_type.Reads as good-type-reads
-use Rattle.dbd_names.proofs.write.Reads as write-reads
 
 -- src/segments.rt:35:15
 slice-read-top : tie.Need-slice-read-top
@@ -13,7 +19,9 @@ slice-read-top c = search needs
 
 -- src/segments.rt:37:9
 returns : tie.Need-returns
-returns c = ?
+unfolding types
+returns c = let ·args = c .before .before .before .args in
+    left-unruled _ _ _ (type-full (·args .draft .now) (·args .name .now) (·args .above) (·args .long) (c .if1 .taken))
 
 -- src/segments.rt:39:22
 wide-requires : tie.Need-wide-requires
@@ -57,7 +65,20 @@ add-draft c = search needs
 
 -- src/segments.rt:45:9
 good-type-requires : tie.Need-good-type-requires
-good-type-requires c κs = ?
+unfolding types
+good-type-requires c κs =
+    let ·args = c .before .before .before .before .before .before .before .before .before .before .before .before
+    .before .before .before .before .args in
+    type-asks (·args .draft .now) (·args .levels .now)
+    (c .before .before .before .before .before .before .before .before .before .before .before .before .before .before
+    .before .before .pre .0) (·args .name .now) (·args .above) (·args .long) (omega arith)
+    (c .before .before .before .before .before .before .before .before .before .before .before .before .before .if1
+    .left) (c .before .before .before .before .before .before .before .before .before .before .before .before .wide
+    .result) (c .before .before .before .before .before .before .before .before .before .write .last .0)
+    (c .before .before .before .before .write2 .last .0)
+    (c .before .before .before .before .before .before .before .before .before .before .before .before .wide .ensures
+    .0) (c .before .before .before .before .before .before .before .before .before .write .ensures)
+    (c .before .before .before .before .write2 .ensures) _ refl
 
 -- src/segments.rt:46:9
 same-length : tie.Need-same-length
@@ -65,7 +86,7 @@ same-length c = search needs
 
 -- src/segments.rt:46:9
 returns-2 : tie.Need-returns-2
-returns-2 c = ?
+returns-2 c = search needs
 
 -- src/segments.rt:48:16
 add-draft-2 : tie.Need-add-draft-2
@@ -77,11 +98,11 @@ slice-write-draft c = search needs
 
 -- src/segments.rt:31:1
 same-length-2 : tie.Need-same-length-2
-same-length-2 c = ?
+same-length-2 c = search needs
 
 -- src/segments.rt:31:1
 returns-3 : tie.Need-returns-3
-returns-3 c = ?
+returns-3 c = search needs
 
 pub add-type-spec : {M : Type 1} → statement M
 add-type-spec =
