@@ -5,7 +5,7 @@ use mathlib.Core.List.{List, [], _∷_, _++_}
 use Prim.Native.Nat.{ℕ, zero, suc, _+_, _-_, _*_, _<_, _≤_}
 use native.Mathlib.Omega.{arith}
 use lib.Dec.{ltb, leb, eqb}
-use lib.ListN.{length, take, drop, set, replicate, length-append, length-replicate, length-drop, List·getD-append}
+use lib.ListN.{length, take, drop, set, replicate, length-append, length-set, length-replicate, length-drop, List·getD-append}
 use lib.Seq.{sets, length-sets, take-all}
 use borrow.Author.Tests.{lt-ltb, le-ltb, eq-eqb, ne-eqb, leb-true}
 use Rattle.forest.specs.Good.{on, off, is}
@@ -22,8 +22,9 @@ use Rattle.statements.proofs.Rows.{part-byte, rows-drop}
 use Rattle.dbd_draft.specs.declared.Judged.the-variants.{Good, Misplaced, Twice, Orphan, Unruled}
 use Rattle.dbd_draft.specs.Kept.{draftOf, Sound, Named, Left}
 use Rattle.dbd_draft.proofs.Writes.{made, kept-before, kept-behind}
-use Rattle.dbd_draft.proofs.Drafts.{types-are, fields-are, begun-not, begun-so, based}
-use Rattle.dbd_draft.proofs.Sounds.{based-sound, typeEntry, typeWritten, type-next, type-draft, type-sound}
+use Rattle.dbd_draft.proofs.Drafts.{keyBytes, types-are, fields-are, begun-not, begun-so, based}
+use Rattle.dbd_draft.proofs.Sounds.{based-sound, typeEntry, typeWritten, type-long, type-next, type-draft, type-sound}
+use Rattle.dbd_draft.proofs.Sounds.{keyed-sound, fieldWritten, field-long, field-draft, field-sound}
 use Rattle.dbd_draft.proofs.Catalogues.{framed, keyed-is}
 use Rattle.dbd_draft.proofs.Rulings.{type-full, field-full, type-ruled, type-low, type-high, field-ruled}
 
@@ -231,23 +232,33 @@ key-not kind k h = and-left (ltb 0 kind) (ltb 0 k) (le-ltb 0 kind (omega arith))
 
 -- what the rules say: too many, not good, good
 module _ (b levels : Bytes) (s : Sound b levels) (name : Bytes) (above long : ℕ) (named : length name ≡ 8) (room : types b < 32) where
-  pub type-bad : (k : ℕ) → k ≡ suc (types b) → goodType (typeWritten b name above long) k ≡ false → ruledType (withType (draftOf b) name above long) ≡ bad unruled
-  type-bad k e g = type-ruled b levels s name above long named room k e ∙ rw g
-
   -- the array as the code has written it, and what is asked before the type is judged
   module _ (w : ℕ) (x y : Bytes) (top : w ≡ types b) (first : x ≡ sets b (8 + 8 * w) (typeEntry above long)) (second : y ≡ sets x (520 + (8 + 8 * w)) name) where
-    pub type-array : y ≡ typeWritten b name above long
+    type-array : y ≡ typeWritten b name above long
     type-array = second ∙ rw (first, top)
 
-    pub type-asks : (k : ℕ) → k ≡ types b + 1 → Next y levels k
-    type-asks k e = rw (type-array, e) (type-next b levels s name above long named room)
+    pub type-stays : (k : ℕ) → length (set y 5 k) ≡ length b
+    type-stays k = length-set y 5 k ∙ ap length type-array ∙ type-long b levels s name above long named room ∙ sym (s .long)
 
-  pub type-good : (k : ℕ) → k ≡ suc (types b) → goodType (typeWritten b name above long) k ≡ true → (row : Bytes) → Ready (typeWritten b name above long) row k
-      → 0 < byte b 520 → Left Good (set (typeWritten b name above long) 5 k) row (ruledType (withType (draftOf b) name above long))
-  type-good k e g row r o = record {
-    same = ap goes (type-draft b levels s name above long named room k e) ∙ sym (type-ruled b levels s name above long named room k e ∙ rw g);
-    sound = λ z. type-sound b levels s name above long named room k e row o r (type-low b levels s name above long named room k e g);
-  }
+    module _ (k : ℕ) (e : k ≡ types b + 1) where
+      pub type-asks : Next y levels k
+      type-asks = rw (type-array, e) (type-next b levels s name above long named room)
+
+      pub type-bad : goodType y k ≡ false → ruledType (withType (draftOf b) name above long) ≡ bad unruled
+      type-bad g =
+          let f : goodType (typeWritten b name above long) k ≡ false = rw type-array at g in
+          type-ruled b levels s name above long named room k (omega arith) ∙ rw f
+
+      pub type-good : goodType y k ≡ true → (row : Bytes) → Ready y row k → 0 < byte b 520 → Left Good (set y 5 k) row (ruledType (withType (draftOf b) name above long))
+      type-good g row r o =
+          let z : k ≡ suc (types b) = omega arith in
+          let f : goodType (typeWritten b name above long) k ≡ true = rw type-array at g in
+          let q : Ready (typeWritten b name above long) row k = rw type-array at r in
+          rw type-array
+          (record {
+            same = ap goes (type-draft b levels s name above long named room k z) ∙ sym (type-ruled b levels s name above long named room k z ∙ rw f);
+            sound = λ h. type-sound b levels s name above long named room k z row o q (type-low b levels s name above long named room k z f);
+          })
 
 module _ (b levels : Bytes) (s : Sound b levels) (name : Bytes) (kind long start : ℕ) (named : length name ≡ 8) (room : fields b < 64) (some : 0 < types b) where
   pub field-bad : goodSpan start long (byte b (8 * types b + 1)) ≡ false → ruledField (withField (draftOf b) name kind long start) ≡ bad unruled
@@ -263,3 +274,24 @@ span-high start long L low h =
       | on g ↦ (let t = three (leb 1 start) (leb 1 long) (leb (start + long - 1) L) g in absurd (omega (arith, leb-true 1 start (t .0), leb-true (start + long - 1) L (t .2))))
       | off g ↦ g
     ]
+
+-- the arrays as the code has written them: with a key, and with a field
+pub key-kept : (b levels : Bytes) → Sound b levels → 0 < types b → (kind start long w : ℕ) (y : Bytes) → w ≡ types b → y ≡ sets b (8 * w + 2) (keyBytes kind start long)
+    → Sound y levels × (y ≡ sets b (8 * types b + 2) (keyBytes kind start long))
+key-kept b levels s o kind start long w y e h =
+    let z : y ≡ sets b (8 * types b + 2) (keyBytes kind start long) = h ∙ rw e in
+    (rw z (keyed-sound b levels s kind start long o), z)
+
+module _ (b levels : Bytes) (s : Sound b levels) (name : Bytes) (long start : ℕ) (named : length name ≡ 8) (room : fields b < 64)
+    (w v : ℕ) (x y : Bytes) (one : w ≡ fields b) (two : v ≡ fields b) (first : x ≡ sets b (264 + 4 * w) (types b ∷ start ∷ long ∷ 0 ∷ []))
+    (second : y ≡ sets x (784 + 8 * v) name) where
+  field-array : y ≡ fieldWritten b name long start
+  field-array = second ∙ rw (first, one, two)
+
+  pub field-stays : (k : ℕ) → length (set y 6 k) ≡ length b
+  field-stays k = length-set y 6 k ∙ ap length field-array ∙ field-long b levels s name long start named room (suc (fields b)) refl ∙ sym (s .long)
+
+  pub field-kept : (k : ℕ) → k ≡ fields b + 1 → Sound (set y 6 k) levels × (draftOf (set y 6 k) ≡ withField (draftOf b) name 0 long start)
+  field-kept k e =
+      let z : k ≡ suc (fields b) = omega arith in
+      rw field-array (field-sound b levels s name long start named room k z, field-draft b levels s name long start named room k z)

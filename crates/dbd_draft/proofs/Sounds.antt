@@ -176,7 +176,7 @@ abbrev pub fieldWritten : Bytes → Bytes → ℕ → ℕ → Bytes
 fieldWritten b name long start = sets (sets b (264 + 4 * fields b) (types b ∷ start ∷ long ∷ 0 ∷ [])) (784 + 8 * fields b) name
 
 module _ (b levels : Bytes) (s : Sound b levels) (name : Bytes) (long start : ℕ) (named : length name ≡ 8) (room : fields b < 64) (v : ℕ) (one : v ≡ suc (fields b)) where
-  field-long : length (fieldWritten b name long start) ≡ 1296
+  pub field-long : length (fieldWritten b name long start) ≡ 1296
   field-long =
       length-sets (sets b (264 + 4 * fields b) (types b ∷ start ∷ long ∷ 0 ∷ [])) (784 + 8 * fields b) name
       ∙ length-sets b (264 + 4 * fields b) (types b ∷ start ∷ long ∷ 0 ∷ []) ∙ s .long

@@ -1,10 +1,17 @@
 use borrow.Author.Needs.{needs}
+use mathlib.Core.List.{[], _∷_}
+use mathlib.Core.Path.{_≡_, refl, ap, sym, _∙_}
+use mathlib.Core.Logic.{⊎-elim}
+use Prim.Native.Nat.{_+_, _*_, _-_, _≤_, _<_}
+use native.Mathlib.Omega.{arith}
+use lib.ListN.{length, set, length-set}
+use lib.Seq.{sets, length-sets}
+use Rattle.rules.specs.Block.{byte}
+use Rattle.rules.specs.Catalogue.{types, fields}
+use Rattle.dbd_draft.proofs.Sounds.{keyed-sound}
+use Rattle.dbd_draft.proofs.Judgements.{key-kept}
 use Rattle.dbd_draft.proofs.fields.set_key.Statement.{statement}
 use Rattle.dbd_draft.proofs.fields.set_key.Tie as tie
-use Rattle.dbd_draft.proofs.fields.set_key.Reads as reads
-use Rattle.dbd_draft.proofs.fields.set_key.Lts as lts
-use Rattle.blocks.proofs.wide.Reads as wide-reads
-use Rattle.dbd_names.proofs.write.Reads as write-reads
 
 -- src/fields.rt:22:23
 slice-read-wide : tie.Need-slice-read-wide
@@ -40,7 +47,8 @@ slice-aggregate-write c = search needs
 
 -- src/fields.rt:27:5
 write-requires : tie.Need-write-requires
-write-requires c κs = ?
+unfolding types
+write-requires c κs = omega arith
 
 -- src/fields.rt:18:1
 same-length : tie.Need-same-length
@@ -48,7 +56,12 @@ same-length c = search needs
 
 -- src/fields.rt:18:1
 returns : tie.Need-returns
-returns c = ?
+unfolding types
+returns c = let ·args = c .before .before .before .before .before .before .before .before .args in
+    let ·pre = c .before .before .before .before .before .before .before .before .pre in
+    let ·wide = c .before .before .before .before .before .wide in let ·write = c .before .before .write in
+    key-kept (·args .draft .now) (·args .levels .now) (·pre .0) (·pre .1) (·args .kind) (·args .start) (·args .long)
+    (·wide .result) _ (·wide .ensures .0) (·write .ensures)
 
 pub set-key-spec : {M : Type 1} → statement M
 set-key-spec =

@@ -1,3 +1,5 @@
+use borrow.Author.Needs.{needs}
+use mathlib.Core.List.{[], _∷_}
 use mathlib.Core.Path.{_≡_, refl, ap, sym, _∙_}
 use mathlib.Core.Logic.{⊎-elim}
 use Prim.Native.Nat.{_+_, _*_, _-_, _≤_, _<_}
@@ -6,10 +8,9 @@ use lib.ListN.{length, set, length-set}
 use lib.Seq.{sets, length-sets}
 use Rattle.rules.specs.Block.{byte}
 use Rattle.rules.specs.Catalogue.{types, fields}
-use Rattle.dbd_draft.proofs.Judgements.{left-unruled, type-array, type-asks, type-bad, type-good}
+use Rattle.dbd_draft.proofs.Judgements.{left-unruled, type-stays, type-asks, type-bad, type-good}
 use Rattle.dbd_draft.proofs.Rulings.{type-full}
 use Rattle.blocks.proofs.Negated.{told-no, told-yes}
-use borrow.Author.Needs.{needs}
 use Rattle.dbd_draft.proofs.segments.add_type.Statement.{statement}
 use Rattle.dbd_draft.proofs.segments.add_type.Tie as tie
 
@@ -86,7 +87,21 @@ same-length c = search needs
 
 -- src/segments.rt:46:9
 returns-2 : tie.Need-returns-2
-returns-2 c = search needs
+unfolding types
+returns-2 c =
+    let ·args = c .before .before .before .before .before .before .before .before .before .before .before .before
+    .before .before .before .before .before .before .args in
+    left-unruled _ _ _ (type-bad (·args .draft .now) (·args .levels .now)
+    (c .before .before .before .before .before .before .before .before .before .before .before .before .before .before
+    .before .before .before .before .pre .0) (·args .name .now) (·args .above) (·args .long) (omega arith)
+    (c .before .before .before .before .before .before .before .before .before .before .before .before .before .before
+    .before .if1 .left) (c .before .before .before .before .before .before .before .before .before .before .before
+    .before .before .before .wide .result) (c .before .before .before .before .before .before .before .before .before
+    .before .before .write .last .0) (c .before .before .before .before .before .before .write2 .last .0)
+    (c .before .before .before .before .before .before .before .before .before .before .before .before .before .before
+    .wide .ensures .0) (c .before .before .before .before .before .before .before .before .before .before .before .write
+    .ensures) (c .before .before .before .before .before .before .write2 .ensures) _ refl
+    (told-no (c .before .good-type .ensures .0) (c .if2 .taken)))
 
 -- src/segments.rt:48:16
 add-draft-2 : tie.Need-add-draft-2
@@ -98,11 +113,41 @@ slice-write-draft c = search needs
 
 -- src/segments.rt:31:1
 same-length-2 : tie.Need-same-length-2
-same-length-2 c = search needs
+unfolding types
+same-length-2 c =
+    let ·args = c .before .before .before .before .before .before .before .before .before .before .before .before
+    .before .before .before .before .before .before .args in
+    type-stays (·args .draft .now) (·args .levels .now)
+    (c .before .before .before .before .before .before .before .before .before .before .before .before .before .before
+    .before .before .before .before .pre .0) (·args .name .now) (·args .above) (·args .long) (omega arith)
+    (c .before .before .before .before .before .before .before .before .before .before .before .before .before .before
+    .before .if1 .left) (c .before .before .before .before .before .before .before .before .before .before .before
+    .before .before .before .wide .result) (c .before .before .before .before .before .before .before .before .before
+    .before .before .write .last .0) (c .before .before .before .before .before .before .write2 .last .0)
+    (c .before .before .before .before .before .before .before .before .before .before .before .before .before .before
+    .wide .ensures .0) (c .before .before .before .before .before .before .before .before .before .before .before .write
+    .ensures) (c .before .before .before .before .before .before .write2 .ensures) _
 
 -- src/segments.rt:31:1
 returns-3 : tie.Need-returns-3
-returns-3 c = search needs
+unfolding types
+returns-3 c =
+    let ·args = c .before .before .before .before .before .before .before .before .before .before .before .before
+    .before .before .before .before .before .before .args in
+    let g = told-yes (c .before .good-type .ensures .0) (c .if2 .left) in type-good (·args .draft .now)
+    (·args .levels .now) (c .before .before .before .before .before .before .before .before .before .before .before
+    .before .before .before .before .before .before .before .pre .0) (·args .name .now) (·args .above) (·args .long)
+    (omega arith) (c .before .before .before .before .before .before .before .before .before .before .before .before
+    .before .before .before .if1 .left) (c .before .before .before .before .before .before .before .before .before
+    .before .before .before .before .before .wide .result)
+    (c .before .before .before .before .before .before .before .before .before .before .before .write .last .0)
+    (c .before .before .before .before .before .before .write2 .last .0)
+    (c .before .before .before .before .before .before .before .before .before .before .before .before .before .before
+    .wide .ensures .0) (c .before .before .before .before .before .before .before .before .before .before .before .write
+    .ensures) (c .before .before .before .before .before .before .write2 .ensures) _ refl g _
+    (c .before .good-type .ensures .1 (c .before .good-type .ensures .0 ∙ g))
+    (c .before .before .before .before .before .before .before .before .before .before .before .before .before .before
+    .before .before .before .before .pre .1)
 
 pub add-type-spec : {M : Type 1} → statement M
 add-type-spec =
