@@ -5,11 +5,12 @@ use mathlib.Core.List.{List, [], _∷_, _++_}
 use Prim.Native.Nat.{ℕ, zero, suc, _+_, _-_, _*_, _<_, _≤_}
 use native.Mathlib.Omega.{arith}
 use lib.Dec.{ltb, leb, eqb}
-use lib.ListN.{length, take, drop, set, replicate, length-append, length-set, length-replicate, length-drop, List·getD-append}
+use lib.ListN.{length, take, drop, set, replicate, length-append, length-set, length-replicate, length-take, length-drop, List·getD-append}
 use lib.Seq.{sets, length-sets, take-all}
 use borrow.Author.Tests.{lt-ltb, le-ltb, eq-eqb, ne-eqb, leb-true}
 use Rattle.forest.specs.Good.{on, off, is}
 use Rattle.forest.specs.Forest.{inside, outside, side}
+use Rattle.terms.specs.Choice.{pick}
 use Rattle.rules.specs.Block.{Bytes, byte, part, sameBytes}
 use Rattle.rules.specs.Catalogue.{types, fields, goodSpan, goodType}
 use Rattle.rules.proofs.Joined.{three}
@@ -19,6 +20,7 @@ use Rattle.statements.specs.Words.{filled}
 use Rattle.statements.specs.Statement.{dbd, segm, field, noParent}
 use Rattle.statements.specs.Draft.{Draft, rows, placeOf, has, ownNames, withType, withField, begun, isKeyed, ruledType, ruledField, Taken, goes, bad, misplaced, twice, orphan, unruled, taken}
 use Rattle.statements.proofs.Rows.{part-byte, rows-drop}
+use Rattle.dbd_draft.specs.declared.Judged.{Judged}
 use Rattle.dbd_draft.specs.declared.Judged.the-variants.{Good, Misplaced, Twice, Orphan, Unruled}
 use Rattle.dbd_draft.specs.Kept.{draftOf, Sound, Named, Left}
 use Rattle.dbd_draft.proofs.Writes.{made, kept-before, kept-behind}
@@ -26,7 +28,7 @@ use Rattle.dbd_draft.proofs.Drafts.{keyBytes, types-are, fields-are, be
 use Rattle.dbd_draft.proofs.Sounds.{based-sound, typeEntry, typeWritten, type-long, type-next, type-draft, type-sound}
 use Rattle.dbd_draft.proofs.Sounds.{keyed-sound, fieldWritten, field-long, field-draft, field-sound}
 use Rattle.dbd_draft.proofs.Catalogues.{framed, keyed-is}
-use Rattle.dbd_draft.proofs.Rulings.{type-full, field-full, type-ruled, type-low, type-high, field-ruled}
+use Rattle.dbd_draft.proofs.Rulings.{field-full, type-ruled, type-low, with-key, field-ruled}
 
 -- a refusal: the fault is the definition's, and no more is asked
 module _ (b levels : Bytes) (t : Taken) where
@@ -133,6 +135,9 @@ tail-rows w k b n =
     ap (λ (t : Bytes). rows w t 0 n) (take-all (length b - k) (drop k b) (omega (arith, length-drop k b)))
     ∙ rows-drop w k b 0 n ∙ ap (λ (i : ℕ). rows w b i n) z
 
+pub tail-room : (b : Bytes) (k m : ℕ) → k + m ≤ length b → m ≤ length (take (length b - k) (drop k b))
+tail-room b k m h = simp (length-take, length-drop) (omega arith)
+
 -- where a name stands among the segments' names
 pub place-is : (b f w : Bytes) (r : ℕ) → f ≡ filled w → r ≡ placeOf f (rows 8 (take (length b - 528) (drop 528 b)) 0 (byte b 5)) → r ≡ placeOf (filled w) (draftOf b .segmentNames)
 unfolding draftOf types
@@ -205,23 +210,45 @@ module _ (b levels : Bytes) (s : Sound b levels) (n : Bytes) (kind l start : ℕ
   pub field-none-yet : types b ≡ 0 → taken (draftOf b) (field n kind l start) ≡ bad misplaced
   field-none-yet h = field-misplaced (draftOf b) n kind l start (rw (types-are b, eq-eqb (types b) 0 h))
 
-  module _ (some : types b ≡ 0 → ⊥) where
-    pub field-second : (kind ≡ 0 → ⊥) → (byte b (8 * types b + 2) ≡ 0 → ⊥) → taken (draftOf b) (field n kind l start) ≡ bad misplaced
+  -- there is a type; w is its number, as the code has it
+  module _ (some : types b ≡ 0 → ⊥) (w : ℕ) (top : w ≡ types b) where
+    pub field-second : (kind ≡ 0 → ⊥) → (byte b (8 * w + 2) ≡ 0 → ⊥) → taken (draftOf b) (field n kind l start) ≡ bad misplaced
     field-second k h =
+        let g : 0 < byte b (8 * w + 2) = omega arith in
+        let f : 0 < byte b (8 * types b + 2) = rw top at g in
         field-misplaced (draftOf b) n kind l start
-        (rw (types-are b, ne-eqb (types b) 0 some, keyed-is b (framed b levels s), lt-ltb 0 kind (omega arith), lt-ltb 0 (byte b (8 * types b + 2)) (omega arith)))
+        (rw (types-are b, ne-eqb (types b) 0 some, keyed-is b (framed b levels s), lt-ltb 0 kind (omega arith), lt-ltb 0 (byte b (8 * types b + 2)) f))
 
-    -- there is a type, and its key is not a second one
-    placed : (ltb 0 kind && ltb 0 (byte b (8 * types b + 2))) ≡ false → (eqb (length (draftOf b .types)) 0 || (ltb 0 kind && isKeyed (draftOf b))) ≡ false
-    placed h = rw (types-are b, ne-eqb (types b) 0 some, keyed-is b (framed b levels s), h)
+    -- and its key is not a second one
+    placed : (ltb 0 kind && ltb 0 (byte b (8 * w + 2))) ≡ false → (eqb (length (draftOf b .types)) 0 || (ltb 0 kind && isKeyed (draftOf b))) ≡ false
+    placed h =
+        let g : (ltb 0 kind && ltb 0 (byte b (8 * types b + 2))) ≡ false = rw top at h in
+        rw (types-are b, ne-eqb (types b) 0 some, keyed-is b (framed b levels s), g)
 
-    module _ (key : (ltb 0 kind && ltb 0 (byte b (8 * types b + 2))) ≡ false) (r : Bool)
+    module _ (key : (ltb 0 kind && ltb 0 (byte b (8 * w + 2))) ≡ false) (r : Bool)
         (own : r ≡ has (filled n) (ownNames (length (draftOf b .types)) (draftOf b .fields) (draftOf b .fieldNames))) where
       pub field-known : r ≡ true → taken (draftOf b) (field n kind l start) ≡ bad twice
       field-known h = field-twice (draftOf b) n kind l start (placed key) (sym own ∙ h)
 
-      pub field-new : r ≡ false → taken (draftOf b) (field n kind l start) ≡ ruledField (withField (draftOf b) (filled n) kind l start)
-      field-new h = field-goes (draftOf b) n kind l start (placed key) (sym own ∙ h)
+      module _ (new : r ≡ false) where
+        field-new : taken (draftOf b) (field n kind l start) ≡ ruledField (withField (draftOf b) (filled n) kind l start)
+        field-new = field-goes (draftOf b) n kind l start (placed key) (sym own ∙ new)
+
+        pub field-many : 64 ≤ fields b → taken (draftOf b) (field n kind l start) ≡ bad unruled
+        field-many h = field-new ∙ field-full b (filled n) kind l start h
+
+        module _ (short : length n ≤ 8) (room : fields b < 64) (g : Bool) (spans : g ≡ goodSpan start l (byte b (8 * w + 1))) where
+          ruled : taken (draftOf b) (field n kind l start) ≡ pick g (goes (withField (draftOf b) (filled n) kind l start)) (bad unruled)
+          ruled =
+              let e : g ≡ goodSpan start l (byte b (8 * types b + 1)) = spans ∙ rw top in
+              field-new ∙ field-ruled b levels s (filled n) kind l start (filled-long n short) room (omega arith)
+              ∙ ap (λ (t : Bool). pick t (goes (withField (draftOf b) (filled n) kind l start)) (bad unruled)) (sym e)
+
+          pub field-bad : g ≡ false → taken (draftOf b) (field n kind l start) ≡ bad unruled
+          field-bad h = ruled ∙ rw h
+
+          pub field-good : g ≡ true → taken (draftOf b) (field n kind l start) ≡ goes (withField (draftOf b) (filled n) kind l start)
+          field-good h = ruled ∙ rw h
 
 -- the key's test, after both arms of the code
 pub key-first : (kind k : ℕ) → k ≡ 0 → (ltb 0 kind && ltb 0 k) ≡ false
@@ -260,13 +287,6 @@ module _ (b levels : Bytes) (s : Sound b levels) (name : Bytes) (above long : �
             sound = λ h. type-sound b levels s name above long named room k z row o q (type-low b levels s name above long named room k z f);
           })
 
-module _ (b levels : Bytes) (s : Sound b levels) (name : Bytes) (kind long start : ℕ) (named : length name ≡ 8) (room : fields b < 64) (some : 0 < types b) where
-  pub field-bad : goodSpan start long (byte b (8 * types b + 1)) ≡ false → ruledField (withField (draftOf b) name kind long start) ≡ bad unruled
-  field-bad g = field-ruled b levels s name kind long start named room some ∙ rw g
-
-  pub field-good : goodSpan start long (byte b (8 * types b + 1)) ≡ true → ruledField (withField (draftOf b) name kind long start) ≡ goes (withField (draftOf b) name kind long start)
-  field-good g = field-ruled b levels s name kind long start named room some ∙ rw g
-
 -- a span with a number above 120 is in no type's data
 pub span-high : (start long L : ℕ) → L ≤ 120 → 240 < start + long → goodSpan start long L ≡ false
 span-high start long L low h =
@@ -295,3 +315,40 @@ module _ (b levels : Bytes) (s : Sound b levels) (name : Bytes) (long start : �
   field-kept k e =
       let z : k ≡ suc (fields b) = omega arith in
       rw field-array (field-sound b levels s name long start named room k z, field-draft b levels s name long start named room k z)
+
+-- the array before the field is added: with the field's key, or as it was
+pub record Prepared (b levels name : Bytes) (kind long start : ℕ) (c : Bytes) : Type 0 where
+  pub sound : Sound c levels
+  pub many : fields c ≡ fields b
+  pub same : withField (draftOf c) name 0 long start ≡ withField (draftOf b) name kind long start
+
+module _ (b levels : Bytes) (s : Sound b levels) (name : Bytes) (kind long start : ℕ) where
+  pub prepared-key : (types b ≡ 0 → ⊥) → (kind ≡ 0 → ⊥) → (c d : Bytes) → d ≡ c → Sound c levels → c ≡ sets b (8 * types b + 2) (keyBytes kind start long)
+      → Prepared b levels name kind long start d
+  unfolding fields
+  prepared-key some k c d e g z =
+      rw e
+      (record {
+        sound = g;
+        many = rw z (kept-before (keyBytes kind start long) b (8 * types b + 2) 6 (omega arith));
+        same = rw z (with-key b name kind long start (s .long) (omega arith) (s .few) (s .fewFields) (ne-eqb kind 0 k));
+      })
+
+  pub prepared-none : kind ≡ 0 → (d : Bytes) → d ≡ b → Prepared b levels name kind long start d
+  prepared-none k d e = rw (e, k) (record { sound = s; many = refl; same = refl })
+
+  module _ (d : Bytes) (p : Prepared b levels name kind long start d) where
+    pub prepared-room : fields b < 64 → Sound d levels × (fields d < 64)
+    prepared-room h = (p .sound, omega (arith, p .many))
+
+    -- and after it
+    pub field-left : (c w : Bytes) (t : Taken) → name ≡ filled w → t ≡ goes (withField (draftOf b) (filled w) kind long start)
+        → Sound c levels × (draftOf c ≡ withField (draftOf d) name 0 long start) → Left Good c levels t
+    field-left c w t e g h = record {
+      same = ap goes (h .1 ∙ p .same ∙ ap (λ (x : Bytes). withField (draftOf b) x kind long start) e) ∙ sym g;
+      sound = λ z. h .0;
+    }
+
+-- what the callee left is what the definition asks
+pub left-as : (r : Judged) (b levels : Bytes) (t u : Taken) → Left r b levels t → u ≡ t → Left r b levels u
+left-as r b levels t u l e = rw e l
