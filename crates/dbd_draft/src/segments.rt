@@ -58,7 +58,7 @@ pub(crate) fn take_segm(
     parent: &[u8],
     long: u8,
 ) -> Judged
-    requires { ⌜ Sound (now draft) (now levels) × Named (now word) × Named (now parent) ⌝ }
+    requires { ⌜ Sound (now draft) (now levels) × (length (now word) ≤ 8) × (length (now parent) ≤ 8) ⌝ }
     ensures { λ r. ⌜ Left r (now (draft .exit)) (now (levels .exit))
         (taken (draftOf (now (draft .entry))) (segm (now (word .entry)) (now (parent .entry)) long)) ⌝ }
 {
