@@ -1,24 +1,23 @@
 -- What is left of a line when a slot of a form has been read (R76). Assumes nothing.
 use mathlib.Core.Path.{_≡_, refl, ap, sym, _∙_}
-use mathlib.Core.Bool.{Bool, true, false, _&&_, _||_, and-false}
+use mathlib.Core.Bool.{Bool, true, false}
 use mathlib.Core.List.{List, [], _∷_, _++_}
-use Prim.Native.Nat.{ℕ, zero, suc, _+_, _-_, _<_, _≤_}
+use Prim.Native.Nat.{ℕ, _+_, _-_, _<_, _≤_}
 use native.Mathlib.Omega.{arith}
-use lib.Dec.{ltb, eqb}
-use lib.ListN.{length, take, drop}
+use lib.Dec.{eqb}
+use lib.ListN.{length, drop}
 use borrow.Author.Tests.{lt-ltb, le-ltb, eq-eqb, ne-eqb}
-use Rattle.terms.specs.Choice.{pick}
 use Rattle.forest.specs.Forest.{inside, outside, side}
 use Rattle.forest.specs.Good.{on, off, is}
 use Rattle.rules.specs.Block.{Bytes, byte, part, sameBytes}
 use Rattle.statements.specs.Words.{Token, word, sign, inWord, isBlank, inFront, joined, tokens}
-use Rattle.statements.specs.Statement.{Slot, only, mark, either, name, number, parent, suits, marks, fits, formed}
+use Rattle.statements.specs.Statement.{Slot, only, mark, suits, marks, fits, formed}
 use Rattle.statements.proofs.Words.{clash, token-word, token-sign}
 use Rattle.dbd_words.specs.declared.Span.{Span}
 use Rattle.dbd_words.specs.declared.Asks.{Asks}
 use Rattle.dbd_words.specs.declared.Asks.the-variants.{AName, ANumber, AParent, OneOf}
 use Rattle.dbd_words.specs.Row.{cut, asked, behind, behindAll, isNone, PastBlanks, NextWord, Reached, Held, Ends}
-use Rattle.dbd_words.proofs.Digits.{left-at, none-left}
+use Rattle.dbd_words.proofs.Left.{left-at, none-left}
 
 -- one token
 behind-in : (s : Slot) (t : Token) (ts : List Token) → fits s t ≡ true → behind s (t ∷ ts) ≡ ts
@@ -71,7 +70,8 @@ module _ (line : Bytes) (i : ℕ) (s : Span) (a : Slot) (n : NextWord line i s) 
 
   formed-missed : (s .from < s .to → suits a (cut line s) ≡ false) → (ss : List Slot) → formed (a ∷ ss) (tokens (drop i line)) ≡ false
   formed-missed h ss = elim (side (s .from) (s .to)) [
-    | inside l ↦ ap (formed (a ∷ ss)) (n .there l) ∙ formed-out a ss (word (cut line s)) (tokens (drop (s .to) line)) (word-fits a (cut line s) false (h l))
+    | inside l ↦ ap (formed (a ∷ ss)) (n .there l)
+        ∙ formed-out a ss (word (cut line s)) (tokens (drop (s .to) line)) (word-fits a (cut line s) false (h l))
     | outside l ↦ unformed a ss m (tokens (drop i line)) (n .missed (let o : s .from ≤ s .to = n .ordered in omega arith))
   ]
 
@@ -164,7 +164,8 @@ module _ (line : Bytes) (i r s : ℕ) (p : PastBlanks line i r) where
   sign-there f g l e = record {
     inside = omega arith;
     left =
-        sym (ap (behind (mark s)) (sym (p .left) ∙ ap tokens (left-at line r l) ∙ token-sign (byte line r) (drop (r + 1) line) (ap inWord e ∙ f) (ap isBlank e ∙ g))
+        sym (ap (behind (mark s))
+        (sym (p .left) ∙ ap tokens (left-at line r l) ∙ token-sign (byte line r) (drop (r + 1) line) (ap inWord e ∙ f) (ap isBlank e ∙ g))
         ∙ mark-there s (byte line r) (tokens (drop (r + 1) line)) (sym e))
         ∙ one-all (mark s) (tokens (drop i line));
   }
@@ -207,7 +208,8 @@ module _ (line : Bytes) (i : ℕ) (s : Span) (a : Asks) (n : NextWord line i s) 
     missed = λ e ss. absurd (omega arith);
   }
 
-  held-not : (t : Span) → t .from ≡ length line → t .to ≡ length line → (s .from < s .to → suits (asked a) (cut line s) ≡ false) → Held line i (asked a) t
+  held-not : (t : Span) → t .from ≡ length line → t .to ≡ length line → (s .from < s .to → suits (asked a) (cut line s) ≡ false)
+      → Held line i (asked a) t
   held-not t f e h = record {
     ordered = omega arith;
     inside = omega arith;
@@ -248,5 +250,6 @@ at-end line i r p = elim (side r (length line)) [
   | outside l ↦ eq-eqb r (length line) (let o : r ≤ length line = p .inside in omega arith) ∙ sym (ap isNone (sym (p .left) ∙ none-tokens line r l))
 ]
 
-pub ends-there : (line : Bytes) (s : Span) (r : ℕ) → s .from ≤ s .to → (s .from ≡ s .to → ⊥) → PastBlanks line (s .to) r → Ends line s (eqb r (length line))
+pub ends-there : (line : Bytes) (s : Span) (r : ℕ) → s .from ≤ s .to → (s .from ≡ s .to → ⊥) → PastBlanks line (s .to) r
+    → Ends line s (eqb r (length line))
 ends-there line s r l n p = rw (lt-ltb (s .from) (s .to) (omega arith)) (at-end line (s .to) r p)

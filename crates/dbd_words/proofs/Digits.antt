@@ -1,29 +1,20 @@
 -- A number: its digits one after the other, and its value as far as a byte can hold it (R75). Assumes nothing.
 use mathlib.Core.Path.{_≡_, refl, ap, sym, _∙_}
-use mathlib.Core.Bool.{Bool, true, false, _&&_}
+use mathlib.Core.Bool.{true, false}
 use mathlib.Core.List.{[], _∷_}
-use Prim.Native.Nat.{ℕ, zero, suc, _+_, _-_, _*_, _<_, _≤_}
-use native.Mathlib.Numerals.{add-one}
+use Prim.Native.Nat.{ℕ, _+_, _-_, _*_, _<_, _≤_}
 use native.Mathlib.Omega.{arith}
 use lib.Dec.{ltb}
-use lib.ListN.{length, drop, drop-of-length-le}
-use lib.Seq.{drop-cons}
+use lib.ListN.{length, drop}
 use borrow.Author.Tests.{lt-ltb, le-ltb}
-use Rattle.terms.specs.Choice.{pick}
 use Rattle.forest.specs.Forest.{inside, outside, side}
 use Rattle.forest.specs.Good.{on, off, is}
 use Rattle.rules.specs.Block.{Bytes, byte, every}
 use Rattle.rules.proofs.Every.{every-in, every-out}
-use Rattle.statements.specs.Words.{isDigit, isNumber, valueFrom, value}
-use Rattle.statements.proofs.Words.{clash, every-head, every-tail}
+use Rattle.statements.specs.Words.{isDigit, isNumber, valueFrom}
+use Rattle.statements.proofs.Words.{clash, every-head}
 use Rattle.dbd_words.specs.Capped.{capped}
-
--- what is left at i, taken apart
-pub left-at : (b : Bytes) (i : ℕ) → i < length b → drop i b ≡ byte b i ∷ drop (i + 1) b
-left-at b i h = rw add-one (drop-cons b i 0 h)
-
-pub none-left : (b : Bytes) (i : ℕ) → length b ≤ i → drop i b ≡ []
-none-left b i h = drop-of-length-le b {i = i} h
+use Rattle.dbd_words.proofs.Left.{left-at, none-left}
 
 module _ (w : Bytes) (i : ℕ) where
   pub digits-next : i < length w → isDigit (byte w i) ≡ true → every isDigit (drop (i + 1) w) ≡ every isDigit (drop i w)

@@ -1,11 +1,11 @@
 -- One byte: a digit, a letter, a blank (R74, R75). Assumes nothing.
-use mathlib.Core.Path.{_≡_, refl, ap, sym, _∙_}
-use mathlib.Core.Bool.{Bool, true, false, _&&_, _||_}
+use mathlib.Core.Path.{_≡_, refl, ap, _∙_}
+use mathlib.Core.Bool.{true, false}
 use Prim.Native.Nat.{ℕ, _<_, _≤_}
 use native.Mathlib.Omega.{arith}
 use lib.Dec.{leb, eqb}
 use borrow.Author.Tests.{lt-leb, le-leb, leb-true, eq-eqb, ne-eqb, eqb-true}
-use Rattle.forest.specs.Good.{on, off, is, both-left, both-right}
+use Rattle.forest.specs.Good.{on, off, is, both-left}
 use Rattle.statements.specs.Words.{isDigit, isLetter, inWord, isBlank}
 
 module _ (b : ℕ) where

@@ -1,3 +1,4 @@
+pub mod Left
 pub mod Letters
 pub mod Digits
 pub mod Names

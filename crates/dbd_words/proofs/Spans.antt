@@ -1,18 +1,18 @@
 -- Where blanks and words end in a line, and the word that is cut out of it (R74). Assumes nothing.
 use mathlib.Core.Path.{_≡_, refl, ap, sym, _∙_}
-use mathlib.Core.Bool.{Bool, true, false, _&&_}
+use mathlib.Core.Bool.{Bool, true, false}
 use mathlib.Core.List.{List, [], _∷_, _++_}
-use Prim.Native.Nat.{ℕ, zero, suc, _+_, _-_, _<_, _≤_}
+use Prim.Native.Nat.{ℕ, suc, _+_, _-_, _<_, _≤_}
 use native.Mathlib.Omega.{arith}
-use lib.ListN.{length, take, drop, length-drop, take-append-drop}
+use lib.ListN.{length, drop, length-drop, take-append-drop}
 use lib.Seq.{take-suc, getD-drop, drop-drop, length-take-le}
 use Rattle.rules.specs.Block.{Bytes, byte, part, every}
 use Rattle.statements.specs.Words.{Token, word, sign, inWord, isBlank, inFront, tokens}
-use Rattle.statements.proofs.Words.{clash, every-in, every-append, every-head, every-tail, token-blank, token-sign, tokens-word}
+use Rattle.statements.proofs.Words.{every-in, every-append, every-head, every-tail, token-blank, token-sign, tokens-word}
 use Rattle.dbd_words.specs.declared.Span.{Span}
 use Rattle.dbd_words.specs.Row.{PastBlanks, WordEnd, NextWord}
 use Rattle.dbd_words.proofs.Letters.{blank-apart}
-use Rattle.dbd_words.proofs.Digits.{left-at, none-left}
+use Rattle.dbd_words.proofs.Left.{left-at, none-left}
 
 module _ (line : Bytes) (i : ℕ) where
   pub blanks-next : i < length line → isBlank (byte line i) ≡ true → tokens (drop (i + 1) line) ≡ tokens (drop i line)
@@ -51,7 +51,8 @@ word-front (b ∷ w) bs h e f = tokens-word b w bs (every-head inWord b w e) (ev
 pub whole-part : (line : Bytes) (a e : ℕ) → a ≤ e → drop a line ≡ part line a (e - a) ++ drop e line
 whole-part line a e l =
     let z : a + (e - a) ≡ e = omega arith in
-    sym (take-append-drop (e - a) (drop a line)) ∙ ap (λ (t : Bytes). part line a (e - a) ++ t) (drop-drop (e - a) a line ∙ ap (λ (k : ℕ). drop k line) z)
+    sym (take-append-drop (e - a) (drop a line))
+    ∙ ap (λ (t : Bytes). part line a (e - a) ++ t) (drop-drop (e - a) a line ∙ ap (λ (k : ℕ). drop k line) z)
 
 pub length-part : (line : Bytes) (a e : ℕ) → e ≤ length line → length (part line a (e - a)) ≡ e - a
 length-part line a e l = length-take-le (e - a) (drop a line) (rw (length-drop a line) (omega arith))

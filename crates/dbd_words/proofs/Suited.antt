@@ -1,18 +1,18 @@
 -- Whether a word is what a slot asks for (R75, R76). Assumes nothing.
-use mathlib.Core.Path.{_≡_, refl, ap, sym, _∙_}
+use mathlib.Core.Path.{_≡_, ap, sym, _∙_}
 use mathlib.Core.Bool.{Bool, true, false, _||_}
 use mathlib.Core.List.{[], _∷_}
-use Prim.Native.Nat.{ℕ, suc, _<_, _≤_}
+use Prim.Native.Nat.{ℕ}
 use native.Mathlib.Omega.{arith}
 use lib.Dec.{eqb}
 use lib.ListN.{length}
 use borrow.Author.Tests.{eq-eqb, ne-eqb, eqb-true, eqb-false}
 use Rattle.forest.specs.Good.{on, off, is}
-use Rattle.rules.specs.Block.{Bytes, byte, every, sameBytes}
+use Rattle.rules.specs.Block.{Bytes, byte, sameBytes}
 use Rattle.blocks.proofs.Remaining.{same-length}
 use Rattle.statements.specs.Text.{bytesOf}
 use Rattle.statements.specs.Words.{isName, isNumber}
-use Rattle.statements.specs.Statement.{Slot, either, name, number, parent, noParent, suits}
+use Rattle.statements.specs.Statement.{either, parent, noParent, suits}
 use Rattle.dbd_words.specs.declared.Asks.{Asks}
 use Rattle.dbd_words.specs.declared.Asks.the-variants.{AName, ANumber, AParent, OneOf}
 use Rattle.dbd_words.specs.Row.{asked}

@@ -2,15 +2,15 @@ use Rattle.dbd_words.proofs.Letters.{blank-space, blank-tab, blank-othe
 use Rattle.dbd_words.proofs.words.is_blank.Statement.{statement}
 use Rattle.dbd_words.proofs.words.is_blank.Tie as tie
 
--- src/words.rt:49:9
+-- src/words.rt: return true;
 returns : tie.Need-returns
 returns c = blank-space _ (c .if1 .taken)
 
--- src/words.rt:52:9
+-- src/words.rt: return true;
 returns-2 : tie.Need-returns-2
 returns-2 c = blank-tab _ (c .before .if1 .left) (c .if2 .taken)
 
--- src/words.rt:45:1
+-- src/words.rt: fn is_blank(b: u8) -> bool
 returns-3 : tie.Need-returns-3
 returns-3 c = blank-other _ (c .before .if1 .left) (c .if2 .left)
 

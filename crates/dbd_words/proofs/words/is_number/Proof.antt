@@ -1,6 +1,5 @@
 use borrow.Author.Needs.{needs}
 use mathlib.Core.Path.{_≡_, refl, sym, _∙_}
-use mathlib.Core.Bool.{true}
 use Prim.Native.Nat.{_≤_, _-_}
 use native.Mathlib.Omega.{arith}
 use lib.ListN.{length, drop}
@@ -17,34 +16,34 @@ Inv-loop word i₀ i = (i ≤ length word) × (every isDigit (drop i word) ≡ e
 abbrev μ-loop : tie.MeasureT-loop
 μ-loop word i₀ i = length word - i
 
--- src/words.rt:115:5
+-- src/words.rt: while i < word.len() {
 loop-holds : tie.Need-loop-holds Inv-loop μ-loop
 loop-holds c = (omega arith, refl)
 
--- src/words.rt:116:22
+-- src/words.rt: if !is_digit(word[i]) {
 shared-slice-read-is-digit : tie.Need-shared-slice-read-is-digit Inv-loop μ-loop
 shared-slice-read-is-digit c = omega arith
 
--- src/words.rt:116:13
+-- src/words.rt: if !is_digit(word[i]) {
 is-digit-requires : tie.Need-is-digit-requires Inv-loop μ-loop
 is-digit-requires c κs = search needs
 
--- src/words.rt:117:13
+-- src/words.rt: return false;
 returns : tie.Need-returns Inv-loop μ-loop
 returns c = let ·loop = c .before .before .before .before .loop in
     let ·loop-test = c .before .before .before .loop-test in
     number-not _ (sym (·loop .inv .1) ∙ digits-stop _ _ (·loop-test .taken)
     (told-no (c .before .is-digit .ensures) (c .if1 .taken)))
 
--- src/words.rt:119:9
+-- src/words.rt: i += 1;
 add-i : tie.Need-add-i Inv-loop μ-loop
 add-i c = omega arith
 
--- src/words.rt:115:5
+-- src/words.rt: while i < word.len() {
 loop-less : tie.Need-loop-less Inv-loop μ-loop
 loop-less c = omega arith
 
--- src/words.rt:115:5
+-- src/words.rt: while i < word.len() {
 loop-again : tie.Need-loop-again Inv-loop μ-loop
 loop-again c = (
   omega arith,
@@ -52,7 +51,7 @@ loop-again c = (
       (told-yes (c .before .is-digit .ensures) (c .if1 .left)) ∙ c .before .before .before .before .loop .inv .1,
 )
 
--- src/words.rt:111:1
+-- src/words.rt: pub fn is_number(word: &[u8]) -> bool
 returns-2 : tie.Need-returns-2 Inv-loop μ-loop
 returns-2 c = let ·args = c .before .before .before .args in
     number-is (·args .word .now) (c .before .loop .i) (omega arith)

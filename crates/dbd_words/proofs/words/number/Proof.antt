@@ -1,4 +1,4 @@
-use mathlib.Core.Path.{_≡_, refl, sym, _∙_}
+use mathlib.Core.Path.{_≡_, refl, _∙_}
 use mathlib.Core.Bool.{true}
 use Prim.Native.Nat.{_≤_, _-_}
 use native.Mathlib.Omega.{arith}
@@ -17,29 +17,29 @@ Inv-loop word n₀ i₀ n i = (i ≤ length word) × (n ≤ 255) × (every isDig
 abbrev μ-loop : tie.MeasureT-loop
 μ-loop word n₀ i₀ n i = length word - i
 
--- src/words.rt:143:5
+-- src/words.rt: while i < word.len() {
 loop-holds : tie.Need-loop-holds Inv-loop μ-loop
 unfolding value
 loop-holds c = (omega arith, omega arith, number-digits _ (c .before .pre), refl)
 
--- src/words.rt:144:28
+-- src/words.rt: n = next_number(n, word[i]);
 shared-slice-read-next-number : tie.Need-shared-slice-read-next-number Inv-loop μ-loop
 shared-slice-read-next-number c = omega arith
 
--- src/words.rt:144:9
+-- src/words.rt: n = next_number(n, word[i]);
 next-number-requires : tie.Need-next-number-requires Inv-loop μ-loop
 next-number-requires c κs = let ·loop = c .before .before .loop in
     digit-at _ _ (c .before .loop-test .taken) (·loop .inv .2)
 
--- src/words.rt:145:9
+-- src/words.rt: i += 1;
 add-i : tie.Need-add-i Inv-loop μ-loop
 add-i c = omega arith
 
--- src/words.rt:143:5
+-- src/words.rt: while i < word.len() {
 loop-less : tie.Need-loop-less Inv-loop μ-loop
 loop-less c = omega arith
 
--- src/words.rt:143:5
+-- src/words.rt: while i < word.len() {
 loop-again : tie.Need-loop-again Inv-loop μ-loop
 loop-again c = (
   omega arith,
@@ -51,7 +51,7 @@ loop-again c = (
       (c .before .before .loop-test .taken) (c .next-number .ensures) ∙ c .before .before .before .loop .inv .3,
 )
 
--- src/words.rt:137:1
+-- src/words.rt: pub fn number(word: &[u8]) -> u8
 returns : tie.Need-returns Inv-loop μ-loop
 returns c = value-end _ _ _ (c .loop-test .left) (c .before .loop .inv .1) ∙ c .before .loop .inv .3
 

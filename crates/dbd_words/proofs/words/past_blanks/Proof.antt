@@ -1,6 +1,5 @@
 use borrow.Author.Needs.{needs}
-use mathlib.Core.Path.{_≡_, refl, sym, _∙_}
-use mathlib.Core.Bool.{true}
+use mathlib.Core.Path.{_≡_, refl, _∙_}
 use Prim.Native.Nat.{_≤_, _-_}
 use native.Mathlib.Omega.{arith}
 use lib.ListN.{length, drop}
@@ -16,19 +15,19 @@ Inv-loop line at i₀ i = (at ≤ i) × (i ≤ length line) × (tokens (drop i l
 abbrev μ-loop : tie.MeasureT-loop
 μ-loop line at i₀ i = length line - i
 
--- src/words.rt:63:5
+-- src/words.rt: while i < line.len() {
 loop-holds : tie.Need-loop-holds Inv-loop μ-loop
 loop-holds c = (omega arith, omega arith, refl)
 
--- src/words.rt:64:22
+-- src/words.rt: if !is_blank(line[i]) {
 shared-slice-read-is-blank : tie.Need-shared-slice-read-is-blank Inv-loop μ-loop
 shared-slice-read-is-blank c = omega arith
 
--- src/words.rt:64:13
+-- src/words.rt: if !is_blank(line[i]) {
 is-blank-requires : tie.Need-is-blank-requires Inv-loop μ-loop
 is-blank-requires c κs = search needs
 
--- src/words.rt:65:13
+-- src/words.rt: return i;
 returns : tie.Need-returns Inv-loop μ-loop
 returns c = let ·loop = c .before .before .before .before .loop in
     record {
@@ -39,15 +38,15 @@ returns c = let ·loop = c .before .before .before .before .loop in
           (c .before .is-blank .ensures) (c .if1 .taken);
     }
 
--- src/words.rt:67:9
+-- src/words.rt: i += 1;
 add-i : tie.Need-add-i Inv-loop μ-loop
 add-i c = omega arith
 
--- src/words.rt:63:5
+-- src/words.rt: while i < line.len() {
 loop-less : tie.Need-loop-less Inv-loop μ-loop
 loop-less c = omega arith
 
--- src/words.rt:63:5
+-- src/words.rt: while i < line.len() {
 loop-again : tie.Need-loop-again Inv-loop μ-loop
 loop-again c = (
   omega arith,
@@ -56,7 +55,7 @@ loop-again c = (
       (told-yes (c .before .is-blank .ensures) (c .if1 .left)) ∙ c .before .before .before .before .loop .inv .2,
 )
 
--- src/words.rt:58:1
+-- src/words.rt: pub fn past_blanks(line: &[u8], at: usize) -> usize
 returns-2 : tie.Need-returns-2 Inv-loop μ-loop
 returns-2 c = record {
   onward = c .before .loop .inv .0;

@@ -1,9 +1,9 @@
 use borrow.Author.Needs.{needs}
-use mathlib.Core.Path.{_≡_, refl, sym, _∙_}
+use mathlib.Core.Path.{_≡_}
 use mathlib.Core.Bool.{true}
 use Prim.Native.Nat.{_≤_, _-_}
 use native.Mathlib.Omega.{arith}
-use lib.ListN.{length, drop}
+use lib.ListN.{length}
 use Rattle.rules.specs.Block.{every, part}
 use Rattle.statements.specs.Words.{inWord}
 use Rattle.blocks.proofs.Negated.{told-no, told-yes}
@@ -17,19 +17,19 @@ Inv-loop line at i₀ i = (at ≤ i) × (i ≤ length line) × (every inWord (pa
 abbrev μ-loop : tie.MeasureT-loop
 μ-loop line at i₀ i = length line - i
 
--- src/words.rt:78:5
+-- src/words.rt: while i < line.len() {
 loop-holds : tie.Need-loop-holds Inv-loop μ-loop
 loop-holds c = (omega arith, omega arith, row-none (c .before .args .line .now) (c .before .args .at))
 
--- src/words.rt:79:21
+-- src/words.rt: if !in_word(line[i]) {
 shared-slice-read-in-word : tie.Need-shared-slice-read-in-word Inv-loop μ-loop
 shared-slice-read-in-word c = omega arith
 
--- src/words.rt:79:13
+-- src/words.rt: if !in_word(line[i]) {
 in-word-requires : tie.Need-in-word-requires Inv-loop μ-loop
 in-word-requires c κs = search needs
 
--- src/words.rt:80:13
+-- src/words.rt: return i;
 returns : tie.Need-returns Inv-loop μ-loop
 returns c = let ·loop = c .before .before .before .before .loop in
     let ·loop-test = c .before .before .before .loop-test in
@@ -41,15 +41,15 @@ returns c = let ·loop = c .before .before .before .before .loop in
           (·loop-test .taken) (told-no (c .before .in-word .ensures) (c .if1 .taken));
     }
 
--- src/words.rt:82:9
+-- src/words.rt: i += 1;
 add-i : tie.Need-add-i Inv-loop μ-loop
 add-i c = omega arith
 
--- src/words.rt:78:5
+-- src/words.rt: while i < line.len() {
 loop-less : tie.Need-loop-less Inv-loop μ-loop
 loop-less c = omega arith
 
--- src/words.rt:78:5
+-- src/words.rt: while i < line.len() {
 loop-again : tie.Need-loop-again Inv-loop μ-loop
 loop-again c = (
   omega arith,
@@ -59,7 +59,7 @@ loop-again c = (
       (c .before .before .before .before .loop .inv .2),
 )
 
--- src/words.rt:73:1
+-- src/words.rt: fn word_end(line: &[u8], at: usize) -> usize
 returns-2 : tie.Need-returns-2 Inv-loop μ-loop
 returns-2 c = record {
   onward = c .before .loop .inv .0;
