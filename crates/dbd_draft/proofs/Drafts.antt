@@ -114,11 +114,11 @@ key-rows b kind start long k h =
     let n : length c ≡ length b = length-sets b (8 * suc k + 2) (keyBytes kind start long) in
     let s : rows 8 c 8 k ≡ rows 8 b 8 k = rows-alike 8 c b 8 k (omega arith) (omega arith) (λ j l m. kept-before (keyBytes kind start long) b (8 * suc k + 2) j (omega arith)) in
     let p : part c (8 + 8 * k) 2 ≡ part b (8 + 8 * k) 2 =
-        part-alike c b (8 + 8 * k) 2 (omega arith) (omega arith) (λ j l m. kept-before (keyBytes kind start long) b (8 * suc k + 2) j (omega arith)) in
+    part-alike c b (8 + 8 * k) 2 (omega arith) (omega arith) (λ j l m. kept-before (keyBytes kind start long) b (8 * suc k + 2) j (omega arith)) in
     let q : part c (8 + 8 * k + 2) 6 ≡ keyBytes kind start long =
-        ap (λ (i : ℕ). part c i 6) (sym z) ∙ made b (8 * suc k + 2) (keyBytes kind start long) (omega arith) in
+    ap (λ (i : ℕ). part c i 6) (sym z) ∙ made b (8 * suc k + 2) (keyBytes kind start long) (omega arith) in
     let e : part c (8 + 8 * k) 8 ≡ take 2 (part b (8 + 8 * k) 8) ++ keyBytes kind start long =
-        sym (part-then c (8 + 8 * k) 2 6) ∙ rw (p, q) (ap (λ (t : Bytes). t ++ keyBytes kind start long) (sym (take-take 2 8 (drop (8 + 8 * k) b) (omega arith)))) in
+    sym (part-then c (8 + 8 * k) 2 6) ∙ rw (p, q) (ap (λ (t : Bytes). t ++ keyBytes kind start long) (sym (take-take 2 8 (drop (8 + 8 * k) b) (omega arith)))) in
     rows-last 8 c 8 k ∙ rw (s, e) (sym (with-last kind start long (rows 8 b 8 k) (part b (8 + 8 * k) 8)) ∙ ap (withKey kind start long) (sym (rows-last 8 b 8 k)))
 
 key-made : (b : Bytes) (kind start long t : ℕ) → 0 < t → 8 + 8 * t ≤ length b

@@ -13,7 +13,6 @@ use Rattle.forest.specs.Forest.{inside, outside, side}
 use Rattle.terms.specs.Choice.{pick}
 use Rattle.rules.specs.Block.{Bytes, byte, part, sameBytes}
 use Rattle.rules.specs.Catalogue.{types, fields, goodSpan, goodType}
-use Rattle.rules.proofs.Joined.{three}
 use Rattle.catalogue_check.specs.Levelled.{Ready, Next}
 use Rattle.statements.specs.Text.{bytesOf}
 use Rattle.statements.specs.Words.{filled}
@@ -49,7 +48,7 @@ pub filled-long : (w : Bytes) → length w ≤ 8 → length (filled w) ≡ 8
 unfolding filled
 filled-long w h = length-append w (replicate (8 - length w) 0x20) ∙ omega (arith, length-replicate {A = ℕ} (8 - length w) 0x20)
 
-filled-first : (w : Bytes) → 0 < length w → byte (filled w) 0 ≡ byte w 0
+pub filled-first : (w : Bytes) → 0 < length w → byte (filled w) 0 ≡ byte w 0
 unfolding filled
 filled-first w h = List·getD-append w (replicate (8 - length w) 0x20) 0 0 h
 
@@ -58,7 +57,7 @@ pub dbd-again : (b n : Bytes) → length b ≡ 1296 → (byte b 520 ≡ 0 → �
 unfolding taken
 dbd-again b n m h = rw (begun-so b m h)
 
-dbd-first : (d : Draft) (n : Bytes) → begun d ≡ false
+pub dbd-first : (d : Draft) (n : Bytes) → begun d ≡ false
     → taken d (dbd n) ≡ goes (record { base = filled n; types = d .types; fields = d .fields; segmentNames = d .segmentNames; fieldNames = d .fieldNames })
 unfolding taken
 dbd-first d n h = rw h
@@ -93,7 +92,7 @@ module _ (b levels : Bytes) (s : Sound b levels) (w : Bytes) (n : Named w) where
 
 -- SEGM: the tests in their order
 module _ (d : Draft) (n p : Bytes) (l : ℕ) where
-  segm-misplaced : (not (begun d) || (sameBytes p noParent && ltb 0 (length (d .types)))) ≡ true → taken d (segm n p l) ≡ bad misplaced
+  pub segm-misplaced : (not (begun d) || (sameBytes p noParent && ltb 0 (length (d .types)))) ≡ true → taken d (segm n p l) ≡ bad misplaced
   unfolding taken
   segm-misplaced h = rw (taken, h)
 
@@ -114,7 +113,7 @@ module _ (d : Draft) (n p : Bytes) (l : ℕ) where
 
 -- FIELD: the tests in their order
 module _ (d : Draft) (n : Bytes) (k l s : ℕ) where
-  field-misplaced : (eqb (length (d .types)) 0 || (ltb 0 k && isKeyed d)) ≡ true → taken d (field n k l s) ≡ bad misplaced
+  pub field-misplaced : (eqb (length (d .types)) 0 || (ltb 0 k && isKeyed d)) ≡ true → taken d (field n k l s) ≡ bad misplaced
   unfolding taken
   field-misplaced h = rw (taken, h)
 
@@ -286,14 +285,6 @@ module _ (b levels : Bytes) (s : Sound b levels) (name : Bytes) (above long : �
             same = ap goes (type-draft b levels s name above long named room k z) ∙ sym (type-ruled b levels s name above long named room k z ∙ rw f);
             sound = λ h. type-sound b levels s name above long named room k z row o q (type-low b levels s name above long named room k z f);
           })
-
--- a span with a number above 120 is in no type's data
-pub span-high : (start long L : ℕ) → L ≤ 120 → 240 < start + long → goodSpan start long L ≡ false
-span-high start long L low h =
-    elim (is (goodSpan start long L)) [
-      | on g ↦ (let t = three (leb 1 start) (leb 1 long) (leb (start + long - 1) L) g in absurd (omega (arith, leb-true 1 start (t .0), leb-true (start + long - 1) L (t .2))))
-      | off g ↦ g
-    ]
 
 -- the arrays as the code has written them: with a key, and with a field
 pub key-kept : (b levels : Bytes) → Sound b levels → 0 < types b → (kind start long w : ℕ) (y : Bytes) → w ≡ types b → y ≡ sets b (8 * w + 2) (keyBytes kind start long)

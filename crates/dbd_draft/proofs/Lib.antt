@@ -5,3 +5,5 @@ pub mod Sounds
 pub mod Catalogues
 pub mod Rulings
 pub mod Judgements
+pub mod Numbers
+pub mod Said

@@ -30,14 +30,14 @@ pub type-full : (b name : Bytes) (above long : ℕ) → 32 ≤ types b → ruled
 unfolding ruledType withType
 type-full b name above long h =
     let e : length (draftOf b .types ++ ((above ∷ long ∷ 0 ∷ 0 ∷ 0 ∷ 0 ∷ 0 ∷ 0 ∷ []) ∷ [])) ≡ types b + 1 =
-        length-append (draftOf b .types) ((above ∷ long ∷ 0 ∷ 0 ∷ 0 ∷ 0 ∷ 0 ∷ 0 ∷ []) ∷ []) ∙ ap (λ (k : ℕ). k + 1) (types-are b) in
+    length-append (draftOf b .types) ((above ∷ long ∷ 0 ∷ 0 ∷ 0 ∷ 0 ∷ 0 ∷ 0 ∷ []) ∷ []) ∙ ap (λ (k : ℕ). k + 1) (types-are b) in
     rw (e, lt-leb (types b + 1) 32 (omega arith))
 
 pub field-full : (b name : Bytes) (kind long start : ℕ) → 64 ≤ fields b → ruledField (withField (draftOf b) name kind long start) ≡ bad unruled
 unfolding ruledField withField
 field-full b name kind long start h =
     let e : length (draftOf b .fields ++ ((length (draftOf b .types) ∷ start ∷ long ∷ 0 ∷ []) ∷ [])) ≡ fields b + 1 =
-        length-append (draftOf b .fields) ((length (draftOf b .types) ∷ start ∷ long ∷ 0 ∷ []) ∷ []) ∙ ap (λ (k : ℕ). k + 1) (fields-are b) in
+    length-append (draftOf b .fields) ((length (draftOf b .types) ∷ start ∷ long ∷ 0 ∷ []) ∷ []) ∙ ap (λ (k : ℕ). k + 1) (fields-are b) in
     rw (e, lt-leb (fields b + 1) 64 (omega arith))
 
 -- the array with one type more
@@ -117,10 +117,10 @@ field-none b levels s name long start named room some =
     let t : types c ≡ types b = added-types b levels s name long start named room v refl in
     let n : length (draftOf c .fields) ≡ suc (fields b) = fields-are c ∙ f in
     let e : part c (264 + 4 * fields b) 4 ≡ types c ∷ start ∷ long ∷ 0 ∷ [] =
-        rw t (added-entry b levels s name long start named room v refl) in
+    rw t (added-entry b levels s name long start named room v refl) in
     let g : goodField (catalogueOf (draftOf c)) (suc (fields b)) ≡ goodSpan start long (byte b (8 * types b + 1)) =
-        last-good c (framed c levels (field-sound b levels s name long start named room v refl)) (fields b) start long f e (omega arith)
-        ∙ rw t (ap (goodSpan start long) (added-low b levels s name long start named room v refl)) in
+    last-good c (framed c levels (field-sound b levels s name long start named room v refl)) (fields b) start long f e (omega arith)
+    ∙ rw t (ap (goodSpan start long) (added-low b levels s name long start named room v refl)) in
     rw (← d, n, le-leb (suc (fields b)) 64 (omega arith), g)
 
 pub field-ruled : (b levels : Bytes) → Sound b levels → (name : Bytes) (kind long start : ℕ) → length name ≡ 8 → fields b < 64 → 0 < types b
@@ -138,8 +138,8 @@ field-ruled b levels s name kind long start named room some =
           let f : fields c ≡ fields b = kept-before k b at 6 (omega arith) in
           let l : byte c (8 * types b + 1) ≡ byte b (8 * types b + 1) = kept-before k b at (8 * types b + 1) (omega arith) in
           let w : withField (draftOf c) name 0 long start ≡ withField (draftOf b) name kind long start =
-              with-key b name kind long start (s .long) some (s .few) (s .fewFields) h in
+          with-key b name kind long start (s .long) some (s .few) (s .fewFields) h in
           let g : ruledField (withField (draftOf c) name 0 long start) ≡ pick (goodSpan start long (byte c (8 * types c + 1))) (goes (withField (draftOf c) name 0 long start)) (bad unruled) =
-              field-none c levels (keyed-sound b levels s kind start long some) name long start named (omega arith) (omega arith) in
+          field-none c levels (keyed-sound b levels s kind start long some) name long start named (omega arith) (omega arith) in
           rw (t, l, w) at g
     ]

@@ -71,9 +71,13 @@ unfolding types fields
 write-requires-2 c κs =
     let ·args = c .before .before .before .before .before .before .before .before .before .before .before .before .args
     in
-    omega (arith, ap length (c .before .before .before .before .before .write .ensures), length-sets (·args .draft .now)
-    (264 + 4 * c .before .before .before .before .before .before .before .wide .result)
-    (byte (·args .draft .now) 5 ∷ ·args .start ∷ ·args .long ∷ 0 ∷ []))
+    omega (
+      arith,
+      ap length (c .before .before .before .before .before .write .ensures),
+      length-sets (·args .draft .now)
+          (264 + 4 * c .before .before .before .before .before .before .before .wide .result)
+          (byte (·args .draft .now) 5 ∷ ·args .start ∷ ·args .long ∷ 0 ∷ []),
+    )
 
 -- src/fields.rt:43:16
 add-draft : tie.Need-add-draft
