@@ -11,8 +11,9 @@ use Rattle.rules.specs.Block.{Bytes, byte, part}
 use Rattle.dbd_words.specs.declared.Span.{Span}
 use Rattle.dbd_words.specs.Capped.{capped}
 use Rattle.dbd_words.specs.Row.{cut}
+use Rattle.dbd_line.specs.declared.Line.{Line}
 use Rattle.dbd_line.specs.declared.Line.the-variants.{Empty, Wrong, IsDbd, IsSegm, IsField}
-use Rattle.dbd_line.specs.Meant.{InLine, Meant, Says}
+use Rattle.dbd_line.specs.Meant.{InLine, Meant, Says, Means}
 use Rattle.statements.specs.Words.{Token, word, sign, isLetter, isName, filled, tokens}
 use Rattle.statements.specs.Statement.{Statement, dbd, segm, field, Slot, name, suits, marks, fits, formed, dbdForm, segmForm, fieldForm, keyForm, dbdOf, segmOf, fieldOf, keyOf, wordIn, wordAt, statementOf}
 use Rattle.statements.specs.Draft.{Draft, blank, begun, Taken, goes, bad, misplaced, taken, takenIf, lineTaken}
@@ -158,13 +159,21 @@ field-said b levels s line a j l r (field n k v w) m e =
     let z : length n ≤ 8 = rw (m .0 .is) (i .few) in
     (i, e (draftOf b) ∙ sym (field-capped b levels s n z k v w) ∙ rw (m .0 .is, m .1, m .2, m .3))
 
-pub says-dbd : (line : Bytes) (a : Span) → Says line (IsDbd a) → Placed line a × Named (cut line a) × ((d : Draft) → lineTaken d line ≡ taken d (dbd (cut line a)))
-says-dbd line a x = dbd-said line a (x .statement) (x .meant) (x .same)
+-- what the line that was read tells, for each kind of line
+module _ (line : Bytes) (r : Line) (m : Means line r) where
+  pub on-empty : r ≡ Empty → tokens line ≡ []
+  on-empty e = rw e at m
 
-pub says-segm : (b levels : Bytes) → Sound b levels → (line : Bytes) (a p : Span) (l : ℕ) → Says line (IsSegm a p l)
-    → Placed line a × Placed line p × (lineTaken (draftOf b) line ≡ taken (draftOf b) (segm (cut line a) (cut line p) l))
-says-segm b levels s line a p l x = segm-said b levels s line a p l (x .statement) (x .meant) (x .same)
+  pub on-wrong : r ≡ Wrong → (d : Draft) → lineTaken d line ≡ bad misplaced
+  on-wrong e = rw e at m
 
-pub says-field : (b levels : Bytes) → Sound b levels → (line : Bytes) (a : Span) (j l r : ℕ) → Says line (IsField a j l r)
-    → Placed line a × (lineTaken (draftOf b) line ≡ taken (draftOf b) (field (cut line a) j l r))
-says-field b levels s line a j l r x = field-said b levels s line a j l r (x .statement) (x .meant) (x .same)
+  pub on-dbd : (a : Span) → r ≡ IsDbd a → Placed line a × Named (cut line a) × ((d : Draft) → lineTaken d line ≡ taken d (dbd (cut line a)))
+  on-dbd a e = let x : Says line (IsDbd a) = rw e at m in dbd-said line a (x .statement) (x .meant) (x .same)
+
+  pub on-segm : (b levels : Bytes) → Sound b levels → (a p : Span) (l : ℕ) → r ≡ IsSegm a p l
+      → Placed line a × Placed line p × (lineTaken (draftOf b) line ≡ taken (draftOf b) (segm (cut line a) (cut line p) l))
+  on-segm b levels s a p l e = let x : Says line (IsSegm a p l) = rw e at m in segm-said b levels s line a p l (x .statement) (x .meant) (x .same)
+
+  pub on-field : (b levels : Bytes) → Sound b levels → (a : Span) (j l t : ℕ) → r ≡ IsField a j l t
+      → Placed line a × (lineTaken (draftOf b) line ≡ taken (draftOf b) (field (cut line a) j l t))
+  on-field b levels s a j l t e = let x : Says line (IsField a j l t) = rw e at m in field-said b levels s line a j l t (x .statement) (x .meant) (x .same)
