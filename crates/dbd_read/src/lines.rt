@@ -46,10 +46,10 @@ pub(crate) fn read_lines(draft: &mut [u8], levels: &mut [u8; 33], text: &[u8]) -
     let mut line = 1;
     while at < text.len() {
         let end = line_end(text, at);
-        let j = take_line(draft, levels, &text[at..end]);
-        let Judged::Good = j else {
-            return Reading::Fault(fault_number(j), line);
-        };
+        let fault = fault_number(take_line(draft, levels, &text[at..end]));
+        if fault != 0 {
+            return Reading::Fault(fault, line);
+        }
         line += 1;
         at = end;
         if at < text.len() {

@@ -20,26 +20,23 @@ loop-holds c = ?
 line-end-requires : tie.Need-line-end-requires Inv-loop μ-loop
 line-end-requires c κs = ?
 
--- src/lines.rt:49:42
+-- src/lines.rt:49:59
 sub-take-line : tie.Need-sub-take-line Inv-loop μ-loop
 sub-take-line c = ?
 
--- src/lines.rt:49:42
+-- src/lines.rt:49:59
 part-take-line-start : tie.Need-part-take-line-start Inv-loop μ-loop
 part-take-line-start c = ?
 
--- src/lines.rt:49:42
+-- src/lines.rt:49:59
 part-take-line-end : tie.Need-part-take-line-end Inv-loop μ-loop
 part-take-line-end c = ?
 
--- src/lines.rt:49:13
+-- src/lines.rt:49:34
 take-line-requires : tie.Need-take-line-requires Inv-loop μ-loop
 take-line-requires c κs = ?
 
-enum-told : tie.Need-enum-told Inv-loop μ-loop
-enum-told c = ?
-
--- src/lines.rt:51:35
+-- src/lines.rt:49:13
 fault-number-requires : tie.Need-fault-number-requires Inv-loop μ-loop
 fault-number-requires c κs = ?
 
@@ -76,8 +73,8 @@ loop-again-2 : tie.Need-loop-again-2 Inv-loop μ-loop
 loop-again-2 c = ?
 
 -- src/lines.rt:59:8
-slice-read-if2 : tie.Need-slice-read-if2 Inv-loop μ-loop
-slice-read-if2 c = ?
+slice-read-if3 : tie.Need-slice-read-if3 Inv-loop μ-loop
+slice-read-if3 c = ?
 
 -- src/lines.rt:60:9
 same-length-2 : tie.Need-same-length-2 Inv-loop μ-loop
@@ -107,7 +104,6 @@ read-lines-spec =
     part-take-line-start
     part-take-line-end
     take-line-requires
-    enum-told
     fault-number-requires
     same-length
     returns
@@ -117,7 +113,7 @@ read-lines-spec =
     loop-again
     loop-less-2
     loop-again-2
-    slice-read-if2
+    slice-read-if3
     same-length-2
     returns-2
     same-length-3

@@ -128,7 +128,7 @@ returns-3 c =
     let ·put-names = c .before .before .put-names in
     out-both (·args .draft .now) (·wide .result) (·wide2 .result)
     (counted-by (·args .draft .now) (·wide .result) (·wide2 .result) ·pre (·wide .ensures .0) (·wide2 .ensures .0))
-    (·args .cat .now) (·args .names .now) (·if1 .left) (·if2 .left) (·put-catalogue .last .3) (·put-names .last .3)
+    (·args .cat .now) (·args .names .now) (·if1 .left) (·if2 .left) (·put-catalogue .last .1 .1 .1 .0) (·put-names .last .1 .1 .1 .0)
     (·put-catalogue .ensures) (·put-names .ensures)
 
 pub hand-out-spec : {M : Type 1} → statement M
