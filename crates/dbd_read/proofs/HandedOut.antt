@@ -13,8 +13,8 @@ use Rattle.terms.specs.Choice.{pick}
 use Rattle.rules.specs.Block.{Bytes, byte, part}
 use Rattle.rules.specs.Catalogue.{types, fields}
 use Rattle.statements.specs.Draft.{header, joinedRow, rows, catalogueOf, namesOf}
-use Rattle.statements.specs.Dbd.{Reading, given}
-use Rattle.statements.specs.Lent.{ReadInto, onto, high, handedOut, readBack}
+use Rattle.statements.specs.Dbd.{Reading, given, dbdRead}
+use Rattle.statements.specs.Lent.{onto, high, handedOut, readInto, readBack}
 use Rattle.dbd_names.proofs.Rows.{joined-rows, length-rows, part-add}
 use Rattle.dbd_draft.specs.Kept.{draftOf}
 use Rattle.dbd_read.specs.Reading.{Wide, Counted}
@@ -240,3 +240,8 @@ module _ (b : Bytes) (top last : ℕ) (k : Counted b top last) where
           → readBack (256 * top + 65536 * last) c d ≡ handedOut (given (draftOf b)) cat names
       out-both h c d e f =
           rw (k .types, k .fields) (both-out b (k .fits) cat names (omega (arith, k .types, k .fields)) (omega (arith, k .types, k .fields)) c d e f)
+
+-- what is handed out of a text's reading is the answer
+pub read-into : (text cat names : Bytes) (a : Reading) → a ≡ dbdRead text → handedOut a cat names ≡ readInto text cat names
+unfolding readInto
+read-into text cat names a e = ap (λ (r : Reading). handedOut r cat names) e

@@ -139,3 +139,11 @@ module _ (text b levels : Bytes) (at n : ℕ) (h : length text ≤ at) (s : Soun
     wide = λ z. record { long = s .long; few = s .few; fewFields = s .fewFields; headed = s .headed; based = s .based (omega (arith, e)) };
     told = λ k m z. absurd (not-whole k m (sym z));
   }
+
+-- a reading, by its arm
+module _ (r : Reading) (b levels : Bytes) (a : Answer) (h : Read r b levels a) where
+  pub whole-is : r ≡ Whole → given (draftOf b) ≡ a
+  whole-is e = sym (ap (λ (x : Reading). readAs x b) e) ∙ h .same
+
+  pub fault-is : (k n : ℕ) → r ≡ Fault k n → record { fault = k; line = n; types = 0; fields = 0; catalogue = []; names = [] } ≡ a
+  fault-is k n e = sym (ap (λ (x : Reading). readAs x b) e) ∙ h .same

@@ -1,12 +1,12 @@
+use Rattle.dbd_read.proofs.LinesRead.{whole-is, fault-is}
+use mathlib.Core.Path.{refl, _∙_}
+use Rattle.statements.specs.Dbd.{given, dbdRead}
+use Rattle.dbd_draft.specs.Kept.{draftOf}
+use Rattle.dbd_read.proofs.FreshDraft.{fresh}
+use Rattle.dbd_read.proofs.HandedOut.{fault-out, read-into}
 use borrow.Author.Needs.{needs}
 use Rattle.dbd_read.proofs.umbristal_dbd_read.Statement.{statement}
 use Rattle.dbd_read.proofs.umbristal_dbd_read.Tie as tie
-use Rattle.dbd_read.proofs.umbristal_dbd_read.Reads as reads
-use Rattle.dbd_read.proofs.umbristal_dbd_read.Lts as lts
-use Rattle.blocks.proofs.moves.put.Reads as put-reads
-use Rattle.dbd_read.proofs.lines.read_lines.Reads as read-lines-reads
-use Rattle.dbd_read.proofs.out.hand_out.Reads as hand-out-reads
-use Rattle.dbd_read.proofs.out.told_fault.Reads as told-fault-reads
 
 -- src/lib.rt:23:9
 slice-aggregate-put : tie.Need-slice-aggregate-put
@@ -26,7 +26,8 @@ slice-aggregate-read-lines c = search needs
 
 -- src/lib.rt:24:9
 read-lines-requires : tie.Need-read-lines-requires
-read-lines-requires c κs = ?
+read-lines-requires c κs = let ·put = c .before .before .before .put in
+    fresh (·put .last .0) (·put .ensures)
 
 -- src/lib.rt:26:41
 enum-told : tie.Need-enum-told
@@ -38,7 +39,9 @@ slice-aggregate-hand-out c = search needs
 
 -- src/lib.rt:26:27
 hand-out-requires : tie.Need-hand-out-requires
-hand-out-requires c κs = ?
+hand-out-requires c κs = let ·read-lines = c .before .before .before .before .before .before .read-lines in
+    let ·enum-told = c .before .before .before .enum-told in
+    ·read-lines .ensures .wide (·enum-told .given .1)
 
 -- src/lib.rt:27:24
 enum-known-reading : tie.Need-enum-known-reading
@@ -58,11 +61,26 @@ same-length-2 c = search needs
 
 -- src/lib.rt:17:1
 returns : tie.Need-returns
-returns c = ?
+returns c = let ·hand-out = c .before .before .before .before .hand-out in
+    let ·args = c .before .before .before .before .before .before .before .before .before .before .before .before
+    .before .before .before .before .before .before .before .before .before .args in
+    let ·read-lines = c .before .before .before .before .before .before .before .before .before .before .before
+    .read-lines in let ·enum-told = c .before .before .before .before .before .before .before .before .enum-told in
+    ·hand-out .ensures ∙ read-into (·args .text .now) (·args .cat .now) (·args .names .now)
+    (given (draftOf (·read-lines .last .0))) (whole-is (·read-lines .result) (·read-lines .last .0)
+    (·read-lines .last .1 .0) (dbdRead (·args .text .now)) (·read-lines .ensures) (·enum-told .given .1))
 
--- src/lib.rt:17:1
 returns-2 : tie.Need-returns-2
-returns-2 c = ?
+returns-2 c = let ·reading = c .before .before .reading in
+    let ·args = c .before .before .before .before .before .before .before .before .before .before .before .before
+    .before .before .before .args in let ·read-lines = c .before .before .before .before .before .read-lines in
+    fault-out (·reading .given .0 .0) (·reading .given .0 .1 .0) (c .told-fault .result) (·args .cat .now)
+    (·args .names .now) (dbdRead (·args .text .now))
+    (·read-lines .ensures .told (·reading .given .0 .0) (·reading .given .0 .1 .0) (·reading .given .1))
+    (fault-is (·read-lines .result) (·read-lines .last .0) (·read-lines .last .1 .0) (dbdRead (·args .text .now))
+    (·read-lines .ensures) (·reading .given .0 .0) (·reading .given .0 .1 .0) (·reading .given .1))
+    (c .told-fault .ensures) ∙ read-into (·args .text .now) (·args .cat .now) (·args .names .now)
+    (dbdRead (·args .text .now)) refl
 
 pub umbristal-dbd-read-spec : {M : Type 1} → statement M
 umbristal-dbd-read-spec =
