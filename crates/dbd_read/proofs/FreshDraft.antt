@@ -1,9 +1,8 @@
 -- The draft before the first line: a header without types and fields, and zeros. Assumes nothing.
-use mathlib.Core.Path.{_≡_, refl, ap, sym, _∙_}
+use mathlib.Core.Path.{_≡_, refl}
 use mathlib.Core.List.{[], _∷_, _++_}
-use Prim.Native.Nat.{ℕ, _<_}
 use native.Mathlib.Omega.{arith}
-use lib.ListN.{length, drop, replicate}
+use lib.ListN.{drop, replicate}
 use Rattle.rules.specs.Block.{Bytes}
 use Rattle.rules.specs.Catalogue.{types, fields}
 use Rattle.catalogue.proofs.Levels.{levels-none}

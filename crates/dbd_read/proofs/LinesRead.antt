@@ -1,19 +1,16 @@
 -- The lines of a text read one after the other: a line that was taken, a bad one, and the end. Assumes nothing.
 use mathlib.Core.Path.{_≡_, refl, ap, sym, _∙_}
-use mathlib.Core.Bool.{Bool, true, false}
 use mathlib.Core.List.{List, [], _∷_}
 use Prim.Native.Nat.{ℕ, suc, _+_, _-_, _<_, _≤_}
 use native.Mathlib.Numerals.{add-one}
 use native.Mathlib.Omega.{arith}
-use lib.Dec.{eqb}
 use lib.ListN.{length, drop, drop-of-length-le}
 use borrow.Author.Tests.{eq-eqb, ne-eqb}
 use borrow.Rule.Slice.PartMut.{midOf}
-use Rattle.terms.specs.Choice.{pick}
 use Rattle.rules.specs.Block.{Bytes, byte, part}
 use Rattle.rules.specs.Catalogue.{types, fields}
 use Rattle.statements.specs.Lines.{linesOf}
-use Rattle.statements.specs.Draft.{Draft, blank, rows, Fault as Kind, misplaced, twice, orphan, unruled, faultNumber, Taken, goes, bad, lineTaken}
+use Rattle.statements.specs.Draft.{Draft, Fault as Kind, misplaced, twice, orphan, unruled, faultNumber, Taken, goes, bad, lineTaken}
 use Rattle.statements.specs.Dbd.{Reading as Answer, refused, given, ended, readFrom, dbdRead}
 use Rattle.dbd_names.proofs.Rows.{length-rows}
 use Rattle.dbd_draft.specs.declared.Judged.{Judged}
@@ -21,7 +18,7 @@ use Rattle.dbd_draft.specs.declared.Judged.the-variants.{Good, Misplaced, Twice
 use Rattle.dbd_draft.specs.Kept.{draftOf, told, Left, Sound}
 use Rattle.dbd_read.specs.declared.Reading.{Reading}
 use Rattle.dbd_read.specs.declared.Reading.the-variants.{Whole, Fault}
-use Rattle.dbd_read.specs.Reading.{LineEnd, faultOf, Wide, Fresh, readAs, Read}
+use Rattle.dbd_read.specs.Reading.{LineEnd, faultOf, Fresh, readAs, Read}
 
 read-goes : (d e : Draft) (n : ℕ) (l : Bytes) (ls : List Bytes) → lineTaken d l ≡ goes e → readFrom d n (l ∷ ls) ≡ readFrom e (suc n) ls
 unfolding readFrom

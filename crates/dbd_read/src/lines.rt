@@ -6,8 +6,6 @@ ghost use mathlib.Core.Path.{_≡_};
 ghost use Prim.Native.Nat.{_≤_};
 ghost use lib.ListN.{length};
 ghost use Rattle.statements.specs.Dbd.{dbdRead};
-ghost use Rattle.statements.specs.Draft.{Taken, bad, faultNumber};
-ghost use Rattle.dbd_draft.specs.Kept.{draftOf, told, Sound};
 ghost use Rattle.dbd_read.specs.Reading.{LineEnd, Read, faultOf, Fresh};
 
 // Where the line that begins at `at` ends: at its LF, or at the text's end.

@@ -14,7 +14,7 @@ Inv-loop draft₀ levels₀ text at₀ line₀ draft levels at line = (at ≤ le
 abbrev μ-loop : tie.MeasureT-loop
 μ-loop draft₀ levels₀ text at₀ line₀ draft levels at line = length text - at
 
--- src/lines.rt:47:5
+-- src/lines.rt: while at < text.len() {
 loop-holds : tie.Need-loop-holds Inv-loop μ-loop
 loop-holds c = let ·args = c .before .before .args in (
   omega arith,
@@ -24,35 +24,36 @@ loop-holds c = let ·args = c .before .before .args in (
       (·args .levels .now) (c .before .before .pre),
 )
 
+-- src/lines.rt: let end = line_end(text, at);
 line-end-requires : tie.Need-line-end-requires Inv-loop μ-loop
 line-end-requires c κs = omega arith
 
--- src/lines.rt:49:59
+-- src/lines.rt: let fault = fault_number(take_line(draft, levels, &text[at..end]));
 sub-take-line : tie.Need-sub-take-line Inv-loop μ-loop
 sub-take-line c = omega (arith, c .before .before .line-end .ensures .onward)
 
--- src/lines.rt:49:59
+-- src/lines.rt: let fault = fault_number(take_line(draft, levels, &text[at..end]));
 part-take-line-start : tie.Need-part-take-line-start Inv-loop μ-loop
 part-take-line-start c = omega (arith, c .before .before .line-end .ensures .onward)
 
--- src/lines.rt:49:59
+-- src/lines.rt: let fault = fault_number(take_line(draft, levels, &text[at..end]));
 part-take-line-end : tie.Need-part-take-line-end Inv-loop μ-loop
 part-take-line-end c = omega (arith, c .before .before .line-end .ensures .inside)
 
--- src/lines.rt:49:34
+-- src/lines.rt: let fault = fault_number(take_line(draft, levels, &text[at..end]));
 take-line-requires : tie.Need-take-line-requires Inv-loop μ-loop
 take-line-requires c κs = let ·loop = c .before .before .before .before .before .loop in
     ·loop .inv .2
 
--- src/lines.rt:49:13
+-- src/lines.rt: let fault = fault_number(take_line(draft, levels, &text[at..end]));
 fault-number-requires : tie.Need-fault-number-requires Inv-loop μ-loop
 fault-number-requires c κs = search needs
 
--- src/lines.rt:51:13
+-- src/lines.rt: return Reading::Fault(fault, line);
 same-length : tie.Need-same-length Inv-loop μ-loop
 same-length c = search needs
 
--- src/lines.rt:51:13
+-- src/lines.rt: return Reading::Fault(fault, line);
 returns : tie.Need-returns Inv-loop μ-loop
 returns c =
     let ·args = c .before .before .before .before .before .before .before .before .before .before .before .before
@@ -65,14 +66,15 @@ returns c =
     (·line-end .result) (·take-line .result) (·loop-test .taken) (·line-end .ensures) (·take-line .ensures)
     (·loop .inv .3) (c .before .fault-number .result) (c .before .fault-number .ensures) (c .if1 .taken)
 
--- src/lines.rt:53:9
+-- src/lines.rt: line += 1;
 add-line : tie.Need-add-line Inv-loop μ-loop
 add-line c = omega arith
 
+-- src/lines.rt: at += 1;
 add-at : tie.Need-add-at Inv-loop μ-loop
 add-at c = omega arith
 
--- src/lines.rt:47:5
+-- src/lines.rt: while at < text.len() {
 loop-less : tie.Need-loop-less Inv-loop μ-loop
 loop-less c = omega (
   arith,
@@ -80,7 +82,7 @@ loop-less c = omega (
       .ensures .onward,
 )
 
--- src/lines.rt:47:5
+-- src/lines.rt: while at < text.len() {
 loop-again : tie.Need-loop-again Inv-loop μ-loop
 loop-again c =
     let ·args = c .before .before .before .before .before .before .before .before .before .before .before .before
@@ -119,11 +121,11 @@ loop-again c =
           (c .before .before .fault-number .result) (c .before .before .fault-number .ensures) (c .before .if1 .left),
     )
 
--- src/lines.rt:47:5
+-- src/lines.rt: while at < text.len() {
 loop-less-2 : tie.Need-loop-less-2 Inv-loop μ-loop
 loop-less-2 c = omega arith
 
--- src/lines.rt:47:5
+-- src/lines.rt: while at < text.len() {
 loop-again-2 : tie.Need-loop-again-2 Inv-loop μ-loop
 loop-again-2 c =
     let ·args = c .before .before .before .before .before .before .before .before .before .before .before .before
@@ -162,26 +164,26 @@ loop-again-2 c =
           (c .if2 .left),
     )
 
--- src/lines.rt:59:8
+-- src/lines.rt: if draft[5] == 0 {
 slice-read-if3 : tie.Need-slice-read-if3 Inv-loop μ-loop
 slice-read-if3 c = omega (arith, c .before .before .loop .inv .2 .long)
 
--- src/lines.rt:60:9
+-- src/lines.rt: return Reading::Fault(1, line);
 same-length-2 : tie.Need-same-length-2 Inv-loop μ-loop
 same-length-2 c = search needs
 
--- src/lines.rt:60:9
+-- src/lines.rt: return Reading::Fault(1, line);
 returns-2 : tie.Need-returns-2 Inv-loop μ-loop
 returns-2 c = let ·args = c .before .before .before .before .before .before .args in
     let ·loop = c .before .before .before .loop in let ·loop-test = c .before .before .loop-test in
     end-none (·args .text .now) (·loop .draft) (·loop .levels) (·loop .at) (·loop .line) (·loop-test .left)
     (·loop .inv .2) (·loop .inv .3) (c .if3 .taken)
 
--- src/lines.rt:41:1
+-- src/lines.rt: pub(crate) fn read_lines(draft: &mut [u8], levels: &mut [u8; 33], text: &[u8]) -> Reading
 same-length-3 : tie.Need-same-length-3 Inv-loop μ-loop
 same-length-3 c = search needs
 
--- src/lines.rt:41:1
+-- src/lines.rt: pub(crate) fn read_lines(draft: &mut [u8], levels: &mut [u8; 33], text: &[u8]) -> Reading
 returns-3 : tie.Need-returns-3 Inv-loop μ-loop
 returns-3 c = let ·args = c .before .before .before .before .before .before .args in
     let ·loop = c .before .before .before .loop in let ·loop-test = c .before .before .loop-test in
