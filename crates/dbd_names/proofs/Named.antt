@@ -1,14 +1,14 @@
 -- What one more name says of a name that is looked for, of a word with its spaces, and of bytes that are written over others. Assumes nothing.
 use mathlib.Core.Path.{_≡_, refl, ap, sym, _∙_}
-use mathlib.Core.Bool.{Bool, true, false}
+use mathlib.Core.Bool.{true, false}
 use mathlib.Core.List.{List, [], _∷_, _++_, append-assoc, append-nil}
 use Prim.Native.Nat.{ℕ, zero, suc, _+_, _-_, _*_, _<_, _≤_}
 use native.Mathlib.Nat.{sub-zero}
 use native.Mathlib.Numerals.{add-one}
 use native.Mathlib.Omega.{arith}
-use lib.Dec.{ltb, eqb}
-use lib.ListN.{length, take, drop, getD, replicate, drop-of-length-le}
-use lib.Seq.{sets, sets-eq, drop-drop, drop-cons, take-suc, append-snoc, drop-nil, getD-take, getD-drop}
+use lib.Dec.{ltb}
+use lib.ListN.{length, take, drop, replicate, drop-of-length-le}
+use lib.Seq.{sets, sets-eq, drop-drop, drop-cons, take-suc, append-snoc, getD-take, getD-drop}
 use borrow.Author.Tests.{lt-ltb, eq-eqb, ne-eqb}
 use borrow.Rule.Slice.PartMut.{midOf, putMid}
 use Rattle.forest.specs.Good.{on, off, is}

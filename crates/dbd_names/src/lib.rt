@@ -67,11 +67,11 @@ pub fn is_own(fields: &[u8], names: &[u8], n: u8, t: u8, name: &[u8]) -> bool
     let mut i: u8 = 0;
     while i < n {
         let entry = 4 * wide(i);
-        let at = 8 * wide(i);
-        let end = at + 8;
+        let from = 8 * wide(i);
+        let to = from + 8;
         i += 1;
         if fields[entry] == t {
-            if are_same(name, &names[at..end]) {
+            if are_same(name, &names[from..to]) {
                 return true;
             }
         }

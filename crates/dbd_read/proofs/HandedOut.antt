@@ -1,10 +1,10 @@
 -- What the reader hands out: a fault with its line, or the two blocks, written piece by piece to the front of two buffers. Assumes nothing.
 use mathlib.Core.Path.{_≡_, refl, ap, sym, _∙_}
 use mathlib.Core.Bool.{Bool, true, false, _&&_}
-use mathlib.Core.List.{List, [], _∷_, _++_, append-assoc}
-use Prim.Native.Nat.{ℕ, suc, _+_, _-_, _*_, _<_, _≤_}
+use mathlib.Core.List.{[], _++_, append-assoc}
+use Prim.Native.Nat.{ℕ, _+_, _-_, _*_, _<_, _≤_}
 use native.Mathlib.Omega.{arith}
-use lib.Dec.{ltb, leb, eqb}
+use lib.Dec.{leb, eqb}
 use lib.ListN.{length, take, drop, set, length-append, length-drop, length-set}
 use lib.Seq.{sets, sets-eq, take-at, drop-at, drop-drop, set-append-left, length-take-le}
 use borrow.Rule.Slice.PartMut.{midOf}
@@ -12,9 +12,9 @@ use borrow.Author.Tests.{lt-ltb, le-ltb, le-leb, lt-leb, ne-eqb}
 use Rattle.terms.specs.Choice.{pick}
 use Rattle.rules.specs.Block.{Bytes, byte, part}
 use Rattle.rules.specs.Catalogue.{types, fields}
-use Rattle.statements.specs.Draft.{header, joinedRow, rows, catalogueOf, namesOf}
-use Rattle.statements.specs.Dbd.{Reading, given}
-use Rattle.statements.specs.Lent.{ReadInto, onto, high, handedOut, readBack}
+use Rattle.statements.specs.Draft.{header, rows, catalogueOf, namesOf}
+use Rattle.statements.specs.Dbd.{Reading, given, dbdRead}
+use Rattle.statements.specs.Lent.{onto, high, handedOut, readInto, readBack}
 use Rattle.dbd_names.proofs.Rows.{joined-rows, length-rows, part-add}
 use Rattle.dbd_draft.specs.Kept.{draftOf}
 use Rattle.dbd_read.specs.Reading.{Wide, Counted}
@@ -114,7 +114,11 @@ module _ (b : Bytes) (w : Wide b) where
   names-long =
       ap length names-is ∙ length-append (header 0x4E (types b) (fields b) ++ part b 520 (8 + 8 * types b)) (part b 784 (8 * fields b))
       ∙ ap (λ (k : ℕ). k + length (part b 784 (8 * fields b))) (length-append (header 0x4E (types b) (fields b)) (part b 520 (8 + 8 * types b)))
-      ∙ rw (header-long 0x4E (types b) (fields b), part-long 520 (8 + 8 * types b) (omega (arith, w .few)), part-long 784 (8 * fields b) (omega (arith, w .fewFields)))
+      ∙ rw (
+        header-long 0x4E (types b) (fields b),
+        part-long 520 (8 + 8 * types b) (omega (arith, w .few)),
+        part-long 784 (8 * fields b) (omega (arith, w .fewFields)),
+      )
 
   -- the two writes of the one, and the four of the other
   module _ (cat c d : Bytes) (room : 8 + 8 * types b + 4 * fields b ≤ length cat) where
@@ -156,7 +160,8 @@ module _ (b : Bytes) (w : Wide b) where
     pub no-room : length cat < 8 + 8 * types b + 4 * fields b → readBack 28 cat names ≡ handedOut (given (draftOf b)) cat names
     unfolding given
     no-room h =
-        let e : leb (length (catalogueOf (draftOf b))) (length cat) ≡ false = lt-leb (length (catalogueOf (draftOf b))) (length cat) (omega (arith, catalogue-long)) in
+        let e : leb (length (catalogueOf (draftOf b))) (length cat) ≡ false =
+        lt-leb (length (catalogueOf (draftOf b))) (length cat) (omega (arith, catalogue-long)) in
         out-short (given (draftOf b)) cat names refl (ap (λ (t : Bool). t && leb (length (namesOf (draftOf b))) (length names)) e)
 
     module _ (room : 8 + 8 * types b + 4 * fields b ≤ length cat) where
@@ -180,9 +185,10 @@ module _ (b : Bytes) (w : Wide b) where
           → readBack (256 * types b + 65536 * fields b) c d ≡ handedOut (given (draftOf b)) cat names
       unfolding given draftOf
       both-out h c d e f =
+          let n : ℕ = 256 * length (rows 8 b 8 (types b)) + 65536 * length (rows 4 b 264 (fields b)) in
           ap (λ (m : ℕ). readBack m c d) (sym counted)
-          ∙ ap (λ (t : Bytes). readBack (256 * length (rows 8 b 8 (types b)) + 65536 * length (rows 4 b 264 (fields b))) t d) e
-          ∙ ap (λ (t : Bytes). readBack (256 * length (rows 8 b 8 (types b)) + 65536 * length (rows 4 b 264 (fields b))) (onto (catalogueOf (draftOf b)) cat) t) f
+          ∙ ap (λ (t : Bytes). readBack n t d) e
+          ∙ ap (λ (t : Bytes). readBack n (onto (catalogueOf (draftOf b)) cat) t) f
           ∙ out-whole (given (draftOf b)) cat names refl (tests true (le-leb (length (namesOf (draftOf b))) (length names) (omega (arith, names-long))))
 
 pub counted-by : (b : Bytes) (top last : ℕ) → Wide b → top ≡ byte b 5 → last ≡ byte b 6 → Counted b top last
@@ -240,3 +246,8 @@ module _ (b : Bytes) (top last : ℕ) (k : Counted b top last) where
           → readBack (256 * top + 65536 * last) c d ≡ handedOut (given (draftOf b)) cat names
       out-both h c d e f =
           rw (k .types, k .fields) (both-out b (k .fits) cat names (omega (arith, k .types, k .fields)) (omega (arith, k .types, k .fields)) c d e f)
+
+-- what is handed out of a text's reading is the answer
+pub read-into : (text cat names : Bytes) (a : Reading) → a ≡ dbdRead text → handedOut a cat names ≡ readInto text cat names
+unfolding readInto
+read-into text cat names a e = ap (λ (r : Reading). handedOut r cat names) e

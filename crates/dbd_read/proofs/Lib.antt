@@ -1,2 +1,4 @@
 pub mod LineEnds
 pub mod HandedOut
+pub mod LinesRead
+pub mod FreshDraft

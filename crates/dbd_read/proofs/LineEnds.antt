@@ -1,17 +1,17 @@
 -- Where a line ends: no byte so far is an LF, the next one is none either, it is one, or the text ends. Assumes nothing.
 use mathlib.Core.Path.{_≡_, refl, ap, sym, _∙_}
-use mathlib.Core.Bool.{Bool, true, false}
+use mathlib.Core.Bool.{true, false}
 use mathlib.Core.List.{List, [], _∷_, _++_, append-nil}
 use Prim.Native.Nat.{ℕ, suc, _+_, _-_, _<_, _≤_}
 use native.Mathlib.Omega.{arith}
 use lib.Dec.{eqb}
-use lib.ListN.{length, take, drop, getD, length-drop, take-append-drop, drop-of-length-le}
-use lib.Seq.{drop-cons, drop-drop, take-suc, getD-drop, take-all, length-take-le}
+use lib.ListN.{length, drop, length-drop, take-append-drop, drop-of-length-le}
+use lib.Seq.{drop-cons, drop-drop, take-suc, getD-drop, length-take-le}
 use borrow.Author.Tests.{ne-eqb, not-true}
 use Rattle.rules.specs.Block.{Bytes, byte, part, every}
 use Rattle.rules.specs.Listing.{lineEnd}
 use Rattle.statements.specs.Lines.{begins, linesOf}
-use Rattle.statements.proofs.Words.{goesOn, clash, every-in, every-head, every-tail, every-append, lines-line}
+use Rattle.statements.proofs.Words.{goesOn, every-in, every-head, every-tail, every-append, lines-line}
 use Rattle.dbd_read.specs.Reading.{LineEnd}
 
 goes : (b : ℕ) → (b ≡ lineEnd → ⊥) → goesOn b ≡ true
@@ -55,7 +55,8 @@ module _ (text : Bytes) (at i : ℕ) where
     line-and : drop at text ≡ part text at (i - at) ++ drop i text
     line-and =
         let y : at + (i - at) ≡ i = omega arith in
-        sym (take-append-drop (i - at) (drop at text)) ∙ ap (λ (t : Bytes). part text at (i - at) ++ t) (drop-drop (i - at) at text ∙ ap (λ (k : ℕ). drop k text) y)
+        sym (take-append-drop (i - at) (drop at text))
+        ∙ ap (λ (t : Bytes). part text at (i - at) ++ t) (drop-drop (i - at) at text ∙ ap (λ (k : ℕ). drop k text) y)
 
     module _ (so : every goesOn (part text at (i - at)) ≡ true) where
       pub line-next : i < length text → (byte text i ≡ 0x0A → ⊥) → every goesOn (part text at (i + 1 - at)) ≡ true

@@ -27,17 +27,17 @@ wide-requires c κs = search needs
 mul-entry : tie.Need-mul-entry Inv-loop μ-loop
 mul-entry c = omega arith
 
--- src/lib.rt: let at = 8 * wide(i);
+-- src/lib.rt: let from = 8 * wide(i);
 wide-requires-2 : tie.Need-wide-requires-2 Inv-loop μ-loop
 wide-requires-2 c κs = search needs
 
--- src/lib.rt: let at = 8 * wide(i);
-mul-at : tie.Need-mul-at Inv-loop μ-loop
-mul-at c = omega arith
+-- src/lib.rt: let from = 8 * wide(i);
+mul-from : tie.Need-mul-from Inv-loop μ-loop
+mul-from c = omega arith
 
--- src/lib.rt: let end = at + 8;
-add-end : tie.Need-add-end Inv-loop μ-loop
-add-end c = omega arith
+-- src/lib.rt: let to = from + 8;
+add-to : tie.Need-add-to Inv-loop μ-loop
+add-to c = omega arith
 
 -- src/lib.rt: i += 1;
 add-i : tie.Need-add-i Inv-loop μ-loop
@@ -47,19 +47,19 @@ add-i c = omega arith
 shared-slice-read-if1 : tie.Need-shared-slice-read-if1 Inv-loop μ-loop
 shared-slice-read-if1 c = omega arith
 
--- src/lib.rt: if are_same(name, &names[at..end]) {
+-- src/lib.rt: if are_same(name, &names[from..to]) {
 sub-are-same : tie.Need-sub-are-same Inv-loop μ-loop
 sub-are-same c = omega arith
 
--- src/lib.rt: if are_same(name, &names[at..end]) {
+-- src/lib.rt: if are_same(name, &names[from..to]) {
 part-are-same-start : tie.Need-part-are-same-start Inv-loop μ-loop
 part-are-same-start c = omega arith
 
--- src/lib.rt: if are_same(name, &names[at..end]) {
+-- src/lib.rt: if are_same(name, &names[from..to]) {
 part-are-same-end : tie.Need-part-are-same-end Inv-loop μ-loop
 part-are-same-end c = omega arith
 
--- src/lib.rt: if are_same(name, &names[at..end]) {
+-- src/lib.rt: if are_same(name, &names[from..to]) {
 are-same-requires : tie.Need-are-same-requires Inv-loop μ-loop
 are-same-requires c κs = search needs
 
@@ -128,8 +128,8 @@ is-own-spec =
     wide-requires
     mul-entry
     wide-requires-2
-    mul-at
-    add-end
+    mul-from
+    add-to
     add-i
     shared-slice-read-if1
     sub-are-same

@@ -3,39 +3,39 @@ use borrow.Author.Needs.{needs}
 use Rattle.dbd_read.proofs.out.hand_out.Statement.{statement}
 use Rattle.dbd_read.proofs.out.hand_out.Tie as tie
 
--- src/out.rt:55:20
+-- src/out.rt: let top = wide(draft[5]);
 shared-slice-read-wide : tie.Need-shared-slice-read-wide
 shared-slice-read-wide c = search needs
 
--- src/out.rt:55:9
+-- src/out.rt: let top = wide(draft[5]);
 wide-requires : tie.Need-wide-requires
 wide-requires c κs = search needs
 
--- src/out.rt:56:21
+-- src/out.rt: let last = wide(draft[6]);
 shared-slice-read-wide-2 : tie.Need-shared-slice-read-wide-2
 shared-slice-read-wide-2 c = search needs
 
--- src/out.rt:56:9
+-- src/out.rt: let last = wide(draft[6]);
 wide-requires-2 : tie.Need-wide-requires-2
 wide-requires-2 c κs = search needs
 
--- src/out.rt:57:24
+-- src/out.rt: if cat.len() < 8 + 8 * top + 4 * last {
 mul-if1 : tie.Need-mul-if1
 mul-if1 c = search needs
 
--- src/out.rt:57:20
+-- src/out.rt: if cat.len() < 8 + 8 * top + 4 * last {
 add-if1 : tie.Need-add-if1
 add-if1 c = search needs
 
--- src/out.rt:57:34
+-- src/out.rt: if cat.len() < 8 + 8 * top + 4 * last {
 mul-if1-2 : tie.Need-mul-if1-2
 mul-if1-2 c = search needs
 
--- src/out.rt:57:20
+-- src/out.rt: if cat.len() < 8 + 8 * top + 4 * last {
 add-if1-2 : tie.Need-add-if1-2
 add-if1-2 c = search needs
 
--- src/out.rt:58:9
+-- src/out.rt: return 28;
 returns : tie.Need-returns
 returns c = let ·args = c .before .before .before .before .before .before .before .before .args in
     let ·wide = c .before .before .before .wide in
@@ -44,23 +44,23 @@ returns c = let ·args = c .before .before .before .before .before .before .befo
     (counted-by (·args .draft .now) (·wide .result) (c .before .wide2 .result) ·pre (·wide .ensures .0)
     (c .before .wide2 .ensures .0)) (·args .cat .now) (·args .names .now) (c .if1 .taken)
 
--- src/out.rt:60:27
+-- src/out.rt: if names.len() < 16 + 8 * top + 8 * last {
 mul-if2 : tie.Need-mul-if2
 mul-if2 c = search needs
 
--- src/out.rt:60:22
+-- src/out.rt: if names.len() < 16 + 8 * top + 8 * last {
 add-if2 : tie.Need-add-if2
 add-if2 c = search needs
 
--- src/out.rt:60:37
+-- src/out.rt: if names.len() < 16 + 8 * top + 8 * last {
 mul-if2-2 : tie.Need-mul-if2-2
 mul-if2-2 c = search needs
 
--- src/out.rt:60:22
+-- src/out.rt: if names.len() < 16 + 8 * top + 8 * last {
 add-if2-2 : tie.Need-add-if2-2
 add-if2-2 c = search needs
 
--- src/out.rt:61:9
+-- src/out.rt: return 28;
 returns-2 : tie.Need-returns-2
 returns-2 c = let ·args = c .before .before .before .before .before .before .before .before .before .args in
     let ·wide = c .before .before .before .before .wide in let ·wide2 = c .before .before .wide2 in
@@ -69,7 +69,7 @@ returns-2 c = let ·args = c .before .before .before .before .before .before .be
     (counted-by (·args .draft .now) (·wide .result) (·wide2 .result) ·pre (·wide .ensures .0) (·wide2 .ensures .0))
     (·args .cat .now) (·args .names .now) (c .before .if1 .left) (c .if2 .taken)
 
--- src/out.rt:63:5
+-- src/out.rt: put_catalogue(draft, top, last, cat);
 put-catalogue-requires : tie.Need-put-catalogue-requires
 put-catalogue-requires c κs =
     let ·args = c .before .before .before .before .before .before .before .before .before .before .args in
@@ -80,7 +80,7 @@ put-catalogue-requires c κs =
       ·if1 .left,
     )
 
--- src/out.rt:64:5
+-- src/out.rt: put_names(draft, top, last, names);
 put-names-requires : tie.Need-put-names-requires
 put-names-requires c κs =
     let ·args = c .before .before .before .before .before .before .before .before .before .before .before .before
@@ -93,27 +93,27 @@ put-names-requires c κs =
       ·if2 .left,
     )
 
--- src/out.rt:65:5
+-- src/out.rt: 256 * top as u64 + 65536 * last as u64
 mul-result : tie.Need-mul-result
 mul-result c = search needs
 
--- src/out.rt:65:24
+-- src/out.rt: 256 * top as u64 + 65536 * last as u64
 mul-result-2 : tie.Need-mul-result-2
 mul-result-2 c = search needs
 
--- src/out.rt:65:5
+-- src/out.rt: 256 * top as u64 + 65536 * last as u64
 add-result : tie.Need-add-result
 add-result c = search needs
 
--- src/out.rt:51:1
+-- src/out.rt: pub(crate) fn hand_out(draft: &[u8], cat: &mut [u8], names: &mut [u8]) -> u64
 same-length : tie.Need-same-length
 same-length c = search needs
 
--- src/out.rt:51:1
+-- src/out.rt: pub(crate) fn hand_out(draft: &[u8], cat: &mut [u8], names: &mut [u8]) -> u64
 same-length-2 : tie.Need-same-length-2
 same-length-2 c = search needs
 
--- src/out.rt:51:1
+-- src/out.rt: pub(crate) fn hand_out(draft: &[u8], cat: &mut [u8], names: &mut [u8]) -> u64
 returns-3 : tie.Need-returns-3
 returns-3 c =
     let ·args = c .before .before .before .before .before .before .before .before .before .before .before .before
@@ -128,8 +128,8 @@ returns-3 c =
     let ·put-names = c .before .before .put-names in
     out-both (·args .draft .now) (·wide .result) (·wide2 .result)
     (counted-by (·args .draft .now) (·wide .result) (·wide2 .result) ·pre (·wide .ensures .0) (·wide2 .ensures .0))
-    (·args .cat .now) (·args .names .now) (·if1 .left) (·if2 .left) (·put-catalogue .last .3) (·put-names .last .3)
-    (·put-catalogue .ensures) (·put-names .ensures)
+    (·args .cat .now) (·args .names .now) (·if1 .left) (·if2 .left) (·put-catalogue .last .1 .1 .1 .0)
+    (·put-names .last .1 .1 .1 .0) (·put-catalogue .ensures) (·put-names .ensures)
 
 pub hand-out-spec : {M : Type 1} → statement M
 hand-out-spec =

@@ -9,37 +9,37 @@ use borrow.Author.Needs.{needs}
 use Rattle.dbd_read.proofs.out.put_names.Statement.{statement}
 use Rattle.dbd_read.proofs.out.put_names.Tie as tie
 
--- src/out.rt:41:26
+-- src/out.rt: let segments = 528 + 8 * top;
 mul-segments : tie.Need-mul-segments
 mul-segments c = search needs
 
--- src/out.rt:41:20
+-- src/out.rt: let segments = 528 + 8 * top;
 add-segments : tie.Need-add-segments
 add-segments c = search needs
 
--- src/out.rt:42:21
+-- src/out.rt: let own = 784 + 8 * last;
 mul-own : tie.Need-mul-own
 mul-own c = search needs
 
--- src/out.rt:42:15
+-- src/out.rt: let own = 784 + 8 * last;
 add-own : tie.Need-add-own
 add-own c = search needs
 
--- src/out.rt:43:23
+-- src/out.rt: let behind = 16 + 8 * top;
 mul-behind : tie.Need-mul-behind
 mul-behind c = search needs
 
--- src/out.rt:43:18
+-- src/out.rt: let behind = 16 + 8 * top;
 add-behind : tie.Need-add-behind
 add-behind c = search needs
 
--- src/out.rt:44:21
+-- src/out.rt: write(names, 0, &draft[..8]);
 slice-aggregate-write : tie.Need-slice-aggregate-write
 slice-aggregate-write c = let ·args = c .before .before .before .before .args in
     let ·pre = c .before .before .before .before .pre in
     sym (header-part (·args .draft .now) (·args .top) (·args .last) (·pre .0))
 
--- src/out.rt:44:5
+-- src/out.rt: write(names, 0, &draft[..8]);
 write-requires : tie.Need-write-requires
 write-requires c κs = let ·args = c .before .before .before .before .args in
     omega (
@@ -48,23 +48,23 @@ write-requires c κs = let ·args = c .before .before .before .before .args in
           (c .before .before .before .before .pre .0),
     )
 
--- src/out.rt:45:5
+-- src/out.rt: names[2] = b'N';
 slice-write-names : tie.Need-slice-write-names
 slice-write-names c = search needs
 
--- src/out.rt:46:21
+-- src/out.rt: write(names, 8, &draft[520..segments]);
 sub-write : tie.Need-sub-write
 sub-write c = search needs
 
--- src/out.rt:46:21
+-- src/out.rt: write(names, 8, &draft[520..segments]);
 part-write-start : tie.Need-part-write-start
 part-write-start c = search needs
 
--- src/out.rt:46:21
+-- src/out.rt: write(names, 8, &draft[520..segments]);
 part-write-end : tie.Need-part-write-end
 part-write-end c = search needs
 
--- src/out.rt:46:5
+-- src/out.rt: write(names, 8, &draft[520..segments]);
 write-requires-2 : tie.Need-write-requires-2
 write-requires-2 c κs =
     let ·args = c .before .before .before .before .before .before .before .before .before .args in
@@ -79,19 +79,19 @@ write-requires-2 c κs =
           (take 8 (·args .draft .now)),
     )
 
--- src/out.rt:47:26
+-- src/out.rt: write(names, behind, &draft[784..own]);
 sub-write-2 : tie.Need-sub-write-2
 sub-write-2 c = search needs
 
--- src/out.rt:47:26
+-- src/out.rt: write(names, behind, &draft[784..own]);
 part-write-start-2 : tie.Need-part-write-start-2
 part-write-start-2 c = search needs
 
--- src/out.rt:47:26
+-- src/out.rt: write(names, behind, &draft[784..own]);
 part-write-end-2 : tie.Need-part-write-end-2
 part-write-end-2 c = search needs
 
--- src/out.rt:47:5
+-- src/out.rt: write(names, behind, &draft[784..own]);
 write-requires-3 : tie.Need-write-requires-3
 write-requires-3 c κs =
     let ·args = c .before .before .before .before .before .before .before .before .before .before .before .before
@@ -111,7 +111,7 @@ write-requires-3 c κs =
           (·args .names .now) 0 (take 8 (·args .draft .now)),
     )
 
--- src/out.rt:37:1
+-- src/out.rt: fn put_names(draft: &[u8], top: usize, last: usize, names: &mut [u8])
 same-length : tie.Need-same-length
 same-length c = let ·write3 = c .before .before .write3 in
     let ·write2 = c .before .before .before .before .before .before .before .write2 in
@@ -125,7 +125,7 @@ same-length c = let ·write3 = c .before .before .write3 in
     (midOf 520 (528 + 8 * ·args .top - 520) (·args .draft .now))) ∙ length-set (·write .last .0) 2 0x4E ∙
     (ap length (·write .ensures) ∙ length-sets (·args .names .now) 0 (take 8 (·args .draft .now)))
 
--- src/out.rt:37:1
+-- src/out.rt: fn put_names(draft: &[u8], top: usize, last: usize, names: &mut [u8])
 returns : tie.Need-returns
 returns c =
     let ·args = c .before .before .before .before .before .before .before .before .before .before .before .before
