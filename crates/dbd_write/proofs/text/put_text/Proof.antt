@@ -1,0 +1,51 @@
+use borrow.Author.Needs.{needs}
+use Rattle.dbd_write.proofs.text.put_text.Statement.{statement}
+use Rattle.dbd_write.proofs.text.put_text.Tie as tie
+use Rattle.dbd_write.proofs.text.put_text.Reads as reads
+use Rattle.dbd_write.proofs.text.put_text.Lts as lts
+use Rattle.blocks.proofs.moves.put.Reads as put-reads
+
+-- src/text.rt:16:16
+add-next : tie.Need-add-next
+add-next c = search needs
+
+-- src/text.rt:18:13
+sub-put : tie.Need-sub-put
+sub-put c = search needs
+
+-- src/text.rt:18:13
+part-put-start : tie.Need-part-put-start
+part-put-start c = search needs
+
+-- src/text.rt:18:13
+part-put-end : tie.Need-part-put-end
+part-put-end c = search needs
+
+-- src/text.rt:18:9
+put-requires : tie.Need-put-requires
+put-requires c κs = search needs
+
+-- src/text.rt:12:1
+same-length : tie.Need-same-length
+same-length c = search needs
+
+-- src/text.rt:12:1
+returns : tie.Need-returns
+returns c = ?
+
+-- src/text.rt:12:1
+returns-2 : tie.Need-returns-2
+returns-2 c = ?
+
+pub put-text-spec : {M : Type 1} → statement M
+put-text-spec =
+    tie.close
+    (tie.spec
+    add-next
+    sub-put
+    part-put-start
+    part-put-end
+    put-requires
+    same-length
+    returns
+    returns-2)
