@@ -7,19 +7,20 @@ use native.Mathlib.Omega.{arith}
 use lib.Dec.{eqb}
 use lib.ListN.{length, take, drop}
 use borrow.Author.Tests.{ne-eqb}
+use borrow.Rule.Slice.PartMut.{mid-len}
+use Rattle.terms.specs.declared.TypeCode.{TypeCode}
+use Rattle.terms.specs.declared.FieldNumber.{FieldNumber}
 use Rattle.terms.specs.Choice.{pick}
-use Rattle.terms.specs.Names.{code}
-use Rattle.forest.specs.Good.{on, off, is}
-use Rattle.rules.specs.Block.{Bytes, part}
-use Rattle.rules.specs.Catalogue.{parentOf}
+use Rattle.rules.specs.Block.{Bytes}
+use Rattle.rules.specs.Catalogue.{types, fields, parentOf, lengthOf, fieldLength, fieldStart}
 use Rattle.rules.specs.Listing.{digits, decimal, lineEnd}
 use Rattle.statements.specs.Text.{bytesOf}
 use Rattle.statements.specs.Words.{Token, word, sign, trimmed, gap, spell}
 use Rattle.statements.specs.Statement.{dbd, segm, field, noParent, wordDbd, wordSegm, wordField, wordName, wordParent, wordBytes, wordStart, wordType, wordSeq}
 use Rattle.statements.specs.Statement.{comma, opens, shuts, nameTokens, tokensOf}
-use Rattle.statements.specs.Dbd.{spelled, nameAt, segmentName, parentWord}
+use Rattle.statements.specs.Dbd.{spelled, nameAt, segmentName, fieldName, parentWord, segmStatement}
 use Rattle.statements.proofs.Forms.{digits-few, digits-many}
-use Rattle.dbd_write.specs.Wrote.{namePart}
+use Rattle.dbd_write.specs.Wrote.{Fit, namePart}
 
 -- a number of one, two and three digits
 pub one-digit : (n : ℕ) → n < 10 → ((0x30 + n) ∷ []) ≡ decimal n
@@ -97,13 +98,74 @@ field-line n kind l s =
     let h = name-spelled n kind comma ts in
     rw h (simp append-assoc)
 
--- the branches of `put_parent`
-module _ (cat names : Bytes) (k : ℕ) where
-  pub parent-none : parentOf cat (code k) .0 ≡ 0 → bytesOf "0" ≡ parentWord cat names k
-  unfolding parentWord noParent
-  parent-none e = rw (parentWord, e)
+-- a name that is lent as the 8 bytes from a place on: w, or v and w together, is its number
+pub name-lent : (names : Bytes) (i w : ℕ) → w ≡ i → take (8 + 8 * w + 8 - (8 + 8 * w)) (drop (8 + 8 * w) names) ≡ nameAt names i
+unfolding nameAt
+name-lent names i w e =
+    let z : 8 + 8 * w + 8 - (8 + 8 * w) ≡ 8 = omega arith in
+    ap (λ (k : ℕ). take k (drop (8 + 8 * w) names)) z ∙ ap (λ (k : ℕ). take 8 (drop (8 + 8 * k) names)) e
 
-  parent-at : (p : ℕ) → parentOf cat (code k) .0 ≡ p → (p ≡ 0 → ⊥) → trimmed (part names (8 + 8 * p) 8) ≡ parentWord cat names k
-  unfolding parentWord segmentName nameAt
+pub field-lent : (cat names : Bytes) (f v w : ℕ) → v ≡ types cat → w ≡ f
+    → take (8 + 8 * v + 8 * w + 8 - (8 + 8 * v + 8 * w)) (drop (8 + 8 * v + 8 * w) names) ≡ fieldName cat names f
+unfolding nameAt fieldName
+field-lent cat names f v w d e =
+    let z : 8 + 8 * v + 8 * w + 8 - (8 + 8 * v + 8 * w) ≡ 8 = omega arith in
+    let y : 8 + 8 * v + 8 * w ≡ 8 + 8 * (types cat + f) = omega arith in
+    ap (λ (k : ℕ). take k (drop (8 + 8 * v + 8 * w) names)) z ∙ ap (λ (k : ℕ). take 8 (drop k names)) y
+
+-- there are 8 of them
+pub lent-eight : (names : Bytes) (a : ℕ) → a + 8 ≤ length names → length (take (a + 8 - a) (drop a names)) ≡ 8
+lent-eight names a h = let z : a + 8 - a ≡ 8 = omega arith in mid-len a (a + 8) names h ∙ z
+
+module _ (cat names : Bytes) (fit : Fit cat names) where
+  pub name-within : (i w : ℕ) → w ≡ i → i ≤ types cat → 8 + 8 * w + 8 ≤ length names
+  name-within i w e h = omega (arith, fit .long)
+
+  pub field-within : (f v w : ℕ) → v ≡ types cat → w ≡ f → f ≤ fields cat → 8 + 8 * v + 8 * w + 8 ≤ length names
+  field-within f v w d e h = omega (arith, fit .long)
+
+-- the branches of `put_parent`
+module _ (cat names : Bytes) (t above : TypeCode) (told : above ≡ parentOf cat t) where
+  by-parent : (p : ℕ) → parentOf cat t .0 ≡ p → parentWord cat names (t .0) ≡ elim p [ zero ↦ noParent | suc q ↦ trimmed (segmentName names (suc q)) ]
+  unfolding parentWord
+  by-parent p e = rw (parentWord, e)
+
+  pub parent-none : above .0 ≡ 0 → bytesOf "0" ≡ parentWord cat names (t .0)
+  unfolding noParent
+  parent-none e = sym (by-parent 0 (ap (λ (u : TypeCode). u .0) (sym told) ∙ e))
+
+  parent-at : (p : ℕ) → above .0 ≡ p → (p ≡ 0 → ⊥) → trimmed (nameAt names p) ≡ parentWord cat names (t .0)
+  unfolding segmentName
   parent-at zero e n = absurd (n refl)
-  parent-at (suc p) e n = rw (parentWord, e)
+  parent-at (suc p) e n = sym (by-parent (suc p) (ap (λ (u : TypeCode). u .0) (sym told) ∙ e))
+
+  pub parent-named : (w : ℕ) → w ≡ above .0 → (above .0 ≡ 0 → ⊥)
+      → trimmed (take (8 + 8 * w + 8 - (8 + 8 * w)) (drop (8 + 8 * w) names)) ≡ parentWord cat names (t .0)
+  parent-named w e n = ap trimmed (name-lent names (above .0) w e) ∙ parent-at (above .0) refl n
+
+pub parent-most : (cat : Bytes) (t above : TypeCode) (most : ℕ) → above ≡ parentOf cat t → parentOf cat t .0 ≤ most → above .0 ≤ most
+parent-most cat t above most e h = rw e h
+
+-- the lines of a type and of a field, from what the code has read
+pub segm-written : (cat names : Bytes) (t : TypeCode) (w l : ℕ) → w ≡ t .0 → l ≡ lengthOf cat t
+    → bytesOf "SEGM NAME=" ++ (trimmed (take (8 + 8 * w + 8 - (8 + 8 * w)) (drop (8 + 8 * w) names))
+    ++ (bytesOf ",PARENT=" ++ (parentWord cat names (t .0) ++ (bytesOf ",BYTES=" ++ (decimal l ++ (lineEnd ∷ []))))))
+    ≡ spelled (segmStatement cat names (t .0)) ++ (lineEnd ∷ [])
+unfolding segmStatement segmentName
+segm-written cat names t w l d e =
+    let p : Bytes = parentWord cat names (t .0) in
+    ap (λ (n : Bytes). bytesOf "SEGM NAME=" ++ (trimmed n ++ (bytesOf ",PARENT=" ++ (p ++ (bytesOf ",BYTES=" ++ (decimal l ++ (lineEnd ∷ []))))))) (name-lent names (t .0) w d)
+    ∙ segm-line (trimmed (nameAt names (t .0))) p l
+    ∙ ap (λ (k : ℕ). spelled (segm (trimmed (nameAt names (t .0))) p k) ++ (lineEnd ∷ [])) e
+
+pub field-written : (cat names : Bytes) (f : FieldNumber) (kind v w l s : ℕ) → v ≡ types cat → w ≡ f .0 → l ≡ fieldLength cat f → s ≡ fieldStart cat f
+    → bytesOf "FIELD NAME=" ++ (namePart (trimmed (take (8 + 8 * v + 8 * w + 8 - (8 + 8 * v + 8 * w)) (drop (8 + 8 * v + 8 * w) names))) kind
+    ++ (bytesOf ",BYTES=" ++ (decimal l ++ (bytesOf ",START=" ++ (decimal s ++ bytesOf ",TYPE=C\n")))))
+    ≡ spelled (field (trimmed (fieldName cat names (f .0))) kind (fieldLength cat f) (fieldStart cat f)) ++ (lineEnd ∷ [])
+field-written cat names f kind v w l s a b d e =
+    let n : Bytes = trimmed (fieldName cat names (f .0)) in
+    ap (λ (x : Bytes). bytesOf "FIELD NAME=" ++ (namePart (trimmed x) kind ++ (bytesOf ",BYTES=" ++ (decimal l ++ (bytesOf ",START=" ++ (decimal s ++ bytesOf ",TYPE=C\n"))))))
+    (field-lent cat names (f .0) v w a b)
+    ∙ field-line n kind l s
+    ∙ ap (λ (k : ℕ). spelled (field n kind k s) ++ (lineEnd ∷ [])) d
+    ∙ ap (λ (k : ℕ). spelled (field n kind (fieldLength cat f) k) ++ (lineEnd ∷ [])) e
