@@ -1,49 +1,80 @@
+use mathlib.Core.Path.{_≡_, ap, sym, _∙_}
+use Rattle.dbd_write.proofs.Joined.{wrote-then, wrote-as}
+use Rattle.dbd_write.proofs.Spelling.{dbd-line}
+use borrow.Rule.Slice.PartMut.{mid-len}
+use Rattle.statements.specs.Text.{bytesOf}
+use Rattle.statements.specs.Dbd.{nameAt}
+use borrow.Author.Needs.{needs}
+use native.Mathlib.Omega.{arith}
 use Rattle.dbd_write.proofs.lines.put_dbd.Statement.{statement}
 use Rattle.dbd_write.proofs.lines.put_dbd.Tie as tie
-use Rattle.dbd_write.proofs.lines.put_dbd.Reads as reads
-use Rattle.dbd_write.proofs.lines.put_dbd.Lts as lts
-use Rattle.dbd_write.proofs.text.put_name.Reads as put-name-reads
-use Rattle.dbd_write.proofs.text.put_text.Reads as put-text-reads
 
 -- src/lines.rt:29:30
 slice-aggregate-put-text : tie.Need-slice-aggregate-put-text
-slice-aggregate-put-text c = ?
+slice-aggregate-put-text c = search needs
 
 -- src/lines.rt:29:9
 put-text-requires : tie.Need-put-text-requires
-put-text-requires c κs = ?
+put-text-requires c κs = search needs
 
 -- src/lines.rt:30:30
 sub-put-name : tie.Need-sub-put-name
-sub-put-name c = ?
+sub-put-name c = search needs
 
 -- src/lines.rt:30:30
 part-put-name-start : tie.Need-part-put-name-start
-part-put-name-start c = ?
+part-put-name-start c = search needs
 
 -- src/lines.rt:30:30
 part-put-name-end : tie.Need-part-put-name-end
-part-put-name-end c = ?
+part-put-name-end c = search needs
 
 -- src/lines.rt:30:9
 put-name-requires : tie.Need-put-name-requires
-put-name-requires c κs = ?
+put-name-requires c κs =
+    let ·args = c .before .before .before .before .before .before .before .before .before .args in (
+      omega (arith, c .before .before .before .before .put-text .ensures .place),
+      mid-len 8 16 (·args .names .now)
+          (c .before .before .before .before .before .before .before .before .before .pre),
+    )
 
 -- src/lines.rt:31:22
 slice-aggregate-put-text-2 : tie.Need-slice-aggregate-put-text-2
-slice-aggregate-put-text-2 c = ?
+slice-aggregate-put-text-2 c = search needs
 
 -- src/lines.rt:31:5
 put-text-requires-2 : tie.Need-put-text-requires-2
-put-text-requires-2 c κs = ?
+put-text-requires-2 c κs = omega (
+  arith,
+  c .before .before .before .before .before .before .before .before .before
+      .put-text .ensures .place,
+  c .before .before .before .before .put-name .ensures .1,
+)
 
 -- src/lines.rt:25:1
 same-length : tie.Need-same-length
-same-length c = ?
+same-length c = let ·put-text2 = c .before .before .put-text2 in
+    let ·put-name = c .before .before .before .before .before .before .before .put-name in
+    let ·put-text = c .before .before .before .before .before .before .before .before .before .before .before .before
+    .put-text in
+    ·put-text2 .ensures .long ∙ ·put-name .ensures .0 .long ∙ ·put-text .ensures .long
 
 -- src/lines.rt:25:1
 returns : tie.Need-returns
-returns c = ?
+unfolding bytesOf nameAt
+returns c = (
+  wrote-as (wrote-then (c .before .before .before .before .before .before .before .before .before .before
+      .before .before .put-text .ensures) (wrote-then
+      (c .before .before .before .before .before .before .before .put-name .ensures .0)
+      (c .before .before .put-text2 .ensures))) (dbd-line _),
+  omega (
+    arith,
+    c .before .before .before .before .before .before .before .before .before .before .before .before .put-text
+        .ensures .place,
+    c .before .before .before .before .before .before .before .put-name .ensures .1,
+    c .before .before .put-text2 .ensures .place,
+  ),
+)
 
 pub put-dbd-spec : {M : Type 1} → statement M
 put-dbd-spec =

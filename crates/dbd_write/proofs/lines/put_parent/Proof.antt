@@ -1,71 +1,104 @@
+use mathlib.Core.Path.{_≡_, ap, sym, _∙_}
+use Rattle.dbd_write.proofs.Joined.{wrote-as}
+use Rattle.dbd_write.proofs.Spelling.{lent-eight, name-within, parent-none, parent-named, parent-most}
+use Rattle.statements.specs.Text.{bytesOf}
+use borrow.Author.Needs.{needs}
+use native.Mathlib.Omega.{arith}
 use Rattle.dbd_write.proofs.lines.put_parent.Statement.{statement}
 use Rattle.dbd_write.proofs.lines.put_parent.Tie as tie
-use Rattle.dbd_write.proofs.lines.put_parent.Reads as reads
-use Rattle.dbd_write.proofs.lines.put_parent.Lts as lts
-use Rattle.blocks.proofs.wide.Reads as wide-reads
-use Rattle.catalogue.proofs.entries.parent.Reads as parent-reads
-use Rattle.dbd_write.proofs.text.put_name.Reads as put-name-reads
-use Rattle.dbd_write.proofs.text.put_text.Reads as put-text-reads
 
 -- src/lines.rt:39:9
 parent-requires : tie.Need-parent-requires
-parent-requires c κs = ?
+parent-requires c κs = search needs
 
 -- src/lines.rt:41:34
 slice-aggregate-put-text : tie.Need-slice-aggregate-put-text
-slice-aggregate-put-text c = ?
+slice-aggregate-put-text c = search needs
 
 -- src/lines.rt:41:9
 put-text-requires : tie.Need-put-text-requires
-put-text-requires c κs = ?
+put-text-requires c κs = search needs
 
 -- src/lines.rt:41:9
 same-length : tie.Need-same-length
-same-length c = ?
+same-length c = let ·put-text = c .before .before .put-text in
+    ·put-text .ensures .long
 
 -- src/lines.rt:41:9
 returns : tie.Need-returns
-returns c = ?
+unfolding bytesOf
+returns c =
+    let ·args = c .before .before .before .before .before .before .before .before .before .before .before .args in (
+      wrote-as (c .before .before .put-text .ensures)
+          (parent-none (·args .cat .now) (·args .names .now) (·args .t)
+          (c .before .before .before .before .before .before .before .parent .result)
+          (c .before .before .before .before .before .before .before .parent .ensures)
+          (c .before .before .before .before .before .if1 .taken)),
+      omega
+          (arith, c .before .before .put-text .ensures .place),
+    )
 
 -- src/lines.rt:43:24
 wide-requires : tie.Need-wide-requires
-wide-requires c κs = ?
+wide-requires c κs = search needs
 
 -- src/lines.rt:43:20
 mul-from : tie.Need-mul-from
-mul-from c = ?
+mul-from c = omega (arith, c .wide .ensures .1)
 
 -- src/lines.rt:43:16
 add-from : tie.Need-add-from
-add-from c = ?
+add-from c = omega (arith, c .wide .ensures .1)
 
 -- src/lines.rt:44:14
 add-to : tie.Need-add-to
-add-to c = ?
+add-to c = omega (arith, c .wide .ensures .1)
 
 -- src/lines.rt:45:23
 sub-put-name : tie.Need-sub-put-name
-sub-put-name c = ?
+sub-put-name c = search needs
 
 -- src/lines.rt:45:23
 part-put-name-start : tie.Need-part-put-name-start
-part-put-name-start c = ?
+part-put-name-start c = search needs
 
 -- src/lines.rt:45:23
 part-put-name-end : tie.Need-part-put-name-end
-part-put-name-end c = ?
+part-put-name-end c = let ·args = c .before .before .before .before .before .before .before .before .args in
+    let ·pre = c .before .before .before .before .before .before .before .before .pre in
+    let ·parent = c .before .before .before .before .parent in
+    name-within (·args .cat .now) (·args .names .now) (·pre .0) (·parent .result .0) _ (c .before .wide .ensures .0)
+    (parent-most (·args .cat .now) (·args .t) (·parent .result) _ (·parent .ensures) (·pre .2))
 
 -- src/lines.rt:45:5
 put-name-requires : tie.Need-put-name-requires
-put-name-requires c κs = ?
+put-name-requires c κs =
+    let ·args = c .before .before .before .before .before .before .before .before .before .args in (
+      omega arith,
+      lent-eight _ _ (name-within (·args .cat .now) (·args .names .now)
+          (c .before .before .before .before .before .before .before .before .before .pre .0)
+          (c .before .before .before .before .before .parent .result .0) _ (c .before .before .wide .ensures .0)
+          (parent-most (·args .cat .now) (·args .t) (c .before .before .before .before .before .parent .result) _
+          (c .before .before .before .before .before .parent .ensures)
+          (c .before .before .before .before .before .before .before .before .before .pre .2))),
+    )
 
 -- src/lines.rt:35:1
 same-length-2 : tie.Need-same-length-2
-same-length-2 c = ?
+same-length-2 c = let ·put-name = c .before .before .put-name in
+    ·put-name .ensures .0 .long
 
 -- src/lines.rt:35:1
 returns-2 : tie.Need-returns-2
-returns-2 c = ?
+returns-2 c = let ·put-name = c .before .before .put-name in
+    let ·args = c .before .before .before .before .before .before .before .before .before .before .before .before .args
+    in let ·parent = c .before .before .before .before .before .before .before .before .parent in
+    let ·wide = c .before .before .before .before .before .wide in
+    let ·if1 = c .before .before .before .before .before .before .if1 in (
+      wrote-as (·put-name .ensures .0) (parent-named (·args .cat .now) (·args .names .now) (·args .t) (·parent .result)
+          (·parent .ensures) _ (·wide .ensures .0) (·if1 .left)),
+      ·put-name .ensures .1,
+    )
 
 pub put-parent-spec : {M : Type 1} → statement M
 put-parent-spec =

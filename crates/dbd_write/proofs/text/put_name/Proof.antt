@@ -1,31 +1,53 @@
+use Rattle.dbd_write.proofs.Joined.{wrote-as}
+use lib.Seq.{length-take-le}
+use borrow.Author.Needs.{needs}
+use native.Mathlib.Omega.{arith}
 use Rattle.dbd_write.proofs.text.put_name.Statement.{statement}
 use Rattle.dbd_write.proofs.text.put_name.Tie as tie
-use Rattle.dbd_write.proofs.text.put_name.Reads as reads
-use Rattle.dbd_write.proofs.text.put_name.Lts as lts
-use Rattle.dbd_names.proofs.name_end.Reads as name-end-reads
-use Rattle.dbd_write.proofs.text.put_text.Reads as put-text-reads
 
 -- src/text.rt:50:9
 name-end-requires : tie.Need-name-end-requires
-name-end-requires c κs = ?
+name-end-requires c κs = search needs
 
 -- src/text.rt:51:23
 slice-aggregate-put-text : tie.Need-slice-aggregate-put-text
-slice-aggregate-put-text c = ?
+slice-aggregate-put-text c = search needs
 
 -- src/text.rt:51:5
 put-text-requires : tie.Need-put-text-requires
-put-text-requires c κs = ?
+put-text-requires c κs = let ·args = c .before .before .before .before .before .args in
+    omega (
+      arith,
+      c .before .before .name-end .ensures .0,
+      length-take-le (c .before .before .name-end .result)
+          (·args .name .now) (c .before .before .name-end .ensures .0),
+    )
 
 -- src/text.rt:46:1
 same-length : tie.Need-same-length
-same-length c = ?
+same-length c = let ·put-text = c .before .before .put-text in
+    ·put-text .ensures .long
 
 -- src/text.rt:46:1
 returns : tie.Need-returns
-returns c = ?
+returns c = let ·args = c .before .before .before .before .before .before .before .before .args in (
+  wrote-as (c .before .before .put-text .ensures) (c .before .before .before .before .before .name-end .ensures .1),
+  omega (
+    arith,
+    c .before .before .put-text .ensures .place,
+    c .before .before .before .before .before .name-end .ensures .0,
+    length-take-le
+        (c .before .before .before .before .before .name-end .result) (·args .name .now)
+        (c .before .before .before .before .before .name-end .ensures .0),
+  ),
+)
 
 pub put-name-spec : {M : Type 1} → statement M
 put-name-spec =
     tie.close
-    (tie.spec name-end-requires slice-aggregate-put-text put-text-requires same-length returns)
+    (tie.spec
+    name-end-requires
+    slice-aggregate-put-text
+    put-text-requires
+    same-length
+    returns)

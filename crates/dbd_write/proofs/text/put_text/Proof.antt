@@ -1,9 +1,8 @@
+use Rattle.dbd_write.proofs.Joined.{text-room, text-long}
 use borrow.Author.Needs.{needs}
+use native.Mathlib.Omega.{arith}
 use Rattle.dbd_write.proofs.text.put_text.Statement.{statement}
 use Rattle.dbd_write.proofs.text.put_text.Tie as tie
-use Rattle.dbd_write.proofs.text.put_text.Reads as reads
-use Rattle.dbd_write.proofs.text.put_text.Lts as lts
-use Rattle.blocks.proofs.moves.put.Reads as put-reads
 
 -- src/text.rt:16:16
 add-next : tie.Need-add-next
@@ -31,11 +30,12 @@ same-length c = search needs
 
 -- src/text.rt:12:1
 returns : tie.Need-returns
-returns c = ?
+returns c = let ·if1 = c .before .before .before .before .if1 in let ·put = c .before .before .put in
+    text-room _ _ _ _ (·if1 .taken) (·put .ensures)
 
 -- src/text.rt:12:1
 returns-2 : tie.Need-returns-2
-returns-2 c = ?
+returns-2 c = text-long _ _ _ (c .if1 .left)
 
 pub put-text-spec : {M : Type 1} → statement M
 put-text-spec =

@@ -1,9 +1,8 @@
+use Rattle.dbd_write.proofs.Growing.{kind-key, kind-none}
 use borrow.Author.Needs.{needs}
+use native.Mathlib.Omega.{arith}
 use Rattle.dbd_write.proofs.whole.kind_shown.Statement.{statement}
 use Rattle.dbd_write.proofs.whole.kind_shown.Tie as tie
-use Rattle.dbd_write.proofs.whole.kind_shown.Reads as reads
-use Rattle.dbd_write.proofs.whole.kind_shown.Lts as lts
-use Rattle.catalogue.proofs.entries.key_kind.Reads as key-kind-reads
 
 -- src/whole.rt:26:19
 key-kind-requires : tie.Need-key-kind-requires
@@ -11,11 +10,16 @@ key-kind-requires c κs = search needs
 
 -- src/whole.rt:23:1
 returns : tie.Need-returns
-returns c = ?
+returns c = kind-key _ _ _ _ (c .before .if1 .taken) (c .key-kind .ensures)
 
 -- src/whole.rt:23:1
 returns-2 : tie.Need-returns-2
-returns-2 c = ?
+returns-2 c = kind-none _ _ _ (c .if1 .left)
 
 pub kind-shown-spec : {M : Type 1} → statement M
-kind-shown-spec = tie.close (tie.spec key-kind-requires returns returns-2)
+kind-shown-spec =
+    tie.close
+    (tie.spec
+    key-kind-requires
+    returns
+    returns-2)

@@ -1,11 +1,13 @@
+use mathlib.Core.Path.{_≡_, _∙_}
+use Prim.Native.Nat.{_+_, _-_, _*_, _≤_, _<_}
+use Rattle.rules.specs.Catalogue.{types}
+use Rattle.dbd_write.specs.Wrote.{Wrote, Fit, Lower}
+use Rattle.dbd_write.proofs.Joined.{wrote-none, wrote-then, wrote-as}
+use Rattle.dbd_write.proofs.Growing.{typesTo, types-none, types-more, types-all}
+use borrow.Author.Needs.{needs}
+use native.Mathlib.Omega.{arith}
 use Rattle.dbd_write.proofs.whole.put_statements.Statement.{statement}
 use Rattle.dbd_write.proofs.whole.put_statements.Tie as tie
-use Rattle.dbd_write.proofs.whole.put_statements.Reads as reads
-use Rattle.dbd_write.proofs.whole.put_statements.Lts as lts
-use Rattle.catalogue.proofs.entry_bytes.types.Reads as types-reads
-use Rattle.dbd_write.proofs.lines.put_dbd.Reads as put-dbd-reads
-use Rattle.dbd_write.proofs.lines.put_segm.Reads as put-segm-reads
-use Rattle.dbd_write.proofs.whole.put_fields.Reads as put-fields-reads
 
 abbrev Inv-loop : tie.InvT-loop
 Inv-loop out₀ cat names top next₀ k₀ out next k = ?
@@ -15,43 +17,90 @@ abbrev μ-loop : tie.MeasureT-loop
 
 -- src/whole.rt:54:9
 types-requires : tie.Need-types-requires Inv-loop μ-loop
-types-requires c κs = ?
+types-requires c κs = search needs
 
 -- src/whole.rt:55:9
 put-dbd-requires : tie.Need-put-dbd-requires Inv-loop μ-loop
-put-dbd-requires c κs = ?
+put-dbd-requires c κs = omega (arith, c .before .before .before .before .before .pre .0 .long)
 
 -- src/whole.rt:57:5
 loop-holds : tie.Need-loop-holds Inv-loop μ-loop
-loop-holds c = ?
+loop-holds c = let ·args = c .before .before .before .before .before .before .before .before .args in (
+  omega arith,
+  c .before .before .before .before .types .ensures,
+  c .before .before .put-dbd .ensures .1,
+  omega
+      arith,
+  c .before .before .before .before .before .before .before .before .pre .0,
+  c .before .before .before .before .before .before .before .before .pre .1,
+  wrote-as (wrote-none _ _)
+      (types-none (·args .cat .now) (·args .names .now)),
+)
 
 -- src/whole.rt:58:9
 add-k : tie.Need-add-k Inv-loop μ-loop
-add-k c = ?
+add-k c = omega (arith, c .before .loop .inv .4 .few)
 
 -- src/whole.rt:59:9
 put-segm-requires : tie.Need-put-segm-requires Inv-loop μ-loop
-put-segm-requires c κs = ?
+put-segm-requires c κs = (
+  c .before .before .loop .inv .4,
+  omega (arith, c .before .before .loop .inv .4 .few),
+  omega arith,
+  c .before .before .loop .inv .5 (c .before .before .loop .k + 1) (omega arith) (omega arith),
+)
 
 -- src/whole.rt:60:9
 put-fields-requires : tie.Need-put-fields-requires Inv-loop μ-loop
-put-fields-requires c κs = ?
+put-fields-requires c κs = (
+  c .before .before .before .before .before .before .loop .inv .4,
+  omega (
+    arith,
+    c .before .before .before .before .before .before .loop .inv .4 .few,
+    c .before .before .before .put-segm .ensures .1,
+  ),
+)
 
 -- src/whole.rt:57:5
 loop-less : tie.Need-loop-less Inv-loop μ-loop
-loop-less c = ?
+loop-less c = omega arith
 
 -- src/whole.rt:57:5
 loop-again : tie.Need-loop-again Inv-loop μ-loop
-loop-again c = ?
+loop-again c =
+    let ·args = c .before .before .before .before .before .before .before .before .before .before .before .before
+    .before .before .before .before .before .before .args in (
+      omega arith,
+      c .before .before .before .before .before .before .before .before .before .loop .inv .1,
+      c .before .before .before .before .before .before .before .before .before .loop .inv .2,
+      omega (
+        arith,
+        c .before .before .before .before .before .before .put-segm .ensures .1,
+        c .before .before .put-fields .ensures .1,
+      ),
+      c .before .before .before .before .before .before .before .before .before .loop .inv .4,
+      c .before .before .before .before .before .before .before .before .before .loop .inv .5,
+      wrote-as
+          (wrote-then (c .before .before .before .before .before .before .before .before .before .loop .inv .6)
+          (wrote-then (c .before .before .before .before .before .before .put-segm .ensures .0)
+          (c .before .before .put-fields .ensures .0)))
+          (types-more (·args .cat .now) (·args .names .now)
+          (c .before .before .before .before .before .before .before .before .before .loop .k)),
+    )
 
 -- src/whole.rt:50:1
 same-length : tie.Need-same-length Inv-loop μ-loop
-same-length c = ?
+same-length c = let ·put-dbd = c .before .before .before .before .put-dbd in
+    c .before .loop .inv .6 .long ∙ ·put-dbd .ensures .0 .long
 
 -- src/whole.rt:50:1
 returns : tie.Need-returns Inv-loop μ-loop
-returns c = ?
+returns c = let ·args = c .before .before .before .before .before .before .before .before .before .before .args in (
+  wrote-as (wrote-then (c .before .before .before .before .put-dbd .ensures .0) (c .before .loop .inv .6))
+      (types-all (·args .cat .now) (·args .names .now) (c .before .loop .k) _ (c .before .loop .inv .1)
+      (c .before .loop .inv .0) (c .loop-test .left)),
+  omega (arith, c .before .loop .inv .4 .few),
+)
 
 pub put-statements-spec : {M : Type 1} → statement M
 put-statements-spec =
