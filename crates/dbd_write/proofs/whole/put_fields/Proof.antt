@@ -11,10 +11,12 @@ use Rattle.dbd_write.proofs.whole.put_fields.Statement.{statement}
 use Rattle.dbd_write.proofs.whole.put_fields.Tie as tie
 
 abbrev Inv-loop : tie.InvT-loop
-Inv-loop out₀ at cat names t key last next₀ f₀ out next f = ?
+Inv-loop out₀ at cat names t key last next₀ f₀ out next f = (f ≤ last) × (last ≡ fields cat) ×
+    (key ≡ keyField cat (t .0)) × (next ≤ at + 64 * f) × Fit cat names × (at < 1000000) × Wrote at
+    (fieldsTo cat names t f) out₀ next out
 
 abbrev μ-loop : tie.MeasureT-loop
-μ-loop out₀ at cat names t key last next₀ f₀ out next f = ?
+μ-loop out₀ at cat names t key last next₀ f₀ out next f = last - f
 
 -- src/whole.rt:35:9
 key-field-requires : tie.Need-key-field-requires Inv-loop μ-loop

@@ -10,10 +10,11 @@ use Rattle.dbd_write.proofs.whole.put_statements.Statement.{statement}
 use Rattle.dbd_write.proofs.whole.put_statements.Tie as tie
 
 abbrev Inv-loop : tie.InvT-loop
-Inv-loop out₀ cat names top next₀ k₀ out next k = ?
+Inv-loop out₀ cat names top next₀ k₀ out next k = (k ≤ top) × (top ≡ types cat) × (next₀ ≤ 64) ×
+    (next ≤ next₀ + 4160 * k) × Fit cat names × Lower cat × Wrote next₀ (typesTo cat names k) out₀ next out
 
 abbrev μ-loop : tie.MeasureT-loop
-μ-loop out₀ cat names top next₀ k₀ out next k = ?
+μ-loop out₀ cat names top next₀ k₀ out next k = top - k
 
 -- src/whole.rt:54:9
 types-requires : tie.Need-types-requires Inv-loop μ-loop
