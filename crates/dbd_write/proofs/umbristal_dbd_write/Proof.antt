@@ -38,7 +38,7 @@ same-length : tie.Need-same-length
 same-length c =
     let ·args = c .before .before .before .before .before .before .before .before .before .before .args in
     let ·put-statements = c .before .before .before .put-statements in
-    ap length (lent-none (·args .text .now) _ (·put-statements .ensures .0 .long))
+    ap length (lent-none (·args .text .now) (·put-statements .last .0) (·put-statements .ensures .0 .long))
 
 -- src/lib.rt:21:9
 returns-2 : tie.Need-returns-2
@@ -48,7 +48,7 @@ returns-2 c = let ·args = c .before .before .before .before .before .before .be
     let ·put-statements = c .before .before .before .put-statements in
     answer-short (·args .cat .now) (·args .names .now) (·args .text .now) _ _
     (sym (·could-give .ensures) ∙ not-false _ (·if1 .left)) (·put-statements .ensures .0 .place)
-    (lent-none (·args .text .now) _ (·put-statements .ensures .0 .long)) (c .if2 .taken)
+    (lent-none (·args .text .now) (·put-statements .last .0) (·put-statements .ensures .0 .long)) (c .if2 .taken)
 
 -- src/lib.rt:23:5
 put-statements-requires-2 : tie.Need-put-statements-requires-2
@@ -70,7 +70,8 @@ same-length-2 c = let ·put-statements2 = c .before .before .put-statements2 in
     let ·args = c .before .before .before .before .before .before .before .before .before .before .before .before
     .before .before .args in
     let ·put-statements = c .before .before .before .before .before .before .before .put-statements in
-    ·put-statements2 .ensures .0 .long ∙ ap length (lent-none (·args .text .now) _ (·put-statements .ensures .0 .long))
+    ·put-statements2 .ensures .0 .long ∙ ap length
+    (lent-none (·args .text .now) (·put-statements .last .0) (·put-statements .ensures .0 .long))
 
 -- src/lib.rt:12:1
 returns-3 : tie.Need-returns-3
@@ -83,8 +84,8 @@ returns-3 c =
     let ·if2 = c .before .before .before .before .if2 in let ·put-statements2 = c .before .before .put-statements2 in
     answer-text (·args .cat .now) (·args .names .now) (·args .text .now) _ _ _ _
     (sym (·could-give .ensures) ∙ not-false _ (·if1 .left)) (·put-statements .ensures .0 .place)
-    (·put-statements .ensures .1) (lent-none (·args .text .now) _ (·put-statements .ensures .0 .long)) (·if2 .left)
-    (·put-statements2 .ensures .0)
+    (·put-statements .ensures .1) (lent-none (·args .text .now) (·put-statements .last .0)
+    (·put-statements .ensures .0 .long)) (·if2 .left) (·put-statements2 .ensures .0)
 
 pub umbristal-dbd-write-spec : {M : Type 1} → statement M
 umbristal-dbd-write-spec =

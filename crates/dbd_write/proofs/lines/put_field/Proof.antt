@@ -72,7 +72,12 @@ put-named-requires : tie.Need-put-named-requires
 put-named-requires c κs =
     let ·args = c .before .before .before .before .before .before .before .before .before .before .before .before
     .before .args in (
-      omega (arith, c .before .before .before .before .put-text .ensures .place),
+      omega (
+        arith,
+        c .before .before .before .before .before .before .before .before .before .before .before .before
+            .before .pre .1,
+        c .before .before .before .before .put-text .ensures .place,
+      ),
       lent-eight _ _
           (field-within (·args .cat .now) (·args .names .now)
           (c .before .before .before .before .before .before .before .before .before .before .before .before .before .pre .0)
@@ -92,7 +97,8 @@ put-text-requires-2 : tie.Need-put-text-requires-2
 put-text-requires-2 c κs = omega (
   arith,
   c .before .before .before .before .before .before .before .before .before
-      .put-text .ensures .place,
+      .before .before .before .before .before .before .before .before .before .pre .1,
+  c .before .before .before .before .before .before .before .before .before .put-text .ensures .place,
   c .before .before .before .before .put-named .ensures .1,
 )
 
@@ -104,6 +110,8 @@ field-length-requires c κs = search needs
 put-decimal-requires : tie.Need-put-decimal-requires
 put-decimal-requires c κs = omega (
   arith,
+  c .before .before .before .before .before .before .before .before .before .before .before .before .before .before
+      .before .before .before .before .before .before .before .before .before .pre .1,
   c .before .before .before .before .before .before .before .before .before .before .before .before .before .before
       .put-text .ensures .place,
   c .before .before .before .before .before .before .before .before .before .put-named
@@ -120,7 +128,10 @@ put-text-requires-3 : tie.Need-put-text-requires-3
 put-text-requires-3 c κs = omega (
   arith,
   c .before .before .before .before .before .before .before .before .before
-      .before .before .before .before .before .before .before .before .before .before .put-text .ensures .place,
+      .before .before .before .before .before .before .before .before .before .before .before .before .before .before
+      .before .before .before .before .before .pre .1,
+  c .before .before .before .before .before .before .before .before .before .before .before .before .before .before
+      .before .before .before .before .before .put-text .ensures .place,
   c .before .before .before .before .before .before .before .before .before .before .before .before .before .before
       .put-named .ensures .1,
   c .before .before .before .before .before .before .before .before .before .put-text2
@@ -136,6 +147,9 @@ field-start-requires c κs = search needs
 put-decimal-requires-2 : tie.Need-put-decimal-requires-2
 put-decimal-requires-2 c κs = omega (
   arith,
+  c .before .before .before .before .before .before .before .before .before .before .before .before .before .before
+      .before .before .before .before .before .before .before .before .before .before .before .before .before .before
+      .before .before .before .before .before .pre .1,
   c .before .before .before .before .before .before .before .before .before .before .before .before .before .before
       .before .before .before .before .before .before .before .before .before .before .put-text .ensures .place,
   c .before .before .before .before .before .before .before .before .before .before .before .before .before .before
@@ -157,7 +171,11 @@ put-text-requires-4 c κs = omega (
   arith,
   c .before .before .before .before .before .before .before .before .before
       .before .before .before .before .before .before .before .before .before .before .before .before .before .before
-      .before .before .before .before .before .before .put-text .ensures .place,
+      .before .before .before .before .before .before .before .before .before .before .before .before .before .before
+      .before .pre .1,
+  c .before .before .before .before .before .before .before .before .before .before .before .before
+      .before .before .before .before .before .before .before .before .before .before .before .before .before .before
+      .before .before .before .put-text .ensures .place,
   c .before .before .before .before .before .before .before .before .before .before .before .before .before .before
       .before .before .before .before .before .before .before .before .before .before .put-named .ensures .1,
   c .before .before .before .before .before .before .before .before .before .before .before .before .before .before
@@ -224,6 +242,10 @@ returns c =
           (c .before .before .before .before .before .before .before .before .field-start .ensures)),
       omega (
         arith,
+        c .before .before .before .before .before .before .before .before .before .before .before .before .before
+            .before .before .before .before .before .before .before .before .before .before .before .before .before .before
+            .before .before .before .before .before .before .before .before .before .before .before .before .before .before .pre
+            .1,
         c .before .before .before .before .before .before .before .before .before .before .before .before .before
             .before .before .before .before .before .before .before .before .before .before .before .before .before .before
             .before .before .before .before .before .put-text .ensures .place,

@@ -51,7 +51,11 @@ part-put-name-end c =
 put-name-requires : tie.Need-put-name-requires
 put-name-requires c κs =
     let ·args = c .before .before .before .before .before .before .before .before .before .before .before .args in (
-      omega (arith, c .before .before .before .before .put-text .ensures .place),
+      omega (
+        arith,
+        c .before .before .before .before .before .before .before .before .before .before .before .pre .1,
+        c .before .before .before .before .put-text .ensures .place,
+      ),
       lent-eight _ _
           (name-within (·args .cat .now) (·args .names .now)
           (c .before .before .before .before .before .before .before .before .before .before .before .pre .0) (·args .t .0) _
@@ -68,7 +72,8 @@ put-text-requires-2 : tie.Need-put-text-requires-2
 put-text-requires-2 c κs = omega (
   arith,
   c .before .before .before .before .before .before .before .before .before
-      .put-text .ensures .place,
+      .before .before .before .before .before .before .before .pre .1,
+  c .before .before .before .before .before .before .before .before .before .put-text .ensures .place,
   c .before .before .before .before .put-name .ensures .1,
 )
 
@@ -80,7 +85,9 @@ put-parent-requires c κs = (
   omega (
     arith,
     c .before .before .before .before .before .before .before .before .before .before .before .before .before
-        .put-text .ensures .place,
+        .before .before .before .before .before .before .before .pre .1,
+    c .before .before .before .before .before .before .before .before .before .before .before .before .before .put-text
+        .ensures .place,
     c .before .before .before .before .before .before .before .before .put-name .ensures .1,
     c .before .before .before .put-text2 .ensures .place,
   ),
@@ -97,7 +104,10 @@ put-text-requires-3 : tie.Need-put-text-requires-3
 put-text-requires-3 c κs = omega (
   arith,
   c .before .before .before .before .before .before .before .before .before
-      .before .before .before .before .before .before .before .before .before .put-text .ensures .place,
+      .before .before .before .before .before .before .before .before .before .before .before .before .before .before
+      .before .before .pre .1,
+  c .before .before .before .before .before .before .before .before .before .before .before
+      .before .before .before .before .before .before .before .put-text .ensures .place,
   c .before .before .before .before .before .before .before .before .before .before .before .before .before .put-name
       .ensures .1,
   c .before .before .before .before .before .before .before .before .put-text2 .ensures .place,
@@ -113,9 +123,13 @@ put-decimal-requires : tie.Need-put-decimal-requires
 put-decimal-requires c κs = omega (
   arith,
   c .before .before .before .before .before .before .before .before .before .before .before .before .before .before
-      .before .before .before .before .before .before .before .before .before .put-text .ensures .place,
-  c .before .before .before .before .before .before .before .before .before .before .before .before .before .before
-      .before .before .before .before .put-name .ensures .1,
+      .before .before .before .before .before .before .before .before .before .before .before .before .before .before
+      .before .before .pre .1,
+  c .before .before .before .before .before .before .before .before .before .before .before
+      .before .before .before .before .before .before .before .before .before .before .before .before .put-text .ensures
+      .place,
+  c .before .before .before .before .before .before .before .before .before .before .before .before .before
+      .before .before .before .before .before .put-name .ensures .1,
   c .before .before .before .before .before .before .before .before .before .before .before .before .before .put-text2
       .ensures .place,
   c .before .before .before .before .before .before .before .before .before .put-parent .ensures .1,
@@ -132,11 +146,15 @@ put-text-requires-4 c κs = omega (
   arith,
   c .before .before .before .before .before .before .before .before .before
       .before .before .before .before .before .before .before .before .before .before .before .before .before .before
-      .before .before .before .before .before .put-text .ensures .place,
+      .before .before .before .before .before .before .before .before .before .before .before .before .pre .1,
   c .before .before .before .before .before .before .before .before .before .before .before .before .before .before
-      .before .before .before .before .before .before .before .before .before .put-name .ensures .1,
-  c .before .before .before .before .before .before .before .before .before .before .before .before .before .before
-      .before .before .before .before .put-text2 .ensures .place,
+      .before .before .before .before .before .before .before .before .before .before .before .before .before .before
+      .put-text .ensures .place,
+  c .before .before .before .before .before .before .before .before .before .before .before
+      .before .before .before .before .before .before .before .before .before .before .before .before .put-name .ensures
+      .1,
+  c .before .before .before .before .before .before .before .before .before .before .before .before .before
+      .before .before .before .before .before .put-text2 .ensures .place,
   c .before .before .before .before .before .before .before .before .before .before .before .before .before .before
       .put-parent .ensures .1,
   c .before .before .before .before .before .before .before .before .before .put-text3
@@ -191,7 +209,10 @@ returns c =
         arith,
         c .before .before .before .before .before .before .before .before .before .before .before .before .before
             .before .before .before .before .before .before .before .before .before .before .before .before .before .before
-            .before .before .before .before .put-text .ensures .place,
+            .before .before .before .before .before .before .before .before .before .before .before .pre .1,
+        c .before .before .before .before .before .before .before .before .before .before .before .before .before .before
+            .before .before .before .before .before .before .before .before .before .before .before .before .before .before
+            .before .before .before .put-text .ensures .place,
         c .before .before .before .before .before .before .before .before .before .before .before .before .before .before
             .before .before .before .before .before .before .before .before .before .before .before .before .put-name .ensures
             .1,

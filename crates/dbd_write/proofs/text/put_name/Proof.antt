@@ -1,3 +1,4 @@
+use mathlib.Core.Path.{sym}
 use Rattle.dbd_write.proofs.Joined.{wrote-as}
 use lib.Seq.{length-take-le}
 use borrow.Author.Needs.{needs}
@@ -11,7 +12,9 @@ name-end-requires c κs = search needs
 
 -- src/text.rt:51:23
 slice-aggregate-put-text : tie.Need-slice-aggregate-put-text
-slice-aggregate-put-text c = search needs
+slice-aggregate-put-text c = let ·name-end = c .before .before .name-end in
+    let ·args = c .before .before .before .before .before .args in
+    sym (length-take-le (·name-end .result) (·args .name .now) (·name-end .ensures .0))
 
 -- src/text.rt:51:5
 put-text-requires : tie.Need-put-text-requires
