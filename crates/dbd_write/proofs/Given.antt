@@ -1,28 +1,26 @@
 -- What the writer's checks give it, and its three answers (R82, R83). Assumes nothing.
 use mathlib.Core.Path.{_≡_, refl, ap, sym, _∙_}
-use mathlib.Core.Bool.{Bool, true, false, _&&_}
-use mathlib.Core.Option.{Option, none, some}
-use mathlib.Core.List.{List, [], _∷_, _++_, map}
-use Prim.Native.Nat.{ℕ, zero, suc, _+_, _-_, _*_, _<_, _≤_}
+use mathlib.Core.Bool.{true, false, _&&_}
+use mathlib.Core.Option.{some}
+use mathlib.Core.List.{[], _∷_, _++_, map}
+use Prim.Native.Nat.{ℕ, _+_, _-_, _*_, _<_, _≤_}
 use native.Mathlib.Nat.{zero-add}
 use native.Mathlib.Omega.{arith}
-use lib.Dec.{ltb, leb, eqb}
-use lib.ListN.{length, take, drop}
+use lib.Dec.{eqb}
+use lib.ListN.{length, drop}
 use lib.Seq.{sets, sets-eq}
 use borrow.Author.Tests.{lt-leb, le-leb, le-ltb, eqb-true}
 use borrow.Rule.Slice.PartMut.{midOf, putMid}
-use Rattle.terms.specs.Choice.{pick}
-use Rattle.terms.specs.Names.{code}
-use Rattle.forest.specs.Good.{on, off, is, both-left}
+use Rattle.forest.specs.Good.{on, off, is}
 use Rattle.forest.specs.Numbers.{range}
 use Rattle.forest.specs.Types as Types
 use Rattle.rules.specs.Block.{Bytes, byte, every, marked}
 use Rattle.rules.specs.Catalogue.{types, fields, goodType, goodField, goodHeader, goodCatalogue}
-use Rattle.rules.proofs.Joined.{two, three, six}
+use Rattle.rules.proofs.Joined.{three, six}
 use Rattle.rules.proofs.Entries.{HeaderFacts, header-of}
 use Rattle.rules.proofs.Catalogue.{par, good-lower}
 use Rattle.statements.specs.Lines.{textOf}
-use Rattle.statements.specs.Dbd.{spelled, nameAt, goodName, isPlain, goodNames, differ, ascending, keysListed, couldGive, statements, dbdWrite}
+use Rattle.statements.specs.Dbd.{spelled, nameAt, goodName, isPlain, goodNames, couldGive, statements, dbdWrite}
 use Rattle.statements.specs.Lent.{onto, high, textInto, writeInto, writtenBack}
 use Rattle.dbd_write.specs.Wrote.{Wrote, Fit, Lower}
 

@@ -13,7 +13,7 @@ use Rattle.terms.specs.declared.FieldNumber.{FieldNumber}
 use Rattle.terms.specs.Choice.{pick}
 use Rattle.rules.specs.Block.{Bytes}
 use Rattle.rules.specs.Catalogue.{types, fields, parentOf, lengthOf, fieldLength, fieldStart}
-use Rattle.rules.specs.Listing.{digits, decimal, lineEnd}
+use Rattle.rules.specs.Listing.{decimal, lineEnd}
 use Rattle.statements.specs.Text.{bytesOf}
 use Rattle.statements.specs.Words.{Token, word, sign, trimmed, gap, spell}
 use Rattle.statements.specs.Statement.{dbd, segm, field, noParent, wordDbd, wordSegm, wordField, wordName, wordParent, wordBytes, wordStart, wordType, wordSeq}

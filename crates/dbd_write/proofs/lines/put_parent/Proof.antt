@@ -1,4 +1,3 @@
-use mathlib.Core.Path.{_≡_, ap, sym, _∙_}
 use Rattle.dbd_write.proofs.Joined.{wrote-as}
 use Rattle.dbd_write.proofs.Spelling.{lent-eight, name-within, parent-none, parent-named, parent-most}
 use Rattle.statements.specs.Text.{bytesOf}

@@ -1,4 +1,4 @@
-use mathlib.Core.Path.{_≡_, ap, sym, _∙_}
+use mathlib.Core.Path.{_∙_}
 use Rattle.dbd_write.proofs.Joined.{wrote-then, wrote-as}
 use Rattle.dbd_write.proofs.Spelling.{lent-eight, name-within, segm-written}
 use Rattle.statements.specs.Text.{bytesOf}

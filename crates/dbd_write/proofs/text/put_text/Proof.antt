@@ -1,6 +1,5 @@
 use Rattle.dbd_write.proofs.Joined.{text-room, text-long}
 use borrow.Author.Needs.{needs}
-use native.Mathlib.Omega.{arith}
 use Rattle.dbd_write.proofs.text.put_text.Statement.{statement}
 use Rattle.dbd_write.proofs.text.put_text.Tie as tie
 

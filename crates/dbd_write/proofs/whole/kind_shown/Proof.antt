@@ -1,6 +1,5 @@
 use Rattle.dbd_write.proofs.Growing.{kind-key, kind-none}
 use borrow.Author.Needs.{needs}
-use native.Mathlib.Omega.{arith}
 use Rattle.dbd_write.proofs.whole.kind_shown.Statement.{statement}
 use Rattle.dbd_write.proofs.whole.kind_shown.Tie as tie
 

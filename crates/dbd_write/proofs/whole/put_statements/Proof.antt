@@ -1,5 +1,5 @@
 use mathlib.Core.Path.{_≡_, _∙_}
-use Prim.Native.Nat.{_+_, _-_, _*_, _≤_, _<_}
+use Prim.Native.Nat.{_+_, _-_, _*_, _≤_}
 use Rattle.rules.specs.Catalogue.{types}
 use Rattle.dbd_write.specs.Wrote.{Wrote, Fit, Lower}
 use Rattle.dbd_write.proofs.Joined.{wrote-none, wrote-then, wrote-as}
