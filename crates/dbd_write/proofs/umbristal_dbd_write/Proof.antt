@@ -7,25 +7,25 @@ use native.Mathlib.Omega.{arith}
 use Rattle.dbd_write.proofs.umbristal_dbd_write.Statement.{statement}
 use Rattle.dbd_write.proofs.umbristal_dbd_write.Tie as tie
 
--- src/lib.rt:16:9
+-- src/lib.rt: if !could_give(cat, names) {
 could-give-requires : tie.Need-could-give-requires
 could-give-requires c κs = search needs
 
--- src/lib.rt:17:9
+-- src/lib.rt: return 20;
 returns : tie.Need-returns
 returns c = let ·args = c .before .before .before .before .before .args in
     answer-none (·args .cat .now) (·args .names .now) (·args .text .now)
     (sym (c .before .could-give .ensures) ∙ not-true _ (c .if1 .taken))
 
--- src/lib.rt:19:38
+-- src/lib.rt: let long = whole::put_statements(&mut text[..0], cat, names);
 slice-relend-prefix-put-statements : tie.Need-slice-relend-prefix-put-statements
 slice-relend-prefix-put-statements c = search needs
 
--- src/lib.rt:19:38
+-- src/lib.rt: let long = whole::put_statements(&mut text[..0], cat, names);
 slice-aggregate-put-statements : tie.Need-slice-aggregate-put-statements
 slice-aggregate-put-statements c = search needs
 
--- src/lib.rt:19:9
+-- src/lib.rt: let long = whole::put_statements(&mut text[..0], cat, names);
 put-statements-requires : tie.Need-put-statements-requires
 put-statements-requires c κs = let ·args = c .before .before .before .before .before .before .args in
     let ·could-give = c .before .before .could-give in (
@@ -33,14 +33,14 @@ put-statements-requires c κs = let ·args = c .before .before .before .before .
       given-lower (·args .cat .now) (·args .names .now) (sym (·could-give .ensures) ∙ not-false _ (c .before .if1 .left)),
     )
 
--- src/lib.rt:21:9
+-- src/lib.rt: return 28;
 same-length : tie.Need-same-length
 same-length c =
     let ·args = c .before .before .before .before .before .before .before .before .before .before .args in
     let ·put-statements = c .before .before .before .put-statements in
     ap length (lent-none (·args .text .now) (·put-statements .last .0) (·put-statements .ensures .0 .long))
 
--- src/lib.rt:21:9
+-- src/lib.rt: return 28;
 returns-2 : tie.Need-returns-2
 returns-2 c = let ·args = c .before .before .before .before .before .before .before .before .before .before .args in
     let ·could-give = c .before .before .before .before .before .before .could-give in
@@ -50,7 +50,7 @@ returns-2 c = let ·args = c .before .before .before .before .before .before .be
     (sym (·could-give .ensures) ∙ not-false _ (·if1 .left)) (·put-statements .ensures .0 .place)
     (lent-none (·args .text .now) (·put-statements .last .0) (·put-statements .ensures .0 .long)) (c .if2 .taken)
 
--- src/lib.rt:23:5
+-- src/lib.rt: whole::put_statements(text, cat, names);
 put-statements-requires-2 : tie.Need-put-statements-requires-2
 put-statements-requires-2 c κs =
     let ·args = c .before .before .before .before .before .before .before .before .before .before .before .args in
@@ -60,11 +60,11 @@ put-statements-requires-2 c κs =
       given-lower (·args .cat .now) (·args .names .now) (sym (·could-give .ensures) ∙ not-false _ (·if1 .left)),
     )
 
--- src/lib.rt:24:5
+-- src/lib.rt: 4294967296 * long as u64
 mul-result : tie.Need-mul-result
 mul-result c = omega (arith, c .before .before .before .before .before .before .before .put-statements .ensures .1)
 
--- src/lib.rt:12:1
+-- src/lib.rt: #[no_mangle]
 same-length-2 : tie.Need-same-length-2
 same-length-2 c = let ·put-statements2 = c .before .before .put-statements2 in
     let ·args = c .before .before .before .before .before .before .before .before .before .before .before .before
@@ -73,7 +73,7 @@ same-length-2 c = let ·put-statements2 = c .before .before .put-statements2 in
     ·put-statements2 .ensures .0 .long ∙ ap length
     (lent-none (·args .text .now) (·put-statements .last .0) (·put-statements .ensures .0 .long))
 
--- src/lib.rt:12:1
+-- src/lib.rt: #[no_mangle]
 returns-3 : tie.Need-returns-3
 returns-3 c =
     let ·args = c .before .before .before .before .before .before .before .before .before .before .before .before

@@ -5,15 +5,15 @@ use native.Mathlib.Omega.{arith}
 use Rattle.dbd_write.proofs.text.put_decimal.Statement.{statement}
 use Rattle.dbd_write.proofs.text.put_decimal.Tie as tie
 
--- src/text.rt:36:9
+-- src/text.rt: return put_digit(out, at, n);
 put-digit-requires : tie.Need-put-digit-requires
 put-digit-requires c κs = search needs
 
--- src/text.rt:36:9
+-- src/text.rt: return put_digit(out, at, n);
 same-length : tie.Need-same-length
 same-length c = search needs
 
--- src/text.rt:36:9
+-- src/text.rt: return put_digit(out, at, n);
 returns : tie.Need-returns
 returns c = (
   wrote-as (c .before .before .put-digit .ensures)
@@ -22,19 +22,19 @@ returns c = (
       (arith, c .before .before .put-digit .ensures .place),
 )
 
--- src/text.rt:39:13
+-- src/text.rt: let a = put_digit(out, at, n / 10);
 put-digit-requires-2 : tie.Need-put-digit-requires-2
 put-digit-requires-2 c κs = search needs
 
--- src/text.rt:40:9
+-- src/text.rt: return put_digit(out, a, n % 10);
 put-digit-requires-3 : tie.Need-put-digit-requires-3
 put-digit-requires-3 c κs = search needs
 
--- src/text.rt:40:9
+-- src/text.rt: return put_digit(out, a, n % 10);
 same-length-2 : tie.Need-same-length-2
 same-length-2 c = search needs
 
--- src/text.rt:40:9
+-- src/text.rt: return put_digit(out, a, n % 10);
 returns-2 : tie.Need-returns-2
 returns-2 c = (
   wrote-as (wrote-then (c .before .before .before .before .before .before .put-digit2 .ensures)
@@ -48,23 +48,23 @@ returns-2 c = (
   ),
 )
 
--- src/text.rt:42:9
+-- src/text.rt: let a = put_digit(out, at, n / 100);
 put-digit-requires-4 : tie.Need-put-digit-requires-4
 put-digit-requires-4 c κs = search needs
 
--- src/text.rt:43:9
+-- src/text.rt: let b = put_digit(out, a, n / 10 % 10);
 put-digit-requires-5 : tie.Need-put-digit-requires-5
 put-digit-requires-5 c κs = search needs
 
--- src/text.rt:44:5
+-- src/text.rt: put_digit(out, b, n % 10)
 put-digit-requires-6 : tie.Need-put-digit-requires-6
 put-digit-requires-6 c κs = search needs
 
--- src/text.rt:31:1
+-- src/text.rt: pub(crate) fn put_decimal(out: &mut [u8], at: usize, n: u8) -> usize
 same-length-3 : tie.Need-same-length-3
 same-length-3 c = search needs
 
--- src/text.rt:31:1
+-- src/text.rt: pub(crate) fn put_decimal(out: &mut [u8], at: usize, n: u8) -> usize
 returns-3 : tie.Need-returns-3
 returns-3 c =
     let ·args = c .before .before .before .before .before .before .before .before .before .before .before .before

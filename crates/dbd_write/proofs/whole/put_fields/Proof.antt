@@ -18,15 +18,15 @@ Inv-loop out₀ at cat names t key last next₀ f₀ out next f = (f ≤ last) �
 abbrev μ-loop : tie.MeasureT-loop
 μ-loop out₀ at cat names t key last next₀ f₀ out next f = last - f
 
--- src/whole.rt:35:9
+-- src/whole.rt: let key = key_field(cat, t);
 key-field-requires : tie.Need-key-field-requires Inv-loop μ-loop
 key-field-requires c κs = search needs
 
--- src/whole.rt:36:9
+-- src/whole.rt: let last = fields(cat);
 fields-requires : tie.Need-fields-requires Inv-loop μ-loop
 fields-requires c κs = search needs
 
--- src/whole.rt:39:5
+-- src/whole.rt: while f < last {
 loop-holds : tie.Need-loop-holds Inv-loop μ-loop
 loop-holds c = let ·args = c .before .before .before .before .before .args in (
   omega arith,
@@ -39,19 +39,19 @@ loop-holds c = let ·args = c .before .before .before .before .before .args in (
       (wrote-none _ _) (fields-none (·args .cat .now) (·args .names .now) (·args .t)),
 )
 
--- src/whole.rt:40:9
+-- src/whole.rt: f += 1;
 add-f : tie.Need-add-f Inv-loop μ-loop
 add-f c = omega (arith, c .before .loop .inv .4 .fewFields)
 
--- src/whole.rt:41:13
+-- src/whole.rt: let u = field_type(cat, FieldNumber(f));
 field-type-requires : tie.Need-field-type-requires Inv-loop μ-loop
 field-type-requires c κs = search needs
 
--- src/whole.rt:43:17
+-- src/whole.rt: let kind = kind_shown(cat, t, key, f);
 kind-shown-requires : tie.Need-kind-shown-requires Inv-loop μ-loop
 kind-shown-requires c κs = search needs
 
--- src/whole.rt:44:13
+-- src/whole.rt: next = put_field(out, next, cat, names, FieldNumber(f), kind);
 put-field-requires : tie.Need-put-field-requires Inv-loop μ-loop
 put-field-requires c κs = (
   c .before .before .before .before .before .before .before .loop .inv .4,
@@ -60,11 +60,11 @@ put-field-requires c κs = (
   omega arith,
 )
 
--- src/whole.rt:39:5
+-- src/whole.rt: while f < last {
 loop-less : tie.Need-loop-less Inv-loop μ-loop
 loop-less c = omega arith
 
--- src/whole.rt:39:5
+-- src/whole.rt: while f < last {
 loop-again : tie.Need-loop-again Inv-loop μ-loop
 loop-again c =
     let ·args = c .before .before .before .before .before .before .before .before .before .before .before .before
@@ -88,11 +88,11 @@ loop-again c =
           (c .before .before .before .before .kind-shown .ensures)),
     )
 
--- src/whole.rt:39:5
+-- src/whole.rt: while f < last {
 loop-less-2 : tie.Need-loop-less-2 Inv-loop μ-loop
 loop-less-2 c = omega arith
 
--- src/whole.rt:39:5
+-- src/whole.rt: while f < last {
 loop-again-2 : tie.Need-loop-again-2 Inv-loop μ-loop
 loop-again-2 c =
     let ·args = c .before .before .before .before .before .before .before .before .before .before .before .args in (
@@ -107,11 +107,11 @@ loop-again-2 c =
           (c .before .before .before .field-type .result) (c .before .before .before .field-type .ensures) (c .if1 .left)),
     )
 
--- src/whole.rt:30:1
+-- src/whole.rt: fn put_fields(out: &mut [u8], at: usize, cat: &[u8], names: &[u8], t: TypeCode) -> usize
 same-length : tie.Need-same-length Inv-loop μ-loop
 same-length c = c .before .loop .inv .6 .long
 
--- src/whole.rt:30:1
+-- src/whole.rt: fn put_fields(out: &mut [u8], at: usize, cat: &[u8], names: &[u8], t: TypeCode) -> usize
 returns : tie.Need-returns Inv-loop μ-loop
 returns c = let ·args = c .before .before .before .before .before .before .before .args in (
   wrote-as (c .before .loop .inv .6) (fields-all (·args .cat .now) (·args .names .now) (·args .t)

@@ -16,15 +16,15 @@ Inv-loop out₀ cat names top next₀ k₀ out next k = (k ≤ top) × (top ≡ 
 abbrev μ-loop : tie.MeasureT-loop
 μ-loop out₀ cat names top next₀ k₀ out next k = top - k
 
--- src/whole.rt:54:9
+-- src/whole.rt: let top = types(cat);
 types-requires : tie.Need-types-requires Inv-loop μ-loop
 types-requires c κs = search needs
 
--- src/whole.rt:55:9
+-- src/whole.rt: let mut next = put_dbd(out, names);
 put-dbd-requires : tie.Need-put-dbd-requires Inv-loop μ-loop
 put-dbd-requires c κs = omega (arith, c .before .before .before .before .before .pre .0 .long)
 
--- src/whole.rt:57:5
+-- src/whole.rt: while k < top {
 loop-holds : tie.Need-loop-holds Inv-loop μ-loop
 loop-holds c = let ·args = c .before .before .before .before .before .before .before .before .args in (
   omega arith,
@@ -38,11 +38,11 @@ loop-holds c = let ·args = c .before .before .before .before .before .before .b
       (types-none (·args .cat .now) (·args .names .now)),
 )
 
--- src/whole.rt:58:9
+-- src/whole.rt: k += 1;
 add-k : tie.Need-add-k Inv-loop μ-loop
 add-k c = omega (arith, c .before .loop .inv .4 .few)
 
--- src/whole.rt:59:9
+-- src/whole.rt: next = put_segm(out, next, cat, names, TypeCode(k));
 put-segm-requires : tie.Need-put-segm-requires Inv-loop μ-loop
 put-segm-requires c κs = (
   c .before .before .loop .inv .4,
@@ -51,7 +51,7 @@ put-segm-requires c κs = (
   c .before .before .loop .inv .5 (c .before .before .loop .k + 1) (omega arith) (omega arith),
 )
 
--- src/whole.rt:60:9
+-- src/whole.rt: next = put_fields(out, next, cat, names, TypeCode(k));
 put-fields-requires : tie.Need-put-fields-requires Inv-loop μ-loop
 put-fields-requires c κs = (
   c .before .before .before .before .before .before .loop .inv .4,
@@ -62,11 +62,11 @@ put-fields-requires c κs = (
   ),
 )
 
--- src/whole.rt:57:5
+-- src/whole.rt: while k < top {
 loop-less : tie.Need-loop-less Inv-loop μ-loop
 loop-less c = omega arith
 
--- src/whole.rt:57:5
+-- src/whole.rt: while k < top {
 loop-again : tie.Need-loop-again Inv-loop μ-loop
 loop-again c =
     let ·args = c .before .before .before .before .before .before .before .before .before .before .before .before
@@ -89,12 +89,12 @@ loop-again c =
           (c .before .before .before .before .before .before .before .before .before .loop .k)),
     )
 
--- src/whole.rt:50:1
+-- src/whole.rt: pub(crate) fn put_statements(out: &mut [u8], cat: &[u8], names: &[u8]) -> usize
 same-length : tie.Need-same-length Inv-loop μ-loop
 same-length c = let ·put-dbd = c .before .before .before .before .put-dbd in
     c .before .loop .inv .6 .long ∙ ·put-dbd .ensures .0 .long
 
--- src/whole.rt:50:1
+-- src/whole.rt: pub(crate) fn put_statements(out: &mut [u8], cat: &[u8], names: &[u8]) -> usize
 returns : tie.Need-returns Inv-loop μ-loop
 returns c = let ·args = c .before .before .before .before .before .before .before .before .before .before .args in (
   wrote-as (wrote-then (c .before .before .before .before .put-dbd .ensures .0) (c .before .loop .inv .6))
