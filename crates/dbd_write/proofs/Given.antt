@@ -35,8 +35,8 @@ module _ (cat names : Bytes) where
   names-long : goodNames cat names ≡ true → length names ≡ 16 + 8 * types cat + 8 * fields cat
   unfolding goodNames
   names-long g =
-      let q = six (eqb (length names) (16 + 8 * types cat + 8 * fields cat)) (marked 0x4E names) (eqb (byte names 5) (types cat)) (eqb (byte names 6) (fields cat))
-      (eqb (byte names 7) 0) (every (λ i. goodName (nameAt names i)) (range 0 (1 + types cat + fields cat))) g in
+      let q = six (eqb (length names) (16 + 8 * types cat + 8 * fields cat)) (marked 0x4E names) (eqb (byte names 5) (types cat))
+      (eqb (byte names 6) (fields cat)) (eqb (byte names 7) 0) (every (λ i. goodName (nameAt names i)) (range 0 (1 + types cat + fields cat))) g in
       eqb-true (length names) (16 + 8 * types cat + 8 * fields cat) (q .0)
 
   good-header : goodCatalogue cat ≡ true → HeaderFacts cat

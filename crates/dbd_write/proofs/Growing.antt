@@ -52,7 +52,8 @@ module _ (p : ℕ → Bool) where
 
   those-more : (n : ℕ) → p (n + 1) ≡ true → those p (range 1 (n + 1)) ≡ those p (range 1 n) ++ ((n + 1) ∷ [])
   unfolding those
-  those-more n e = ap (those p) (range-next n) ∙ those-append (range 1 n) ((n + 1) ∷ []) ∙ ap (λ (t : List ℕ). those p (range 1 n) ++ t) (those-in (n + 1) [] e)
+  those-more n e =
+      ap (those p) (range-next n) ∙ those-append (range 1 n) ((n + 1) ∷ []) ∙ ap (λ (t : List ℕ). those p (range 1 n) ++ t) (those-in (n + 1) [] e)
 
   those-same : (n : ℕ) → p (n + 1) ≡ false → those p (range 1 (n + 1)) ≡ those p (range 1 n)
   unfolding those
@@ -90,6 +91,11 @@ module _ (cat names : Bytes) (t : TypeCode) where
   abbrev pub fieldsTo : ℕ → Bytes
   fieldsTo f = textBy (map (fieldStatement cat names (t .0)) (those (λ i. eqb (fieldType cat (fieldOf i) .0) (t .0)) (range 1 f)))
 
+  -- the line of field f
+  abbrev pub lineBy : ℕ → ℕ → Bytes
+  lineBy f kind =
+      spelled (field (trimmed (fieldName cat names f)) kind (fieldLength cat (fieldOf f)) (fieldStart cat (fieldOf f))) ++ (lineEnd ∷ [])
+
   pub fields-none : [] ≡ fieldsTo 0
   unfolding those textOf
   fields-none = refl
@@ -97,15 +103,14 @@ module _ (cat names : Bytes) (t : TypeCode) where
   -- field f + 1 is of type t: its line stands behind the others
   pub fields-more : (f key kind : ℕ) (u : TypeCode) → u ≡ fieldType cat (fieldOf (f + 1)) → u .0 ≡ t .0 → key ≡ keyField cat (t .0)
       → kind ≡ pick (eqb (f + 1) key) (keyKind cat t) 0
-      → fieldsTo f ++ (spelled (field (trimmed (fieldName cat names (f + 1))) kind (fieldLength cat (fieldOf (f + 1))) (fieldStart cat (fieldOf (f + 1)))) ++ (lineEnd ∷ []))
-      ≡ fieldsTo (f + 1)
+      → fieldsTo f ++ lineBy (f + 1) kind ≡ fieldsTo (f + 1)
   unfolding fieldStatement
   fields-more f key kind u a b d e =
       let p : ℕ → Bool = λ i. eqb (fieldType cat (fieldOf i) .0) (t .0) in
       let g : ℕ → Statement = fieldStatement cat names (t .0) in
       let h : p (f + 1) ≡ true = eq-eqb (fieldType cat (fieldOf (f + 1)) .0) (t .0) (ap (λ (v : TypeCode). v .0) (sym a) ∙ b) in
       let k : kind ≡ pick (eqb (f + 1) (keyField cat (t .0))) (keyKind cat t) 0 = e ∙ ap (λ (v : ℕ). pick (eqb (f + 1) v) (keyKind cat t) 0) d in
-      ap (λ (v : ℕ). fieldsTo f ++ (spelled (field (trimmed (fieldName cat names (f + 1))) v (fieldLength cat (fieldOf (f + 1))) (fieldStart cat (fieldOf (f + 1)))) ++ (lineEnd ∷ []))) k
+      ap (λ (v : ℕ). fieldsTo f ++ lineBy (f + 1) v) k
       ∙ ap (λ (v : Bytes). fieldsTo f ++ v) (sym (by-one (g (f + 1))))
       ∙ sym (by-append (map g (those p (range 1 f))) (g (f + 1) ∷ []))
       ∙ ap textBy (sym (map-append g (those p (range 1 f)) ((f + 1) ∷ [])))
@@ -119,7 +124,8 @@ module _ (cat names : Bytes) (t : TypeCode) where
       ap (λ (l : List ℕ). textBy (map (fieldStatement cat names (t .0)) l)) (sym (those-same p f h))
 
   -- all were looked at
-  pub fields-all : (f last : ℕ) → last ≡ fields cat → f ≤ last → last ≤ f → fieldsTo f ≡ textBy (map (fieldStatement cat names (t .0)) (ownFields cat (t .0)))
+  pub fields-all : (f last : ℕ) → last ≡ fields cat → f ≤ last → last ≤ f
+      → fieldsTo f ≡ textBy (map (fieldStatement cat names (t .0)) (ownFields cat (t .0)))
   unfolding ownFields
   fields-all f last e a b = let z : f ≡ fields cat = omega arith in ap fieldsTo z
 
@@ -140,7 +146,8 @@ module _ (cat names : Bytes) where
   types-none = refl
 
   pub types-more : (k : ℕ)
-      → typesTo k ++ ((spelled (segmStatement cat names (k + 1)) ++ (lineEnd ∷ [])) ++ textBy (map (fieldStatement cat names (k + 1)) (ownFields cat (k + 1))))
+      → typesTo k ++ ((spelled (segmStatement cat names (k + 1)) ++ (lineEnd ∷ []))
+      ++ textBy (map (fieldStatement cat names (k + 1)) (ownFields cat (k + 1))))
       ≡ typesTo (k + 1)
   unfolding typeStatements
   types-more k =

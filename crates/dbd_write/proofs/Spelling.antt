@@ -56,7 +56,8 @@ name-multiple w zero a b = absurd (a refl)
 name-multiple w (suc k) a b = rw (ne-eqb k 0 (λ z. b (omega arith)))
 
 -- a field's name before a sign
-key-by : (b : Bool) (w r : Bytes) → spell (sign opens ∷ word w ∷ sign comma ∷ word wordSeq ∷ sign comma ∷ word (pick b 0x55 0x4D ∷ []) ∷ sign shuts ∷ []) ++ r
+key-by : (b : Bool) (w r : Bytes)
+    → spell (sign opens ∷ word w ∷ sign comma ∷ word wordSeq ∷ sign comma ∷ word (pick b 0x55 0x4D ∷ []) ∷ sign shuts ∷ []) ++ r
     ≡ (bytesOf "(" ++ w ++ pick b (bytesOf ",SEQ,U)") (bytesOf ",SEQ,M)")) ++ r
 unfolding spell gap wordSeq bytesOf
 key-by true w r = refl
@@ -66,7 +67,7 @@ spell-signed : (ss ts : List Token) (s : ℕ) → spell (ss ++ (sign s ∷ ts)) 
 unfolding spell gap
 spell-signed [] ts s = refl
 spell-signed (sign x ∷ ss) ts s = ap (_∷_ x) (spell-signed ss ts s)
-spell-signed (word w ∷ []) ts s = rw append-nil
+spell-signed (word w ∷ []) ts s = ap (λ (t : Bytes). t ++ spell (sign s ∷ ts)) (sym (append-nil w))
 spell-signed (word w ∷ word v ∷ ss) ts s =
     ap (λ (t : Bytes). w ++ (0x20 ∷ t)) (spell-signed (word v ∷ ss) ts s) ∙ sym (append-assoc w (0x20 ∷ spell (word v ∷ ss)) (spell (sign s ∷ ts)))
 spell-signed (word w ∷ sign x ∷ ss) ts s =
@@ -154,7 +155,8 @@ pub segm-written : (cat names : Bytes) (t : TypeCode) (w l : ℕ) → w ≡ t .0
 unfolding segmStatement segmentName
 segm-written cat names t w l d e =
     let p : Bytes = parentWord cat names (t .0) in
-    ap (λ (n : Bytes). bytesOf "SEGM NAME=" ++ (trimmed n ++ (bytesOf ",PARENT=" ++ (p ++ (bytesOf ",BYTES=" ++ (decimal l ++ (lineEnd ∷ []))))))) (name-lent names (t .0) w d)
+    let r : Bytes = bytesOf ",PARENT=" ++ (p ++ (bytesOf ",BYTES=" ++ (decimal l ++ (lineEnd ∷ [])))) in
+    ap (λ (n : Bytes). bytesOf "SEGM NAME=" ++ (trimmed n ++ r)) (name-lent names (t .0) w d)
     ∙ segm-line (trimmed (nameAt names (t .0))) p l
     ∙ ap (λ (k : ℕ). spelled (segm (trimmed (nameAt names (t .0))) p k) ++ (lineEnd ∷ [])) e
 
@@ -164,8 +166,8 @@ pub field-written : (cat names : Bytes) (f : FieldNumber) (kind v w l s : ℕ) �
     ≡ spelled (field (trimmed (fieldName cat names (f .0))) kind (fieldLength cat f) (fieldStart cat f)) ++ (lineEnd ∷ [])
 field-written cat names f kind v w l s a b d e =
     let n : Bytes = trimmed (fieldName cat names (f .0)) in
-    ap (λ (x : Bytes). bytesOf "FIELD NAME=" ++ (namePart (trimmed x) kind ++ (bytesOf ",BYTES=" ++ (decimal l ++ (bytesOf ",START=" ++ (decimal s ++ bytesOf ",TYPE=C\n"))))))
-    (field-lent cat names (f .0) v w a b)
+    let r : Bytes = bytesOf ",BYTES=" ++ (decimal l ++ (bytesOf ",START=" ++ (decimal s ++ bytesOf ",TYPE=C\n"))) in
+    ap (λ (x : Bytes). bytesOf "FIELD NAME=" ++ (namePart (trimmed x) kind ++ r)) (field-lent cat names (f .0) v w a b)
     ∙ field-line n kind l s
     ∙ ap (λ (k : ℕ). spelled (field n kind k s) ++ (lineEnd ∷ [])) d
     ∙ ap (λ (k : ℕ). spelled (field n kind (fieldLength cat f) k) ++ (lineEnd ∷ [])) e
