@@ -1,0 +1,4 @@
+pub mod Joined
+pub mod Spelling
+pub mod Growing
+pub mod Given

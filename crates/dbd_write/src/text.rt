@@ -32,14 +32,16 @@ pub(crate) fn put_decimal(out: &mut [u8], at: usize, n: u8) -> usize
     requires { ⌜ at + 3 < 4294967296 ⌝ }
     ensures { λ r. ⌜ Wrote at (decimal n) (now (out .entry)) r (now (out .exit)) × (r ≤ at + 3) ⌝ }
 {
-    let mut next = at;
-    if 100 <= n {
-        next = put_digit(out, next, n / 100);
+    if n < 10 {
+        return put_digit(out, at, n);
     }
-    if 10 <= n {
-        next = put_digit(out, next, n / 10 % 10);
+    if n < 100 {
+        let a = put_digit(out, at, n / 10);
+        return put_digit(out, a, n % 10);
     }
-    put_digit(out, next, n % 10)
+    let a = put_digit(out, at, n / 100);
+    let b = put_digit(out, a, n / 10 % 10);
+    put_digit(out, b, n % 10)
 }
 
 // A name without the spaces behind it.

@@ -27,11 +27,11 @@ abbrev tens : ℕ → ℕ
 tens zero = 1
 tens (suc k) = 10 * tens k
 
-digits-few : (k n : ℕ) → n < 10 → digits (suc k) n ≡ (0x30 + n) ∷ []
+pub digits-few : (k n : ℕ) → n < 10 → digits (suc k) n ≡ (0x30 + n) ∷ []
 unfolding digits
 digits-few k n l = rw (digits, lt-ltb n 10 l)
 
-digits-many : (k n : ℕ) → 10 ≤ n → digits (suc k) n ≡ digits k (n / 10) ++ ((0x30 + n % 10) ∷ [])
+pub digits-many : (k n : ℕ) → 10 ≤ n → digits (suc k) n ≡ digits k (n / 10) ++ ((0x30 + n % 10) ∷ [])
 unfolding digits
 digits-many k n l = rw (digits, le-ltb n 10 l)
 
