@@ -25,7 +25,7 @@ use Rattle.statements.proofs.Words.{clash}
 use Rattle.statements.proofs.Written.{Good, AllGood, readStatements, text-written}
 use Rattle.statements.proofs.Named.{name-trimmed, filled-trimmed}
 use Rattle.dbd_laws.specs.RoundTrip.{given, ReadsBack, WritesAgain}
-use Rattle.dbd_laws.proofs.AgainRows.{length-rows}
+use Rattle.statements.proofs.Rows.{rows-length}
 use Rattle.dbd_laws.proofs.AgainBlock.{upTo, within, within-whole, block-whole, names-whole}
 use Rattle.dbd_laws.proofs.AgainFacts.{Facts, facts-of}
 use Rattle.dbd_laws.proofs.AgainTaken.{opened, entryAt, keyed-whole}
@@ -166,8 +166,8 @@ module _ (c n : Bytes) (facts : Facts c n) where
   unfolding readStatements ended givenOf
   end-given =
       let h = header-facts c (facts .good) in
-      let t : length (rows 8 c 8 (types c)) ≡ types c = length-rows 8 c 8 (types c) in
-      let f : length (rows 4 c (8 + 8 * types c) (fields c)) ≡ fields c = length-rows 4 c (8 + 8 * types c) (fields c) in
+      let t : length (rows 8 c 8 (types c)) ≡ types c = rows-length 8 c 8 (types c) in
+      let f : length (rows 4 c (8 + 8 * types c) (fields c)) ≡ fields c = rows-length 4 c (8 + 8 * types c) (fields c) in
       let z : eqb (types c) 0 ≡ false = ne-eqb (types c) 0 (λ e. omega arith) in
       (tt, λ j. rw (t, z, f, block-whole c n (h .size) (facts .head), names-whole c n (facts .names-long) (facts .names-head)))
 

@@ -13,7 +13,8 @@ use Rattle.rules.specs.Catalogue.{types, fields}
 use Rattle.rules.proofs.Joined.{four}
 use Rattle.statements.specs.Draft.{Draft, header, catalogueOf, namesOf, rows}
 use Rattle.statements.specs.Dbd.{nameAt}
-use Rattle.dbd_laws.proofs.AgainRows.{length-rows, rows-last, joined-rows, joined-last}
+use Rattle.statements.proofs.Rows.{rows-length, rows-last, joined-rows}
+use Rattle.statements.proofs.Joined.{joined-snoc}
 
 -- bytes one by one
 pub eight : (b : Bytes) → 8 ≤ length b
@@ -96,14 +97,14 @@ module _ (c n : Bytes) where
   within-whole k m = rw (rows-last 8 c 8 k)
 
   pub within-types : (k : ℕ) (e : Bytes) (m : ℕ) → length (within k e m .types) ≡ suc k
-  within-types k e m = length-append (rows 8 c 8 k) (e ∷ []) ∙ ap (λ (x : ℕ). x + 1) (length-rows 8 c 8 k) ∙ omega arith
+  within-types k e m = length-append (rows 8 c 8 k) (e ∷ []) ∙ ap (λ (x : ℕ). x + 1) (rows-length 8 c 8 k) ∙ omega arith
 
   -- the block as four stretches
   block-shape : (k : ℕ) (e : Bytes) (m : ℕ)
       → catalogueOf (within k e m) ≡ header 0x43 (suc k) m ++ part c 8 (8 * k) ++ e ++ part c (8 + 8 * types c) (4 * m)
   unfolding catalogueOf
   block-shape k e m =
-      rw (within-types k e m, length-rows 4 c (8 + 8 * types c) m, joined-last (rows 8 c 8 k) e, joined-rows 8 c 8 k, joined-rows 4 c (8 + 8 * types c) m)
+      rw (within-types k e m, rows-length 4 c (8 + 8 * types c) m, joined-snoc (rows 8 c 8 k) e, joined-rows 8 c 8 k, joined-rows 4 c (8 + 8 * types c) m)
       (ap (λ (x : Bytes). x ++ part c (8 + 8 * types c) (4 * m)) (sym (append-assoc (header 0x43 (suc k) m) (part c 8 (8 * k)) e)))
 
   pub block-types : (k : ℕ) (e : Bytes) (m : ℕ) → types (catalogueOf (within k e m)) ≡ suc k
@@ -164,7 +165,7 @@ module _ (c n : Bytes) where
   pub block-whole : length c ≡ 8 + 8 * types c + 4 * fields c → take 8 c ≡ header 0x43 (types c) (fields c) → catalogueOf (upTo c n (types c) (fields c)) ≡ c
   unfolding catalogueOf
   block-whole l h =
-      rw (length-rows 8 c 8 (types c), length-rows 4 c (8 + 8 * types c) (fields c))
+      rw (rows-length 8 c 8 (types c), rows-length 4 c (8 + 8 * types c) (fields c))
       (rw (joined-rows 8 c 8 (types c), joined-rows 4 c (8 + 8 * types c) (fields c), ← h) (three-of c 8 (8 * types c) (4 * fields c) l))
 
   front-of : take 8 n ++ nameAt n 0 ≡ take 16 n
@@ -174,5 +175,5 @@ module _ (c n : Bytes) where
   pub names-whole : length n ≡ 16 + 8 * types c + 8 * fields c → take 8 n ≡ header 0x4E (types c) (fields c) → namesOf (upTo c n (types c) (fields c)) ≡ n
   unfolding namesOf
   names-whole l h =
-      rw (length-rows 8 c 8 (types c), length-rows 4 c (8 + 8 * types c) (fields c))
+      rw (rows-length 8 c 8 (types c), rows-length 4 c (8 + 8 * types c) (fields c))
       (rw (joined-rows 8 n 16 (types c), joined-rows 8 n (16 + 8 * types c) (fields c), ← h, front-of) (three-of n 16 (8 * types c) (8 * fields c) l))

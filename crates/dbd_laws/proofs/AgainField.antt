@@ -21,7 +21,8 @@ use Rattle.statements.specs.Draft.{Draft, catalogueOf, rows, has, ownNames, wit
 use Rattle.statements.specs.Dbd.{nameAt, goodName, distinct, firstOf, those, fieldName, ownFields, isKeyOf, keyField, fieldStatement}
 use Rattle.statements.proofs.Written.{Good}
 use Rattle.statements.proofs.Named.{name-trimmed, filled-trimmed}
-use Rattle.dbd_laws.proofs.AgainRows.{length-rows, rows-last, rows-split, own-differs}
+use Rattle.statements.proofs.Rows.{rows-length, rows-last}
+use Rattle.dbd_laws.proofs.AgainRows.{rows-split, own-differs}
 use Rattle.dbd_laws.proofs.AgainGood.{field-again}
 use Rattle.dbd_laws.proofs.AgainBlock.{part-four, part-byte, within, within-types, block-types, block-entry, block-field}
 use Rattle.dbd_laws.proofs.AgainFacts.{Facts}
@@ -212,7 +213,7 @@ module _ (c n : Bytes) where
         rw (← name-at m)
         (own-differs (suc k) (rows 4 c i m) (part c (i + 4 * m) 4) (rows 4 c (i + 4 * m + 4) r)
         (rows 8 n j m) (part n (j + 8 * m) 8) (rows 8 n (j + 8 * m + 8) r)
-        (length-rows 4 c i m ∙ sym (length-rows 8 n j m)) f
+        (rows-length 4 c i m ∙ sym (rows-length 8 n j m)) f
         (sym (ap (λ (x : List Bytes). distinct (ownNames (suc k) x (rows 8 n j (fields c)))) p
         ∙ ap (λ (x : List Bytes). distinct (ownNames (suc k) (rows 4 c i m ++ (part c (i + 4 * m) 4 ∷ rows 4 c (i + 4 * m + 4) r)) x)) q)
         ∙ facts .fields-differ (suc k) (omega arith) (omega arith)))
@@ -310,7 +311,7 @@ module _ (c n : Bytes) where
         let w : Bytes = trimmed (fieldName c n (suc m)) in
         let f : filled (trimmed (fieldName c n (suc m))) ≡ fieldName c n (suc m) = filled-trimmed (fieldName c n (suc m)) (name-good m h) in
         let u : length (rows 8 c 8 k ++ (entryAt c n k m ∷ [])) ≡ suc k = within-types c n k (entryAt c n k m) m in
-        let g : length (rows 4 c (8 + 8 * types c) (suc m)) ≡ suc m = length-rows 4 c (8 + 8 * types c) (suc m) in
+        let g : length (rows 4 c (8 + 8 * types c) (suc m)) ≡ suc m = rows-length 4 c (8 + 8 * types c) (suc m) in
         taken-field d w (kindAt k m) (fieldLength c (fieldOf (suc m))) (fieldStart c (fieldOf (suc m)))
         (ne-eqb (length (rows 8 c 8 k ++ (entryAt c n k m ∷ []))) 0 (λ z. omega arith)) (not-keyed k m l) (rw (u, f) (field-new k m l h t))
         ∙ ap ruledField (with-field k m (filled w) l h t f)

@@ -1,25 +1,20 @@
 -- Rows of entries cut and joined, and a name in a row of names that differ. Assumes nothing.
 use mathlib.Core.Path.{_≡_, refl, ap, sym, _∙_}
 use mathlib.Core.Bool.{true, false}
-use mathlib.Core.List.{List, [], _∷_, _++_, append-nil, append-assoc}
+use mathlib.Core.List.{List, [], _∷_, _++_}
 use Prim.Native.Nat.{ℕ, zero, suc, _+_, _*_}
 use native.Mathlib.Omega.{arith}
 use lib.Dec.{ltb, eqb}
-use borrow.Author.Tests.{eqb-true, eq-eqb, lt-ltb}
-use lib.ListN.{length, take, drop}
-use lib.Seq.{take-add, drop-drop}
+use borrow.Author.Tests.{eq-eqb, lt-ltb}
+use lib.ListN.{length}
 use Rattle.forest.specs.Good.{on, off, is}
 use Rattle.rules.specs.Block.{Bytes, byte, part, sameBytes}
-use Rattle.statements.specs.Draft.{joinedRow, rows, placeFrom, placeOf, has, ownNames}
+use Rattle.statements.specs.Draft.{rows, placeFrom, placeOf, has, ownNames}
 use Rattle.statements.specs.Dbd.{distinct}
 use Rattle.statements.proofs.Words.{clash}
+use Rattle.statements.proofs.Written.{same-equal, same-in}
 
 -- entries by number
-pub length-rows : (w : ℕ) (b : Bytes) (i n : ℕ) → length (rows w b i n) ≡ n
-unfolding rows
-length-rows w b i zero = refl
-length-rows w b i (suc n) = ap suc (length-rows w b (i + w) n)
-
 pub rows-cons : (w : ℕ) (b : Bytes) (i n : ℕ) → rows w b i (suc n) ≡ part b i w ∷ rows w b (i + w) n
 unfolding rows
 rows-cons w b i n = refl
@@ -36,47 +31,10 @@ rows-add w b i (suc m) n =
     let y : suc m + n ≡ suc (m + n) = omega arith in
     ap (rows w b i) y ∙ ap (_∷_ (part b i w)) (rows-add w b (i + w) m n ∙ ap (λ (x : ℕ). rows w b (i + w) m ++ rows w b x n) z)
 
--- one entry more
-pub rows-last : (w : ℕ) (b : Bytes) (i n : ℕ) → rows w b i (suc n) ≡ rows w b i n ++ (part b (i + w * n) w ∷ [])
-unfolding rows
-rows-last w b i n = let z : suc n ≡ n + 1 = omega arith in ap (rows w b i) z ∙ rows-add w b i n 1
-
 -- the entry behind m others, and what follows it
 pub rows-split : (w : ℕ) (b : Bytes) (i m n : ℕ) → rows w b i (m + suc n) ≡ rows w b i m ++ (part b (i + w * m) w ∷ rows w b (i + w * m + w) n)
 unfolding rows
 rows-split w b i m n = rows-add w b i m (suc n)
-
-pub joined-rows : (w : ℕ) (b : Bytes) (i n : ℕ) → joinedRow (rows w b i n) ≡ part b i (w * n)
-unfolding rows joinedRow
-joined-rows w b i zero = let z : w * 0 ≡ 0 = omega arith in rw z
-joined-rows w b i (suc n) =
-    let z : w * suc n ≡ w + w * n = omega arith in
-    ap (λ (x : Bytes). part b i w ++ x) (joined-rows w b (i + w) n ∙ ap (take (w * n)) (sym (drop-drop w i b)))
-    ∙ sym (take-add w (w * n) (drop i b)) ∙ ap (λ (x : ℕ). part b i x) (sym z)
-
-pub joined-last : (xs : List Bytes) (x : Bytes) → joinedRow (xs ++ (x ∷ [])) ≡ joinedRow xs ++ x
-unfolding joinedRow
-joined-last [] x = append-nil x
-joined-last (y ∷ ys) x = ap (λ (z : Bytes). y ++ z) (joined-last ys x) ∙ sym (append-assoc y (joinedRow ys) x)
-
--- bytes that are the same
-same-in : (x y : ℕ) (xs ys : Bytes) → eqb x y ≡ true → sameBytes (x ∷ xs) (y ∷ ys) ≡ sameBytes xs ys
-unfolding sameBytes
-same-in x y xs ys h = rw (sameBytes, h)
-
-same-out : (x y : ℕ) (xs ys : Bytes) → eqb x y ≡ false → sameBytes (x ∷ xs) (y ∷ ys) ≡ false
-unfolding sameBytes
-same-out x y xs ys h = rw (sameBytes, h)
-
-pub same-equal : (xs ys : Bytes) → sameBytes xs ys ≡ true → xs ≡ ys
-unfolding sameBytes
-same-equal [] [] e = refl
-same-equal [] (y ∷ ys) e = clash e
-same-equal (x ∷ xs) [] e = clash e
-same-equal (x ∷ xs) (y ∷ ys) e = elim (is (eqb x y)) [
-  | on h ↦ (let z : sameBytes xs ys ≡ true = sym (same-in x y xs ys h) ∙ e in let q : x ≡ y = eqb-true x y h in rw (q, same-equal xs ys z))
-  | off h ↦ clash (sym (same-out x y xs ys h) ∙ e)
-]
 
 pub same-self : (xs : Bytes) → sameBytes xs xs ≡ true
 unfolding sameBytes

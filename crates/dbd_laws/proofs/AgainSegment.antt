@@ -23,9 +23,10 @@ use Rattle.statements.specs.Statement.{parent, noParent, suits}
 use Rattle.statements.specs.Draft.{catalogueOf, rows, placeFrom, placeOf, has, withType, goes, ruledType, begun, taken}
 use Rattle.statements.specs.Dbd.{nameAt, goodName, distinct, segmentName, parentWord, segmStatement}
 use Rattle.statements.proofs.Words.{clash}
-use Rattle.statements.proofs.Written.{Good}
+use Rattle.statements.proofs.Written.{Good, same-equal}
 use Rattle.statements.proofs.Named.{name-trimmed, filled-trimmed, name-long}
-use Rattle.dbd_laws.proofs.AgainRows.{length-rows, rows-none, rows-last, rows-split, same-equal, same-self, distinct-middle, place-behind}
+use Rattle.statements.proofs.Rows.{rows-length, rows-last}
+use Rattle.dbd_laws.proofs.AgainRows.{rows-none, rows-split, same-self, distinct-middle, place-behind}
 use Rattle.dbd_laws.proofs.AgainGood.{type-again}
 use Rattle.dbd_laws.proofs.AgainBlock.{upTo, within, within-types, block-before, block-entry}
 use Rattle.dbd_laws.proofs.AgainFacts.{Facts}
@@ -119,7 +120,7 @@ module _ (c n : Bytes) where
         ap (rows 8 n 16) z ∙ rows-split 8 n 16 q (k - suc q) ∙ rw (segment-at q) in
         ap (placeFrom 1 (segmentName n (suc q))) r
         ∙ place-behind 1 (rows 8 n 16 q) (segmentName n (suc q)) (rows 8 n (16 + 8 * q + 8) (k - suc q)) (segment-new q (omega arith))
-        ∙ omega (arith, length-rows 8 n 16 q)
+        ∙ omega (arith, rows-length 8 n 16 q)
 
     segment-good : (k : ℕ) → k ≤ types c → goodName (segmentName n k) ≡ true
     unfolding segmentName
@@ -227,7 +228,7 @@ module _ (c n : Bytes) where
         let h = header-facts c (facts .good) in
         let f : filled (trimmed (segmentName n (suc k))) ≡ segmentName n (suc k) =
         filled-trimmed (segmentName n (suc k)) (segment-good (suc k) (omega arith)) in
-        let r : length (rows 8 c 8 k) ≡ k = length-rows 8 c 8 k in
+        let r : length (rows 8 c 8 k) ≡ k = rows-length 8 c 8 k in
         let b : length (nameAt n 0) ≡ 8 = name-long (nameAt n 0) (facts .name 0 (omega arith)) in
         let t : length (within c n k (opened c n k) m .types) ≡ suc k = within-types c n k (opened c n k) m in
         taken-segm (upTo c n k m) (trimmed (segmentName n (suc k))) (parentWord c n (suc k)) (lengthOf c (code (suc k)))

@@ -1,12 +1,12 @@
 -- A pair that the writer refuses is read from no text (R84). Assumes nothing.
-use mathlib.Core.Path.{_≡_, refl, ap, sym, _∙_}
-use mathlib.Core.Bool.{Bool, true, false}
+use mathlib.Core.Path.{_≡_, ap, sym, _∙_}
+use mathlib.Core.Bool.{true}
 use mathlib.Core.Option.{Option, none, some}
 use Prim.Native.Nat.{ℕ}
 use native.Mathlib.Omega.{arith}
 use Rattle.rules.specs.Block.{Bytes}
-use Rattle.statements.specs.Dbd.{Reading, dbdRead, couldGive, dbdWrite, statements, spelled}
-use Rattle.dbd_laws.specs.RoundTrip.{given, RefusesRest}
+use Rattle.statements.specs.Dbd.{Reading, dbdRead, couldGive, dbdWrite}
+use Rattle.dbd_laws.specs.RoundTrip.{RefusesRest}
 use Rattle.dbd_laws.proofs.Accepted.{accepts-given}
 
 isSome : Option Bytes → ℕ

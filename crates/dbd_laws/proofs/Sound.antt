@@ -7,7 +7,7 @@ use native.Mathlib.Omega.{arith}
 use lib.Dec.{leb, eqb}
 use lib.ListN.{length, getD, length-append, List·getD-append}
 use borrow.Author.Tests.{leb-true, le-leb, eqb-true}
-use Rattle.terms.specs.Names.{code, field}
+use Rattle.terms.specs.Names.{code}
 use Rattle.rules.specs.Block.{Bytes, byte}
 use Rattle.rules.specs.Catalogue.{types, typeByte, parentOf, lengthOf, fieldType, fieldStart, fieldLength, isType, goodSpan, goodType, goodField}
 use Rattle.rules.proofs.Catalogue.{par}

@@ -1,11 +1,11 @@
 -- A statement as the writer has it is read as that statement. Assumes nothing.
-use mathlib.Core.Path.{_≡_, refl, ap, sym, _∙_}
-use mathlib.Core.Bool.{Bool, true, false, _&&_, not}
-use mathlib.Core.Option.{Option, none, some}
+use mathlib.Core.Path.{_≡_, refl, ap, _∙_}
+use mathlib.Core.Bool.{Bool, true, false, _&&_}
+use mathlib.Core.Option.{some}
 use mathlib.Core.List.{List, [], _∷_, _++_}
 use Prim.Native.Nat.{ℕ, zero, suc, _+_, _-_, _*_, _/_, _%_, _<_, _≤_}
 use native.Mathlib.Omega.{arith}
-use lib.Dec.{ltb, leb, eqb}
+use lib.Dec.{leb}
 use lib.ListN.{drop}
 use borrow.Author.Tests.{lt-ltb, le-ltb, le-leb}
 use Rattle.forest.specs.Forest.{inside, outside, side}
@@ -13,9 +13,9 @@ use Rattle.forest.specs.Good.{both-left, both-right}
 use Rattle.rules.specs.Block.{Bytes, every, sameBytes}
 use Rattle.rules.specs.Listing.{digits, decimal}
 use Rattle.statements.specs.Text.{bytesOf}
-use Rattle.statements.specs.Words.{Token, word, sign, isDigit, isName, isNumber, valueFrom, value}
+use Rattle.statements.specs.Words.{Token, word, isDigit, isName, isNumber, valueFrom, value}
 use Rattle.statements.proofs.Words.{clash, every-in, every-head, every-tail}
-use Rattle.statements.specs.Statement.{Statement, dbd, segm, field, Slot, name, number, parent, wordDbd, wordSegm, wordField, wordName, wordParent, wordBytes, wordStart, wordType, wordSeq, noParent, suits, marks, fits, formed, dbdForm, segmForm, spanForm, fieldForm, keyForm, wordIn, wordAt, kindOf, dbdOf, segmOf, fieldOf, keyOf, statementOf, nameTokens, tokensOf}
+use Rattle.statements.specs.Statement.{dbd, segm, field, Slot, name, number, parent, wordDbd, wordSegm, wordField, wordName, wordParent, wordBytes, wordStart, wordType, wordSeq, suits, marks, fits, formed, dbdForm, segmForm, spanForm, fieldForm, keyForm, wordIn, wordAt, kindOf, dbdOf, segmOf, fieldOf, keyOf, statementOf, nameTokens, tokensOf}
 
 -- the digit behind the others
 value-last : (a : ℕ) (xs : Bytes) (d : ℕ) → valueFrom a (xs ++ (d ∷ [])) ≡ 10 * valueFrom a xs + (d - 0x30)
