@@ -7,12 +7,12 @@ use dbd_names::is_own;
 use dbd_names::write;
 ghost use mathlib.Core.Path.{_≡_};
 ghost use mathlib.Core.Bool.{true};
-ghost use Prim.Native.Nat.{_<_};
+ghost use Prim.Native.Nat.{_≤_, _<_};
 ghost use lib.ListN.{length};
 ghost use Rattle.rules.specs.Catalogue.{types, fields};
 ghost use Rattle.statements.specs.Statement.{field};
 ghost use Rattle.statements.specs.Draft.{taken, withField};
-ghost use Rattle.dbd_draft.specs.Kept.{draftOf, Sound, Left, Named, Keyed};
+ghost use Rattle.dbd_draft.specs.Kept.{draftOf, Sound, Left, Keyed};
 
 // The key of the last type: kind, start and length, and the zeros behind them.
 fn set_key(draft: &mut [u8], levels: &[u8; 33], kind: u8, long: u8, start: u8)
@@ -52,7 +52,7 @@ pub(crate) fn take_field(
     long: u8,
     start: u8,
 ) -> Judged
-    requires { ⌜ Sound (now draft) (now levels) × Named (now word) ⌝ }
+    requires { ⌜ Sound (now draft) (now levels) × (length (now word) ≤ 8) ⌝ }
     ensures { λ r. ⌜ Left r (now (draft .exit)) (now (levels .entry)) (taken (draftOf (now (draft .entry))) (field (now (word .entry)) kind long start)) ⌝ }
 {
     let top = draft[5];

@@ -8,8 +8,9 @@ use dbd_names::place_of;
 use dbd_names::write;
 use terms::TypeCode;
 ghost use mathlib.Core.Path.{_≡_};
-ghost use Prim.Native.Nat.{_≤_};
+ghost use Prim.Native.Nat.{_≤_, _<_};
 ghost use lib.ListN.{length};
+ghost use Rattle.rules.specs.Block.{byte};
 ghost use Rattle.statements.specs.Statement.{dbd, segm};
 ghost use Rattle.statements.specs.Draft.{taken, ruledType, withType};
 ghost use Rattle.dbd_draft.specs.Kept.{draftOf, Sound, Left, Named};
@@ -29,7 +30,7 @@ pub(crate) fn take_dbd(draft: &mut [u8], levels: &[u8; 33], word: &[u8]) -> Judg
 
 // The type with its name, if the rules let it be the next one.
 fn add_type(draft: &mut [u8], levels: &mut [u8; 33], name: &[u8; 8], above: u8, long: u8) -> Judged
-    requires { ⌜ Sound (now draft) (now levels) ⌝ }
+    requires { ⌜ Sound (now draft) (now levels) × (0 < byte (now draft) 520) ⌝ }
     ensures { λ r. ⌜ Left r (now (draft .exit)) (now (levels .exit)) (ruledType (withType (draftOf (now (draft .entry))) (now (name .entry)) above long)) ⌝ }
 {
     let top = draft[5];
@@ -57,7 +58,7 @@ pub(crate) fn take_segm(
     parent: &[u8],
     long: u8,
 ) -> Judged
-    requires { ⌜ Sound (now draft) (now levels) × Named (now word) × Named (now parent) ⌝ }
+    requires { ⌜ Sound (now draft) (now levels) × (length (now word) ≤ 8) × (length (now parent) ≤ 8) ⌝ }
     ensures { λ r. ⌜ Left r (now (draft .exit)) (now (levels .exit))
         (taken (draftOf (now (draft .entry))) (segm (now (word .entry)) (now (parent .entry)) long)) ⌝ }
 {
