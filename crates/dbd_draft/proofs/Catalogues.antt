@@ -1,17 +1,17 @@
 -- The block of a draft that an array keeps: it has the array's bytes, and its types and fields are judged by them. Assumes nothing.
 use mathlib.Core.Path.{_≡_, refl, ap, sym, _∙_}
 use mathlib.Core.Bool.{Bool, true, false, _&&_}
-use mathlib.Core.List.{List, [], _∷_, _++_}
-use Prim.Native.Nat.{ℕ, zero, suc, _+_, _-_, _*_, _<_, _≤_}
+use mathlib.Core.List.{[], _∷_, _++_}
+use Prim.Native.Nat.{ℕ, suc, _+_, _*_, _<_, _≤_}
 use native.Mathlib.Omega.{arith}
-use lib.Dec.{ltb, leb, eqb}
+use lib.Dec.{ltb}
 use lib.ListN.{length, length-append, List·getD-append}
 use lib.Seq.{getD-append-add}
 use borrow.Author.Tests.{le-leb}
-use Rattle.terms.specs.Names.{code, field}
+use Rattle.terms.specs.Names.{field}
 use Rattle.rules.specs.Block.{Bytes, byte, part}
 use Rattle.rules.specs.Catalogue.{types, fields, typeByte, keyKind, lengthOf, fieldByte, fieldType, fieldStart, fieldLength, isType, goodSpan, goodField}
-use Rattle.statements.specs.Draft.{header, joinedRow, rows, catalogueOf, isKeyed}
+use Rattle.statements.specs.Draft.{header, catalogueOf, isKeyed}
 use Rattle.statements.proofs.Rows.{rows-length, joined-rows, part-then, part-length, part-byte}
 use Rattle.dbd_draft.specs.Kept.{draftOf, Sound}
 use Rattle.dbd_draft.proofs.Drafts.{types-are}

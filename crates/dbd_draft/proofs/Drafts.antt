@@ -1,14 +1,12 @@
 -- The draft that an array keeps, after bytes were written: what each write makes of its rows. Assumes nothing.
 use mathlib.Core.Path.{_≡_, refl, ap, sym, _∙_}
-use mathlib.Core.Bool.{Bool, true, false}
+use mathlib.Core.Bool.{true, false}
 use mathlib.Core.List.{List, [], _∷_, _++_}
-use Prim.Native.Nat.{ℕ, zero, suc, _+_, _-_, _*_, _<_, _≤_}
+use Prim.Native.Nat.{ℕ, zero, suc, _+_, _*_, _<_, _≤_}
 use native.Mathlib.Omega.{arith}
-use lib.Dec.{ltb, eqb}
-use lib.ListN.{length, take, drop, set}
+use lib.ListN.{length, take, drop}
 use lib.Seq.{sets, length-sets, take-take}
-use borrow.Author.Tests.{ne-eqb, eq-eqb, lt-ltb}
-use Rattle.terms.specs.Choice.{pick}
+use borrow.Author.Tests.{ne-eqb}
 use Rattle.rules.specs.Block.{Bytes, byte, part}
 use Rattle.rules.specs.Catalogue.{types, fields}
 use Rattle.statements.specs.Draft.{Draft, rows, withKey, withType, withField, begun}

@@ -1,15 +1,14 @@
 -- R78: what becomes of a statement, by one law for each way through the code. Assumes nothing.
 use mathlib.Core.Path.{_≡_, refl, ap, sym, _∙_}
 use mathlib.Core.Bool.{Bool, true, false, _&&_, _||_, not}
-use mathlib.Core.List.{List, [], _∷_, _++_}
-use Prim.Native.Nat.{ℕ, zero, suc, _+_, _-_, _*_, _<_, _≤_}
+use mathlib.Core.List.{[], _∷_}
+use Prim.Native.Nat.{ℕ, suc, _+_, _-_, _*_, _<_, _≤_}
 use native.Mathlib.Omega.{arith}
-use lib.Dec.{ltb, leb, eqb}
+use lib.Dec.{ltb, eqb}
 use lib.ListN.{length, take, drop, set, replicate, length-append, length-set, length-replicate, length-take, length-drop, List·getD-append}
 use lib.Seq.{sets, length-sets, take-all}
-use borrow.Author.Tests.{lt-ltb, le-ltb, eq-eqb, ne-eqb, leb-true}
-use Rattle.forest.specs.Good.{on, off, is}
-use Rattle.forest.specs.Forest.{inside, outside, side}
+use borrow.Author.Tests.{lt-ltb, le-ltb, eq-eqb, ne-eqb}
+use Rattle.forest.specs.Good.{is}
 use Rattle.terms.specs.Choice.{pick}
 use Rattle.rules.specs.Block.{Bytes, byte, part, sameBytes}
 use Rattle.rules.specs.Catalogue.{types, fields, goodSpan, goodType}
@@ -23,7 +22,7 @@ use Rattle.dbd_draft.specs.declared.Judged.{Judged}
 use Rattle.dbd_draft.specs.declared.Judged.the-variants.{Good, Misplaced, Twice, Orphan, Unruled}
 use Rattle.dbd_draft.specs.Kept.{draftOf, Sound, Named, Left}
 use Rattle.dbd_draft.proofs.Writes.{made, kept-before, kept-behind}
-use Rattle.dbd_draft.proofs.Drafts.{keyBytes, types-are, fields-are, begun-not, begun-so, based}
+use Rattle.dbd_draft.proofs.Drafts.{keyBytes, types-are, begun-not, begun-so, based}
 use Rattle.dbd_draft.proofs.Sounds.{based-sound, typeEntry, typeWritten, type-long, type-next, type-draft, type-sound}
 use Rattle.dbd_draft.proofs.Sounds.{keyed-sound, fieldWritten, field-long, field-draft, field-sound}
 use Rattle.dbd_draft.proofs.Catalogues.{framed, keyed-is}

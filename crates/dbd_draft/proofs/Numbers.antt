@@ -1,14 +1,13 @@
 -- A number that a byte does not hold: 255 in its place leaves what becomes of the statement. Assumes nothing.
-use mathlib.Core.Path.{_≡_, refl, ap, sym, _∙_}
+use mathlib.Core.Path.{_≡_, refl, sym, _∙_}
 use mathlib.Core.Bool.{Bool, true, false, _&&_, _||_, not}
-use Prim.Native.Nat.{ℕ, zero, suc, _+_, _-_, _*_, _<_, _≤_}
+use Prim.Native.Nat.{ℕ, _+_, _-_, _*_, _<_, _≤_}
 use native.Mathlib.Omega.{arith}
 use lib.Dec.{ltb, leb, eqb}
 use lib.ListN.{length}
 use borrow.Author.Tests.{lt-ltb, le-ltb, leb-true, eqb-false}
 use Rattle.forest.specs.Good.{on, off, is}
 use Rattle.forest.specs.Forest.{inside, outside, side}
-use Rattle.terms.specs.Choice.{pick}
 use Rattle.rules.specs.Block.{Bytes, byte, sameBytes}
 use Rattle.rules.specs.Catalogue.{types, fields, goodSpan}
 use Rattle.rules.proofs.Joined.{three}

@@ -1,21 +1,17 @@
 -- Two blocks whose entries of types are the same: their types are in order alike, and have the same lineage, level and test. Assumes nothing.
 use mathlib.Core.Path.{_≡_, refl, ap, sym, _∙_}
-use mathlib.Core.Bool.{Bool, true, false, _&&_}
-use mathlib.Core.List.{List, [], _∷_}
+use mathlib.Core.Bool.{true, false}
+use mathlib.Core.List.{_∷_}
 use Prim.Native.Nat.{ℕ, zero, suc, _+_, _-_, _*_, _<_, _≤_}
 use native.Mathlib.Omega.{arith}
-use lib.Dec.{ltb, leb, eqb}
 use lib.ListN.{length}
 use borrow.Author.Tests.{lt-ltb}
 use Rattle.forest.specs.Types as Types
-use Rattle.forest.specs.Numbers.{isIn}
 use Rattle.forest.specs.Good.{on, off, is}
-use Rattle.terms.specs.Choice.{pick}
 use Rattle.terms.specs.Names.{code}
-use Rattle.rules.specs.Block.{Bytes, byte, part, zeros}
-use Rattle.rules.specs.Catalogue.{typeByte, parentOf, lengthOf, keyKind, keyStart, keyLength, lineage, level, goodSpan, goodKey, goodParent, goodType}
+use Rattle.rules.specs.Block.{Bytes, part}
+use Rattle.rules.specs.Catalogue.{typeByte, parentOf, lengthOf, keyKind, keyStart, keyLength, lineage, level, goodKey, goodParent, goodType}
 use Rattle.rules.proofs.Catalogue.{par, parent-low}
-use Rattle.catalogue.specs.Levels.{Ordered, Levels}
 use Rattle.catalogue_check.specs.Levelled.{Ready}
 use Rattle.statements.proofs.Rows.{Alike, part-alike}
 

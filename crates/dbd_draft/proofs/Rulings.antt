@@ -1,22 +1,21 @@
 -- R78: whether the rules let a type or a field be added to the draft that an array keeps, told by the array's bytes. Assumes nothing.
 use mathlib.Core.Path.{_≡_, refl, ap, sym, _∙_}
-use mathlib.Core.Bool.{Bool, true, false, _&&_}
-use mathlib.Core.List.{List, [], _∷_, _++_}
-use Prim.Native.Nat.{ℕ, zero, suc, _+_, _-_, _*_, _<_, _≤_}
+use mathlib.Core.Bool.{true, false}
+use mathlib.Core.List.{[], _∷_, _++_}
+use Prim.Native.Nat.{ℕ, suc, _+_, _*_, _<_, _≤_}
 use native.Mathlib.Omega.{arith}
-use lib.Dec.{ltb, leb, eqb}
+use lib.Dec.{leb, eqb}
 use lib.ListN.{length, set, length-append}
-use lib.Seq.{sets, getD-set-other}
-use borrow.Author.Tests.{le-leb, lt-leb, leb-true, eqb-true, eq-eqb}
+use lib.Seq.{sets}
+use borrow.Author.Tests.{le-leb, lt-leb, leb-true, eqb-true}
 use Rattle.forest.specs.Good.{on, off, is}
 use Rattle.terms.specs.Choice.{pick}
 use Rattle.terms.specs.Names.{code}
 use Rattle.rules.specs.Block.{Bytes, byte, part, zeros}
 use Rattle.rules.specs.Catalogue.{types, fields, typeByte, lengthOf, level, goodSpan, goodKey, goodParent, goodType, goodField}
 use Rattle.rules.proofs.Joined.{six}
-use Rattle.catalogue_check.proofs.EntryTests.{type-no-parent, type-no-length}
-use Rattle.statements.specs.Draft.{Draft, withKey, withType, withField, catalogueOf, ruledType, ruledField, goes, bad, unruled}
-use Rattle.statements.proofs.Rows.{Alike, part-byte}
+use Rattle.statements.specs.Draft.{Draft, withType, withField, catalogueOf, ruledType, ruledField, goes, bad, unruled}
+use Rattle.statements.proofs.Rows.{part-byte}
 use Rattle.dbd_draft.specs.Kept.{draftOf, Sound}
 use Rattle.dbd_draft.proofs.Writes.{kept-before}
 use Rattle.dbd_draft.proofs.Ordered.{type-same}

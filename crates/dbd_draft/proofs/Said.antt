@@ -1,15 +1,14 @@
 -- What a line says, as the functions for its statement are asked for it. Assumes nothing.
 use mathlib.Core.Path.{_≡_, refl, ap, sym, _∙_}
-use mathlib.Core.Bool.{Bool, true, false, _&&_}
+use mathlib.Core.Bool.{true, false}
 use mathlib.Core.Option.{Option, none, some}
-use mathlib.Core.List.{List, [], _∷_, _++_}
-use Prim.Native.Nat.{ℕ, zero, suc, _+_, _-_, _*_, _<_, _≤_}
+use mathlib.Core.List.{List, [], _∷_}
+use Prim.Native.Nat.{ℕ, zero, suc, _-_, _<_, _≤_}
 use native.Mathlib.Omega.{arith}
-use lib.ListN.{length, getD, take, drop}
+use lib.ListN.{length, getD}
 use Rattle.forest.specs.Good.{on, off, is, both-left}
-use Rattle.rules.specs.Block.{Bytes, byte, part}
+use Rattle.rules.specs.Block.{Bytes, byte}
 use Rattle.dbd_words.specs.declared.Span.{Span}
-use Rattle.dbd_words.specs.Capped.{capped}
 use Rattle.dbd_words.specs.Row.{cut}
 use Rattle.dbd_line.specs.declared.Line.{Line}
 use Rattle.dbd_line.specs.declared.Line.the-variants.{Empty, Wrong, IsDbd, IsSegm, IsField}

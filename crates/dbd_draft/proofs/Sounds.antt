@@ -1,9 +1,9 @@
 -- What is kept besides the draft stays sound when bytes are written. Assumes nothing.
-use mathlib.Core.Path.{_≡_, refl, ap, sym, _∙_}
-use mathlib.Core.List.{List, [], _∷_, _++_}
-use Prim.Native.Nat.{ℕ, zero, suc, _+_, _-_, _*_, _<_, _≤_}
+use mathlib.Core.Path.{_≡_, ap, sym, _∙_}
+use mathlib.Core.List.{[], _∷_}
+use Prim.Native.Nat.{ℕ, suc, _+_, _-_, _*_, _<_, _≤_}
 use native.Mathlib.Omega.{arith}
-use lib.ListN.{length, take, drop, set, length-set}
+use lib.ListN.{length, set, length-set}
 use lib.Seq.{sets, length-sets, take-set-lt, getD-set-same, getD-set-other}
 use Rattle.rules.specs.Block.{Bytes, byte, part}
 use Rattle.rules.specs.Catalogue.{types, fields}

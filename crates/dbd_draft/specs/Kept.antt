@@ -35,7 +35,7 @@ pub record Sound (b levels : Bytes) : Type 0 where
   pub low : byte b (8 * types b + 1) ≤ 120
   pub based : 0 < types b → 0 < byte b 520
 
--- a name, or the word 0
+-- a name of 1 to 8 bytes, the first of which is no zero
 pub record Named (w : Bytes) : Type 0 where
   pub some : 0 < byte w 0
   pub begun : 0 < length w

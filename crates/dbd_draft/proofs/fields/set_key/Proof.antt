@@ -1,14 +1,6 @@
 use borrow.Author.Needs.{needs}
-use mathlib.Core.List.{[], _∷_}
-use mathlib.Core.Path.{_≡_, refl, ap, sym, _∙_}
-use mathlib.Core.Logic.{⊎-elim}
-use Prim.Native.Nat.{_+_, _*_, _-_, _≤_, _<_}
 use native.Mathlib.Omega.{arith}
-use lib.ListN.{length, set, length-set}
-use lib.Seq.{sets, length-sets}
-use Rattle.rules.specs.Block.{byte}
 use Rattle.rules.specs.Catalogue.{types, fields}
-use Rattle.dbd_draft.proofs.Sounds.{keyed-sound}
 use Rattle.dbd_draft.proofs.Judgements.{key-kept}
 use Rattle.dbd_draft.proofs.fields.set_key.Statement.{statement}
 use Rattle.dbd_draft.proofs.fields.set_key.Tie as tie

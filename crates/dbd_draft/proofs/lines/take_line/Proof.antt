@@ -1,5 +1,4 @@
 use borrow.Author.Needs.{needs}
-use mathlib.Core.Path.{_≡_, refl, ap, sym, _∙_}
 use Rattle.dbd_draft.specs.Kept.{draftOf}
 use Rattle.dbd_draft.proofs.Judgements.{left-misplaced, left-as}
 use Rattle.dbd_draft.proofs.Said.{line-empty, on-empty, on-wrong, on-dbd, on-segm, on-field}

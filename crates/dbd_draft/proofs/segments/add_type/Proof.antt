@@ -1,13 +1,7 @@
 use borrow.Author.Needs.{needs}
-use mathlib.Core.List.{[], _∷_}
-use mathlib.Core.Path.{_≡_, refl, ap, sym, _∙_}
-use mathlib.Core.Logic.{⊎-elim}
-use Prim.Native.Nat.{_+_, _*_, _-_, _≤_, _<_}
+use mathlib.Core.Path.{refl, _∙_}
 use native.Mathlib.Omega.{arith}
-use lib.ListN.{length, set, length-set}
-use lib.Seq.{sets, length-sets}
-use Rattle.rules.specs.Block.{byte}
-use Rattle.rules.specs.Catalogue.{types, fields}
+use Rattle.rules.specs.Catalogue.{types}
 use Rattle.dbd_draft.proofs.Judgements.{left-unruled, type-stays, type-asks, type-bad, type-good}
 use Rattle.dbd_draft.proofs.Rulings.{type-full}
 use Rattle.blocks.proofs.Negated.{told-no, told-yes}

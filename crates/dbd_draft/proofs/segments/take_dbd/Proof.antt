@@ -1,11 +1,5 @@
-use mathlib.Core.Path.{_≡_, refl, ap, sym, _∙_}
-use mathlib.Core.Logic.{⊎-elim}
-use Prim.Native.Nat.{_+_, _*_, _-_, _≤_, _<_}
-use native.Mathlib.Omega.{arith}
-use lib.ListN.{length, set, length-set}
-use lib.Seq.{sets, length-sets}
-use Rattle.rules.specs.Block.{byte}
-use Rattle.rules.specs.Catalogue.{types, fields}
+use mathlib.Core.Path.{ap, _∙_}
+use lib.Seq.{sets}
 use Rattle.dbd_draft.proofs.Judgements.{left-misplaced, dbd-again, dbd-taken}
 use borrow.Author.Needs.{needs}
 use Rattle.dbd_draft.proofs.segments.take_dbd.Statement.{statement}

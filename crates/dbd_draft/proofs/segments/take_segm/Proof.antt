@@ -1,13 +1,10 @@
 use borrow.Author.Needs.{needs}
-use mathlib.Core.List.{[], _∷_}
-use mathlib.Core.Path.{_≡_, refl, ap, sym, _∙_}
+use mathlib.Core.Path.{ap, sym, _∙_}
 use mathlib.Core.Logic.{⊎-elim}
-use Prim.Native.Nat.{_+_, _*_, _-_, _≤_, _<_}
+use Prim.Native.Nat.{_*_}
 use native.Mathlib.Omega.{arith}
-use lib.ListN.{length, set, length-set}
-use lib.Seq.{sets, length-sets}
 use Rattle.rules.specs.Block.{byte}
-use Rattle.rules.specs.Catalogue.{types, fields}
+use Rattle.rules.specs.Catalogue.{types}
 use borrow.Author.Tests.{not-true}
 use Rattle.statements.specs.Draft.{ruledType, withType}
 use Rattle.dbd_draft.specs.Kept.{draftOf}
