@@ -85,5 +85,15 @@ module _ (b : Bytes) (s : Framed b) where
     unfolding goodField isType fieldType fieldStart fieldLength lengthOf typeByte
     last-good =
         let o : byte (catalogueOf (draftOf b)) (8 * types b + 1) ≡ byte b (8 * types b + 1) = block-byte (8 * types b + 1) (omega arith) in
-        rw (own-byte 0 (omega arith), own-byte 1 (omega arith), own-byte 2 (omega arith), own-byte 3 (omega arith), block-types, o, le-leb 1 (types b) (omega arith), le-leb (types b) (types b) (omega arith))
+        rw (
+          own-byte 0 (omega arith),
+          own-byte 1 (omega arith),
+          own-byte 2 (omega arith),
+          own-byte 3 (omega arith),
+          block-types,
+          o,
+          le-leb 1 (types b)
+              (omega arith),
+          le-leb (types b) (types b) (omega arith),
+        )
         (both (goodSpan start long (byte b (8 * types b + 1))))

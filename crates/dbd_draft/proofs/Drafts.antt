@@ -19,7 +19,8 @@ abbrev pub keyBytes : ℕ → ℕ → ℕ → Bytes
 keyBytes kind start long = kind ∷ start ∷ long ∷ 0 ∷ 0 ∷ 0 ∷ []
 
 drafts : (a x : Bytes) (b y c z d v e w : List Bytes) → a ≡ x → b ≡ y → c ≡ z → d ≡ v → e ≡ w
-    → _≡_ {A = Draft} (record { base = a; types = b; fields = c; segmentNames = d; fieldNames = e }) (record { base = x; types = y; fields = z; segmentNames = v; fieldNames = w })
+    → _≡_ {A = Draft} (record { base = a; types = b; fields = c; segmentNames = d; fieldNames = e })
+    (record { base = x; types = y; fields = z; segmentNames = v; fieldNames = w })
 drafts a x b y c z d v e w i j k l m = rw (i, j, k, l, m)
 
 -- how many there are
@@ -57,7 +58,14 @@ module _ (b c : Bytes) (m : length b ≡ 1296) (n : length c ≡ 1296) where
   module _ (few : types b ≤ 32) (fewFields : fields b ≤ 64) where
     -- the data base's name
     pub based : types c ≡ types b → fields c ≡ fields b → Alike c b 8 520 → Alike c b 528 1296 → (name : Bytes) → part c 520 8 ≡ name → (byte c 520 ≡ 0 → ⊥)
-        → draftOf c ≡ record { base = name; types = draftOf b .types; fields = draftOf b .fields; segmentNames = draftOf b .segmentNames; fieldNames = draftOf b .fieldNames }
+        → draftOf c ≡ record {
+          base = name;
+          types = draftOf b .types;
+          fields = draftOf b .fields;
+          segmentNames = draftOf b .segmentNames;
+          fieldNames = draftOf
+              b .fieldNames;
+        }
     unfolding draftOf
     based t f s r name e h =
         drafts _ _ _ _ _ _ _ _ _ _ (rw (ne-eqb (byte c 520) 0 h, e))
@@ -67,7 +75,8 @@ module _ (b c : Bytes) (m : length b ≡ 1296) (n : length c ≡ 1296) where
         (rows-kept 8 784 (fields b) (fields c) f (omega arith) (λ j l k. r j (omega arith) (omega arith)))
 
     -- one type more
-    pub typed : types b < 32 → types c ≡ suc (types b) → fields c ≡ fields b → Alike c b 8 (8 + 8 * types b) → Alike c b 264 (528 + 8 * types b) → Alike c b 784 1296
+    pub typed : types b < 32 → types c ≡ suc (types b) → fields c ≡ fields b → Alike c b 8 (8 + 8 * types b) → Alike c b 264 (528 + 8 * types b)
+        → Alike c b 784 1296
         → (name : Bytes) (above long : ℕ) → part c (8 + 8 * types b) 8 ≡ above ∷ long ∷ 0 ∷ 0 ∷ 0 ∷ 0 ∷ 0 ∷ 0 ∷ [] → part c (528 + 8 * types b) 8 ≡ name
         → draftOf c ≡ withType (draftOf b) name above long
     unfolding draftOf withType
@@ -87,7 +96,8 @@ module _ (b c : Bytes) (m : length b ≡ 1296) (n : length c ≡ 1296) where
         let z : length (rows 8 b 8 (types b)) ≡ types b = rows-length 8 b 8 (types b) in
         drafts _ _ _ _ _ _ _ _ _ _ (base-kept (λ j l k. r j (omega arith) (omega arith)))
         (rows-kept 8 8 (types b) (types c) t (omega arith) (λ j l k. s j (omega arith) (omega arith)))
-        (rows-more 4 264 (fields b) (fields c) (length (rows 8 b 8 (types b)) ∷ start ∷ long ∷ 0 ∷ []) f (omega arith) (λ j l k. s j (omega arith) (omega arith)) (rw z e))
+        (rows-more 4 264 (fields b) (fields c) (length (rows 8 b 8 (types b)) ∷ start ∷ long ∷ 0 ∷ []) f (omega arith)
+        (λ j l k. s j (omega arith) (omega arith)) (rw z e))
         (rows-kept 8 528 (types b) (types c) t (omega arith) (λ j l k. r j (omega arith) (omega arith)))
         (rows-more 8 784 (fields b) (fields c) name f (omega arith) (λ j l k. r j (omega arith) (omega arith)) g)
 
@@ -110,14 +120,17 @@ key-rows b kind start long k h =
     let c = sets b (8 * suc k + 2) (keyBytes kind start long) in
     let z : 8 * suc k + 2 ≡ 8 + 8 * k + 2 = omega arith in
     let n : length c ≡ length b = length-sets b (8 * suc k + 2) (keyBytes kind start long) in
-    let s : rows 8 c 8 k ≡ rows 8 b 8 k = rows-alike 8 c b 8 k (omega arith) (omega arith) (λ j l m. kept-before (keyBytes kind start long) b (8 * suc k + 2) j (omega arith)) in
+    let s : rows 8 c 8 k ≡ rows 8 b 8 k = rows-alike 8 c b 8 k (omega arith) (omega arith)
+    (λ j l m. kept-before (keyBytes kind start long) b (8 * suc k + 2) j (omega arith)) in
     let p : part c (8 + 8 * k) 2 ≡ part b (8 + 8 * k) 2 =
     part-alike c b (8 + 8 * k) 2 (omega arith) (omega arith) (λ j l m. kept-before (keyBytes kind start long) b (8 * suc k + 2) j (omega arith)) in
     let q : part c (8 + 8 * k + 2) 6 ≡ keyBytes kind start long =
     ap (λ (i : ℕ). part c i 6) (sym z) ∙ made b (8 * suc k + 2) (keyBytes kind start long) (omega arith) in
     let e : part c (8 + 8 * k) 8 ≡ take 2 (part b (8 + 8 * k) 8) ++ keyBytes kind start long =
-    sym (part-then c (8 + 8 * k) 2 6) ∙ rw (p, q) (ap (λ (t : Bytes). t ++ keyBytes kind start long) (sym (take-take 2 8 (drop (8 + 8 * k) b) (omega arith)))) in
-    rows-last 8 c 8 k ∙ rw (s, e) (sym (with-last kind start long (rows 8 b 8 k) (part b (8 + 8 * k) 8)) ∙ ap (withKey kind start long) (sym (rows-last 8 b 8 k)))
+    sym (part-then c (8 + 8 * k) 2 6) ∙ rw (p, q) (ap (λ (t : Bytes). t ++ keyBytes kind start long) (sym (take-take 2 8 (drop (8 + 8 * k) b) (omega arith))))
+    in
+    rows-last 8 c 8 k ∙ rw (s, e) (sym (with-last kind start long (rows 8 b 8 k) (part b (8 + 8 * k) 8)) ∙ ap (withKey kind start long)
+    (sym (rows-last 8 b 8 k)))
 
 key-made : (b : Bytes) (kind start long t : ℕ) → 0 < t → 8 + 8 * t ≤ length b
     → rows 8 (sets b (8 * t + 2) (keyBytes kind start long)) 8 t ≡ withKey kind start long (rows 8 b 8 t)
@@ -127,7 +140,14 @@ key-made b kind start long (suc k) o h = key-rows b kind start long k (omega ari
 -- the key of the last type
 pub keyed : (b : Bytes) (kind start long : ℕ) → length b ≡ 1296 → 0 < types b → types b ≤ 32 → fields b ≤ 64
     → draftOf (sets b (8 * types b + 2) (keyBytes kind start long))
-    ≡ record { base = draftOf b .base; types = withKey kind start long (draftOf b .types); fields = draftOf b .fields; segmentNames = draftOf b .segmentNames; fieldNames = draftOf b .fieldNames }
+    ≡ record {
+      base = draftOf b .base;
+      types = withKey kind start long
+          (draftOf b .types);
+      fields = draftOf b .fields;
+      segmentNames = draftOf b .segmentNames;
+      fieldNames = draftOf b .fieldNames;
+    }
 unfolding draftOf types fields
 keyed b kind start long m o few fewFields =
     let c = sets b (8 * types b + 2) (keyBytes kind start long) in

@@ -16,7 +16,8 @@ use Rattle.catalogue_check.specs.Levelled.{Ready, Next}
 use Rattle.statements.specs.Text.{bytesOf}
 use Rattle.statements.specs.Words.{filled}
 use Rattle.statements.specs.Statement.{dbd, segm, field, noParent}
-use Rattle.statements.specs.Draft.{Draft, rows, placeOf, has, ownNames, withType, withField, begun, isKeyed, ruledType, ruledField, Taken, goes, bad, misplaced, twice, orphan, unruled, taken}
+use Rattle.statements.specs.Draft.{Draft, rows, placeOf, has, ownNames, withType, withField, begun, isKeyed}
+use Rattle.statements.specs.Draft.{ruledType, ruledField, Taken, goes, bad, misplaced, twice, orphan, unruled, taken}
 use Rattle.statements.proofs.Rows.{part-byte, rows-drop}
 use Rattle.dbd_draft.specs.declared.Judged.{Judged}
 use Rattle.dbd_draft.specs.declared.Judged.the-variants.{Good, Misplaced, Twice, Orphan, Unruled}
@@ -95,7 +96,8 @@ module _ (d : Draft) (n p : Bytes) (l : ℕ) where
   unfolding taken
   segm-misplaced h = rw (taken, h)
 
-  segm-twice : (not (begun d) || (sameBytes p noParent && ltb 0 (length (d .types)))) ≡ false → has (filled n) (d .segmentNames) ≡ true → taken d (segm n p l) ≡ bad twice
+  segm-twice : (not (begun d) || (sameBytes p noParent && ltb 0 (length (d .types)))) ≡ false → has (filled n) (d .segmentNames) ≡ true
+      → taken d (segm n p l) ≡ bad twice
   unfolding taken
   segm-twice h g = rw (taken, h, g)
 
@@ -137,7 +139,8 @@ pub tail-room : (b : Bytes) (k m : ℕ) → k + m ≤ length b → m ≤ length 
 tail-room b k m h = simp (length-take, length-drop) (omega arith)
 
 -- where a name stands among the segments' names
-pub place-is : (b f w : Bytes) (r : ℕ) → f ≡ filled w → r ≡ placeOf f (rows 8 (take (length b - 528) (drop 528 b)) 0 (byte b 5)) → r ≡ placeOf (filled w) (draftOf b .segmentNames)
+pub place-is : (b f w : Bytes) (r : ℕ) → f ≡ filled w → r ≡ placeOf f (rows 8 (take (length b - 528) (drop 528 b)) 0 (byte b 5))
+    → r ≡ placeOf (filled w) (draftOf b .segmentNames)
 unfolding draftOf types
 place-is b f w r e h = h ∙ rw (e, tail-rows 8 528 b (byte b 5))
 
@@ -147,7 +150,8 @@ pub own-is : (b f w : Bytes) (r : Bool) → f ≡ filled w
     → r ≡ has (filled w) (ownNames (length (draftOf b .types)) (draftOf b .fields) (draftOf b .fieldNames))
 unfolding draftOf types fields
 own-is b f w r e h =
-    h ∙ rw (e, tail-rows 4 264 b (byte b 6), tail-rows 8 784 b (byte b 6)) (ap (λ (t : ℕ). has (filled w) (ownNames t (rows 4 b 264 (byte b 6)) (rows 8 b 784 (byte b 6)))) (sym (types-are b)))
+    h ∙ rw (e, tail-rows 4 264 b (byte b 6), tail-rows 8 784 b (byte b 6))
+    (ap (λ (t : ℕ). has (filled w) (ownNames t (rows 4 b 264 (byte b 6)) (rows 8 b 784 (byte b 6)))) (sym (types-are b)))
 
 -- two small laws of tests
 and-not : (a b : Bool) → b ≡ false → (a && b) ≡ false
@@ -258,7 +262,8 @@ key-not kind k h = and-left (ltb 0 kind) (ltb 0 k) (le-ltb 0 kind (omega arith))
 -- what the rules say: too many, not good, good
 module _ (b levels : Bytes) (s : Sound b levels) (name : Bytes) (above long : ℕ) (named : length name ≡ 8) (room : types b < 32) where
   -- the array as the code has written it, and what is asked before the type is judged
-  module _ (w : ℕ) (x y : Bytes) (top : w ≡ types b) (first : x ≡ sets b (8 + 8 * w) (typeEntry above long)) (second : y ≡ sets x (520 + (8 + 8 * w)) name) where
+  module _ (w : ℕ) (x y : Bytes) (top : w ≡ types b) (first : x ≡ sets b (8 + 8 * w) (typeEntry above long))
+      (second : y ≡ sets x (520 + (8 + 8 * w)) name) where
     type-array : y ≡ typeWritten b name above long
     type-array = second ∙ rw (first, top)
 
@@ -274,7 +279,8 @@ module _ (b levels : Bytes) (s : Sound b levels) (name : Bytes) (above long : �
           let f : goodType (typeWritten b name above long) k ≡ false = rw type-array at g in
           type-ruled b levels s name above long named room k (omega arith) ∙ rw f
 
-      pub type-good : goodType y k ≡ true → (row : Bytes) → Ready y row k → 0 < byte b 520 → Left Good (set y 5 k) row (ruledType (withType (draftOf b) name above long))
+      pub type-good : goodType y k ≡ true → (row : Bytes) → Ready y row k → 0 < byte b 520
+          → Left Good (set y 5 k) row (ruledType (withType (draftOf b) name above long))
       type-good g row r o =
           let z : k ≡ suc (types b) = omega arith in
           let f : goodType (typeWritten b name above long) k ≡ true = rw type-array at g in
@@ -286,7 +292,8 @@ module _ (b levels : Bytes) (s : Sound b levels) (name : Bytes) (above long : �
           })
 
 -- the arrays as the code has written them: with a key, and with a field
-pub key-kept : (b levels : Bytes) → Sound b levels → 0 < types b → (kind start long w : ℕ) (y : Bytes) → w ≡ types b → y ≡ sets b (8 * w + 2) (keyBytes kind start long)
+pub key-kept : (b levels : Bytes) → Sound b levels → 0 < types b → (kind start long w : ℕ) (y : Bytes) → w ≡ types b
+    → y ≡ sets b (8 * w + 2) (keyBytes kind start long)
     → Sound y levels × (y ≡ sets b (8 * types b + 2) (keyBytes kind start long))
 key-kept b levels s o kind start long w y e h =
     let z : y ≡ sets b (8 * types b + 2) (keyBytes kind start long) = h ∙ rw e in

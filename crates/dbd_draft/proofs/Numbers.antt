@@ -29,7 +29,8 @@ unfolding capped
 capped-low v h = rw (le-ltb 255 v h)
 
 -- the tests before the rule do not look at the numbers
-segm-by : (d : Draft) (n p : Bytes) (v w : ℕ) → ruledType (withType d (filled n) (placeOf (filled p) (d .segmentNames)) v) ≡ ruledType (withType d (filled n) (placeOf (filled p) (d .segmentNames)) w)
+segm-by : (d : Draft) (n p : Bytes) (v w : ℕ) → ruledType (withType d (filled n) (placeOf (filled p) (d .segmentNames)) v) ≡ ruledType
+    (withType d (filled n) (placeOf (filled p) (d .segmentNames)) w)
     → taken d (segm n p v) ≡ taken d (segm n p w)
 unfolding taken
 segm-by d n p v w e =
@@ -48,7 +49,8 @@ or-left : (a b : Bool) → (a || b) ≡ false → a ≡ false
 or-left true b h = h
 or-left false b h = refl
 
-field-by : (d : Draft) (n : Bytes) (k v s w t : ℕ) → ((length (d .types) ≡ 0 → ⊥) → ruledField (withField d (filled n) k v s) ≡ ruledField (withField d (filled n) k w t))
+field-by : (d : Draft) (n : Bytes) (k v s w t : ℕ) → ((length (d .types) ≡ 0 → ⊥)
+    → ruledField (withField d (filled n) k v s) ≡ ruledField (withField d (filled n) k w t))
     → taken d (field n k v s) ≡ taken d (field n k w t)
 unfolding taken
 field-by d n k v s w t e =
@@ -56,7 +58,8 @@ field-by d n k v s w t e =
       | on h ↦ rw (taken, h)
       | off h ↦ elim (is (has (filled n) (ownNames (length (d .types)) (d .fields) (d .fieldNames)))) [
         | on g ↦ rw (taken, h, g)
-        | off g ↦ (let z : eqb (length (d .types)) 0 ≡ false = or-left (eqb (length (d .types)) 0) (ltb 0 k && isKeyed d) h in rw (taken, h, g) (e (eqb-false (length (d .types)) 0 z)))
+        | off g ↦ (let z : eqb (length (d .types)) 0 ≡ false = or-left (eqb (length (d .types)) 0) (ltb 0 k && isKeyed d) h in rw (taken, h, g)
+            (e (eqb-false (length (d .types)) 0 z)))
       ]
     ]
 
@@ -83,7 +86,8 @@ module _ (b levels : Bytes) (s : Sound b levels) (n : Bytes) (short : length n �
   span-high start long h =
       let m = byte b (8 * types b + 1) in
       elim (is (goodSpan start long m)) [
-        | on g ↦ (let t = three (leb 1 start) (leb 1 long) (leb (start + long - 1) m) g in absurd (omega (arith, s .low, leb-true 1 start (t .0), leb-true (start + long - 1) m (t .2))))
+        | on g ↦ (let t = three (leb 1 start) (leb 1 long) (leb (start + long - 1) m) g in absurd
+            (omega (arith, s .low, leb-true 1 start (t .0), leb-true (start + long - 1) m (t .2))))
         | off g ↦ g
       ]
 

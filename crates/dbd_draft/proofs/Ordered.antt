@@ -96,7 +96,8 @@ module _ (a b : Bytes) (k : ℕ) (s : Alike a b 8 (8 * suc k + 8)) (low : Types.
   pub type-same : 8 * suc k + 8 ≤ length a → 8 * suc k + 8 ≤ length b → goodType a (suc k) ≡ goodType b (suc k)
   unfolding goodType lengthOf
   type-same m n =
-      let z : part a (8 * suc k + 5) 3 ≡ part b (8 * suc k + 5) 3 = part-alike a b (8 * suc k + 5) 3 (omega arith) (omega arith) (λ j l h. s j (omega arith) (omega arith)) in
+      let z : part a (8 * suc k + 5) 3 ≡ part b (8 * suc k + 5) 3 = part-alike a b (8 * suc k + 5) 3 (omega arith) (omega arith)
+      (λ j l h. s j (omega arith) (omega arith)) in
       let e : typeByte a (code (suc k)) 1 ≡ typeByte b (code (suc k)) 1 = entry-same 1 (omega arith) in
       elim (is (goodParent a (suc k))) [
         | on g ↦ (let l : level a (code (suc k)) ≡ level b (code (suc k)) = own-level g in rw (e, key-same, z, l, parent-same))

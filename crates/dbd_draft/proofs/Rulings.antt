@@ -20,7 +20,8 @@ use Rattle.dbd_draft.specs.Kept.{draftOf, Sound}
 use Rattle.dbd_draft.proofs.Writes.{kept-before}
 use Rattle.dbd_draft.proofs.Ordered.{type-same}
 use Rattle.dbd_draft.proofs.Drafts.{keyBytes, types-are, fields-are, with-length, keyed}
-use Rattle.dbd_draft.proofs.Sounds.{typeWritten, type-long, type-ready, type-entry, type-other, counted-types, counted-long, counted-fields, counted-headed, type-draft}
+use Rattle.dbd_draft.proofs.Sounds.{typeWritten, type-long, type-ready, type-entry, type-other}
+use Rattle.dbd_draft.proofs.Sounds.{counted-types, counted-long, counted-fields, counted-headed, type-draft}
 use Rattle.dbd_draft.proofs.Sounds.{fieldWritten, added-fields, added-types, added-entry, added-low, field-draft, field-sound, keyed-sound}
 use Rattle.dbd_draft.proofs.Catalogues.{Framed, framed, block-byte, block-long, last-good}
 
@@ -43,8 +44,10 @@ field-full b name kind long start h =
 module _ (b levels : Bytes) (s : Sound b levels) (name : Bytes) (above long : ℕ) (named : length name ≡ 8) (room : types b < 32) where
   counted-framed : Framed (set (typeWritten b name above long) 5 (suc (types b)))
   counted-framed =
-      let t : types (set (typeWritten b name above long) 5 (suc (types b))) ≡ suc (types b) = counted-types b levels s name above long named room (suc (types b)) refl in
-      let f : fields (set (typeWritten b name above long) 5 (suc (types b))) ≡ fields b = counted-fields b levels s name above long named room (suc (types b)) refl in
+      let t : types (set (typeWritten b name above long) 5 (suc (types b))) ≡ suc (types b) = counted-types b levels s name above long named room
+      (suc (types b)) refl in
+      let f : fields (set (typeWritten b name above long) 5 (suc (types b))) ≡ fields b = counted-fields b levels s name above long named room
+      (suc (types b)) refl in
       record {
         long = counted-long b levels s name above long named room (suc (types b)) refl;
         few = omega arith;
@@ -52,19 +55,22 @@ module _ (b levels : Bytes) (s : Sound b levels) (name : Bytes) (above long : �
         headed = rw (t, f) (counted-headed b levels s name above long named room (suc (types b)) refl);
       }
 
-  type-judged : goodType (catalogueOf (draftOf (set (typeWritten b name above long) 5 (suc (types b))))) (suc (types b)) ≡ goodType (typeWritten b name above long) (suc (types b))
+  type-judged : goodType (catalogueOf (draftOf (set (typeWritten b name above long) 5 (suc (types b))))) (suc (types b)) ≡ goodType
+      (typeWritten b name above long) (suc (types b))
   type-judged =
       let c = set (typeWritten b name above long) 5 (suc (types b)) in
       let t : types c ≡ suc (types b) = counted-types b levels s name above long named room (suc (types b)) refl in
       sym
       (type-same (typeWritten b name above long) (catalogueOf (draftOf c)) (types b)
-      (λ j l m. sym (type-other b levels s name above long named room (suc (types b)) refl j (λ z. omega arith)) ∙ sym (block-byte c counted-framed j (omega arith)))
+      (λ j l m. sym (type-other b levels s name above long named room (suc (types b)) refl j (λ z. omega arith)) ∙ sym
+      (block-byte c counted-framed j (omega arith)))
       (type-ready b levels s name above long named room .ordered .lower)
       (omega (arith, type-long b levels s name above long named room)) (omega (arith, block-long c counted-framed)))
 
   -- LAW: the type is taken where it is good in the array
   pub type-ruled : (k : ℕ) → k ≡ suc (types b)
-      → ruledType (withType (draftOf b) name above long) ≡ pick (goodType (typeWritten b name above long) k) (goes (withType (draftOf b) name above long)) (bad unruled)
+      → ruledType (withType (draftOf b) name above long) ≡ pick (goodType (typeWritten b name above long) k) (goes (withType (draftOf b) name above long))
+      (bad unruled)
   unfolding ruledType
   type-ruled k e =
       let c = set (typeWritten b name above long) 5 (suc (types b)) in
@@ -76,14 +82,16 @@ module _ (b levels : Bytes) (s : Sound b levels) (name : Bytes) (above long : �
   unfolding lengthOf typeByte
   own-length k e =
       let z : 8 * k + 1 ≡ 8 + 8 * types b + 1 = omega arith in
-      rw z (sym (part-byte (typeWritten b name above long) (8 + 8 * types b) 8 1 (omega arith)) ∙ ap (λ (t : Bytes). byte t 1) (type-entry b levels s name above long named room))
+      rw z (sym (part-byte (typeWritten b name above long) (8 + 8 * types b) 8 1 (omega arith)) ∙ ap (λ (t : Bytes). byte t 1)
+      (type-entry b levels s name above long named room))
 
   -- a good type has an L that a byte holds
   pub type-low : (k : ℕ) → k ≡ suc (types b) → goodType (typeWritten b name above long) k ≡ true → long ≤ 120
   unfolding goodType
   type-low k e g =
       let c = typeWritten b name above long in
-      let t = six (goodParent c k) (leb 1 (lengthOf c (code k))) (leb (lengthOf c (code k)) 120) (goodKey c (code k)) (zeros (part c (8 * k + 5) 3)) (leb (level c (code k)) 15) g in
+      let t = six (goodParent c k) (leb 1 (lengthOf c (code k))) (leb (lengthOf c (code k)) 120) (goodKey c (code k)) (zeros (part c (8 * k + 5) 3))
+      (leb (level c (code k)) 15) g in
       omega (arith, own-length k e, leb-true (lengthOf c (code k)) 120 (t .2))
 
   pub type-high : 120 < long → ruledType (withType (draftOf b) name above long) ≡ bad unruled
@@ -102,11 +110,13 @@ pub with-key : (b name : Bytes) (kind long start : ℕ) → length b ≡ 1296 �
     → withField (draftOf (sets b (8 * types b + 2) (keyBytes kind start long))) name 0 long start ≡ withField (draftOf b) name kind long start
 unfolding withField
 with-key b name kind long start m o few fewFields h =
-    ap (λ (d : Draft). withField d name 0 long start) (keyed b kind start long m o few fewFields) ∙ rw (withField, h, with-length kind start long (draftOf b .types))
+    ap (λ (d : Draft). withField d name 0 long start) (keyed b kind start long m o few fewFields) ∙ rw
+    (withField, h, with-length kind start long (draftOf b .types))
 
 -- LAW: the field is taken where its span lies within the last type's data
 field-none : (b levels : Bytes) → Sound b levels → (name : Bytes) (long start : ℕ) → length name ≡ 8 → fields b < 64 → 0 < types b
-    → ruledField (withField (draftOf b) name 0 long start) ≡ pick (goodSpan start long (byte b (8 * types b + 1))) (goes (withField (draftOf b) name 0 long start)) (bad unruled)
+    → ruledField (withField (draftOf b) name 0 long start) ≡ pick (goodSpan start long (byte b (8 * types b + 1)))
+    (goes (withField (draftOf b) name 0 long start)) (bad unruled)
 unfolding ruledField
 field-none b levels s name long start named room some =
     let v = suc (fields b) in
@@ -138,7 +148,8 @@ field-ruled b levels s name kind long start named room some =
           let l : byte c (8 * types b + 1) ≡ byte b (8 * types b + 1) = kept-before k b at (8 * types b + 1) (omega arith) in
           let w : withField (draftOf c) name 0 long start ≡ withField (draftOf b) name kind long start =
           with-key b name kind long start (s .long) some (s .few) (s .fewFields) h in
-          let g : ruledField (withField (draftOf c) name 0 long start) ≡ pick (goodSpan start long (byte c (8 * types c + 1))) (goes (withField (draftOf c) name 0 long start)) (bad unruled) =
+          let g : ruledField (withField (draftOf c) name 0 long start) ≡ pick (goodSpan start long (byte c (8 * types c + 1)))
+          (goes (withField (draftOf c) name 0 long start)) (bad unruled) =
           field-none c levels (keyed-sound b levels s kind start long some) name long start named (omega arith) (omega arith) in
           rw (t, l, w) at g
     ]

@@ -14,7 +14,8 @@ use Rattle.dbd_line.specs.declared.Line.{Line}
 use Rattle.dbd_line.specs.declared.Line.the-variants.{Empty, Wrong, IsDbd, IsSegm, IsField}
 use Rattle.dbd_line.specs.Meant.{InLine, Meant, Says, Means}
 use Rattle.statements.specs.Words.{Token, word, sign, isLetter, isName, filled, tokens}
-use Rattle.statements.specs.Statement.{Statement, dbd, segm, field, Slot, name, suits, marks, fits, formed, dbdForm, segmForm, fieldForm, keyForm, dbdOf, segmOf, fieldOf, keyOf, wordIn, wordAt, statementOf}
+use Rattle.statements.specs.Statement.{Statement, dbd, segm, field, Slot, name, suits, marks, fits, formed}
+use Rattle.statements.specs.Statement.{dbdForm, segmForm, fieldForm, keyForm, dbdOf, segmOf, fieldOf, keyOf, wordIn, wordAt, statementOf}
 use Rattle.statements.specs.Draft.{Draft, blank, begun, Taken, goes, bad, misplaced, taken, takenIf, lineTaken}
 use Rattle.statements.proofs.Forms.{is-dbd, is-segm, is-field, is-key}
 use Rattle.statements.proofs.Rows.{part-length}
@@ -84,7 +85,8 @@ base-first ts l =
     elim (is (formed dbdForm ts)) [
       | on h ↦
           let n = name-some (wordAt ts 3) (dbd-name ts h) in
-          let e : baseOf (takenIf blank (statementOf ts)) ≡ filled (wordAt ts 3) = ap (λ (s : Option Statement). baseOf (takenIf blank s)) (is-dbd ts h) ∙ ap baseOf (dbd-first blank (wordAt ts 3) refl) in
+          let e : baseOf (takenIf blank (statementOf ts)) ≡ filled (wordAt ts 3) = ap (λ (s : Option Statement). baseOf (takenIf blank s)) (is-dbd ts h)
+          ∙ ap baseOf (dbd-first blank (wordAt ts 3) refl) in
           rw e (rw (filled-first (wordAt ts 3) (n .0)) (n .1))
       | off h ↦ base-some (takenIf blank (statementOf ts)) (elim (is (formed segmForm ts)) [
         | on g ↦ ap (λ (s : Option Statement). baseOf (takenIf blank s)) (is-segm ts h g) ∙ ap baseOf (segm-misplaced blank _ _ _ refl)
@@ -139,7 +141,8 @@ dbd-said line a (segm n p v) m e = never m
 dbd-said line a (field n k v w) m e = never m
 
 -- SEGM, with its number as a byte holds it
-segm-said : (b levels : Bytes) → Sound b levels → (line : Bytes) (a p : Span) (l : ℕ) (t : Statement) → Meant line t (IsSegm a p l) → ((d : Draft) → lineTaken d line ≡ taken d t)
+segm-said : (b levels : Bytes) → Sound b levels → (line : Bytes) (a p : Span) (l : ℕ) (t : Statement) → Meant line t (IsSegm a p l)
+    → ((d : Draft) → lineTaken d line ≡ taken d t)
     → Placed line a × Placed line p × (lineTaken (draftOf b) line ≡ taken (draftOf b) (segm (cut line a) (cut line p) l))
 segm-said b levels s line a p l (dbd n) m e = never m
 segm-said b levels s line a p l (segm n q v) m e =
@@ -149,7 +152,8 @@ segm-said b levels s line a p l (segm n q v) m e =
 segm-said b levels s line a p l (field n k v w) m e = never m
 
 -- FIELD, the same
-field-said : (b levels : Bytes) → Sound b levels → (line : Bytes) (a : Span) (j l r : ℕ) (t : Statement) → Meant line t (IsField a j l r) → ((d : Draft) → lineTaken d line ≡ taken d t)
+field-said : (b levels : Bytes) → Sound b levels → (line : Bytes) (a : Span) (j l r : ℕ) (t : Statement) → Meant line t (IsField a j l r)
+    → ((d : Draft) → lineTaken d line ≡ taken d t)
     → Placed line a × (lineTaken (draftOf b) line ≡ taken (draftOf b) (field (cut line a) j l r))
 field-said b levels s line a j l r (dbd n) m e = never m
 field-said b levels s line a j l r (segm n q v) m e = never m

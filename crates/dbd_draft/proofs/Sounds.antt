@@ -73,7 +73,8 @@ typeWritten b name above long = sets (sets b (8 + 8 * types b) (typeEntry above 
 module _ (b levels : Bytes) (s : Sound b levels) (name : Bytes) (above long : ℕ) (named : length name ≡ 8) (room : types b < 32) where
   pub type-long : length (typeWritten b name above long) ≡ 1296
   type-long =
-      length-sets (sets b (8 + 8 * types b) (typeEntry above long)) (520 + (8 + 8 * types b)) name ∙ length-sets b (8 + 8 * types b) (typeEntry above long) ∙ s .long
+      length-sets (sets b (8 + 8 * types b) (typeEntry above long)) (520 + (8 + 8 * types b)) name ∙ length-sets b (8 + 8 * types b) (typeEntry above long)
+      ∙ s .long
 
   pub type-before : (j : ℕ) → j < 8 + 8 * types b → byte (typeWritten b name above long) j ≡ byte b j
   type-before j h =
@@ -138,7 +139,8 @@ module _ (b levels : Bytes) (s : Sound b levels) (name : Bytes) (above long : �
     pub counted-headed : part (set (typeWritten b name above long) 5 v) 0 8 ≡ header 0x43 v (fields b)
     counted-headed =
         header-types (typeWritten b name above long) (types b) (fields b) v
-        (part-alike (typeWritten b name above long) b 0 8 (omega (arith, type-long)) (omega (arith, s .long)) (λ j l m. type-before j (omega arith)) ∙ s .headed)
+        (part-alike (typeWritten b name above long) b 0 8 (omega (arith, type-long)) (omega (arith, s .long)) (λ j l m. type-before j (omega arith))
+        ∙ s .headed)
 
     -- the draft, and what is kept besides, with the type that was found good
     pub type-draft : draftOf (set (typeWritten b name above long) 5 v) ≡ withType (draftOf b) name above long
@@ -158,7 +160,8 @@ module _ (b levels : Bytes) (s : Sound b levels) (name : Bytes) (above long : �
     pub type-sound : (row : Bytes) → 0 < byte b 520 → Ready (typeWritten b name above long) row v → long ≤ 120
         → Sound (set (typeWritten b name above long) 5 v) row
     type-sound row o r m =
-        let e : byte (set (typeWritten b name above long) 5 v) 520 ≡ byte b 520 = type-other 520 (λ z. omega arith) ∙ type-between 520 (omega arith) (omega arith) in
+        let e : byte (set (typeWritten b name above long) 5 v) 520 ≡ byte b 520 = type-other 520 (λ z. omega arith) ∙ type-between 520 (omega arith)
+        (omega arith) in
         record {
           long = counted-long;
           few = omega (arith, counted-types);
@@ -175,7 +178,8 @@ module _ (b levels : Bytes) (s : Sound b levels) (name : Bytes) (above long : �
 abbrev pub fieldWritten : Bytes → Bytes → ℕ → ℕ → Bytes
 fieldWritten b name long start = sets (sets b (264 + 4 * fields b) (types b ∷ start ∷ long ∷ 0 ∷ [])) (784 + 8 * fields b) name
 
-module _ (b levels : Bytes) (s : Sound b levels) (name : Bytes) (long start : ℕ) (named : length name ≡ 8) (room : fields b < 64) (v : ℕ) (one : v ≡ suc (fields b)) where
+module _ (b levels : Bytes) (s : Sound b levels) (name : Bytes) (long start : ℕ) (named : length name ≡ 8) (room : fields b < 64) (v : ℕ)
+    (one : v ≡ suc (fields b)) where
   pub field-long : length (fieldWritten b name long start) ≡ 1296
   field-long =
       length-sets (sets b (264 + 4 * fields b) (types b ∷ start ∷ long ∷ 0 ∷ [])) (784 + 8 * fields b) name
@@ -222,7 +226,8 @@ module _ (b levels : Bytes) (s : Sound b levels) (name : Bytes) (long start : �
   -- its entry stands there
   pub added-entry : part (set (fieldWritten b name long start) 6 v) (264 + 4 * fields b) 4 ≡ types b ∷ start ∷ long ∷ 0 ∷ []
   added-entry =
-      part-alike (set (fieldWritten b name long start) 6 v) (fieldWritten b name long start) (264 + 4 * fields b) 4 (omega (arith, added-long)) (omega (arith, field-long))
+      part-alike (set (fieldWritten b name long start) 6 v) (fieldWritten b name long start) (264 + 4 * fields b) 4 (omega (arith, added-long))
+      (omega (arith, field-long))
       (λ j k m. field-other j (λ z. omega arith))
       ∙ field-entry
 
@@ -235,14 +240,17 @@ module _ (b levels : Bytes) (s : Sound b levels) (name : Bytes) (long start : �
       fielded b (set (fieldWritten b name long start) 6 v) (s .long) added-long (s .few) (s .fewFields) room added-types (added-fields ∙ one)
       (λ j l m. field-other j (λ z. omega arith) ∙ field-before j m) (λ j l m. field-other j (λ z. omega arith) ∙ field-between j l m)
       name long start added-entry
-      (part-alike (set (fieldWritten b name long start) 6 v) (fieldWritten b name long start) (784 + 8 * fields b) 8 (omega (arith, added-long)) (omega (arith, field-long))
+      (part-alike (set (fieldWritten b name long start) 6 v) (fieldWritten b name long start) (784 + 8 * fields b) 8 (omega (arith, added-long))
+      (omega (arith, field-long))
       (λ j k m. field-other j (λ z. omega arith)) ∙ field-name)
 
   pub field-sound : Sound (set (fieldWritten b name long start) 6 v) levels
   field-sound =
-      let e : byte (set (fieldWritten b name long start) 6 v) 520 ≡ byte b 520 = field-other 520 (λ z. omega arith) ∙ field-between 520 (omega arith) (omega arith) in
+      let e : byte (set (fieldWritten b name long start) 6 v) 520 ≡ byte b 520 = field-other 520 (λ z. omega arith) ∙ field-between 520 (omega arith)
+      (omega arith) in
       kept b (set (fieldWritten b name long start) 6 v) levels s added-long added-types (omega (arith, added-fields))
       (header-fields (fieldWritten b name long start) (types b) (fields b) v
-      (part-alike (fieldWritten b name long start) b 0 8 (omega (arith, field-long)) (omega (arith, s .long)) (λ j l m. field-before j (omega arith)) ∙ s .headed)
+      (part-alike (fieldWritten b name long start) b 0 8 (omega (arith, field-long)) (omega (arith, s .long)) (λ j l m. field-before j (omega arith))
+      ∙ s .headed)
       ∙ ap (header 0x43 (types b)) (sym added-fields))
       (λ j l m. sym (field-other j (λ z. omega arith) ∙ field-before j (omega (arith, s .few)))) added-low (λ z. omega (arith, s .based z))

@@ -11,60 +11,60 @@ use Rattle.dbd_draft.proofs.Judgements.{field-stays, field-kept}
 use Rattle.dbd_draft.proofs.fields.add_field.Statement.{statement}
 use Rattle.dbd_draft.proofs.fields.add_field.Tie as tie
 
--- src/fields.rt:36:16
+-- src/fields.rt: let last = draft[6];
 slice-read-last : tie.Need-slice-read-last
 slice-read-last c = search needs
 
--- src/fields.rt:38:16
+-- src/fields.rt: entry[0] = draft[5];
 slice-read-entry : tie.Need-slice-read-entry
 slice-read-entry c = search needs
 
--- src/fields.rt:38:5
+-- src/fields.rt: entry[0] = draft[5];
 array-write-entry : tie.Need-array-write-entry
 array-write-entry c = search needs
 
--- src/fields.rt:39:5
+-- src/fields.rt: entry[1] = start;
 array-write-entry-2 : tie.Need-array-write-entry-2
 array-write-entry-2 c = search needs
 
--- src/fields.rt:40:5
+-- src/fields.rt: entry[2] = long;
 array-write-entry-3 : tie.Need-array-write-entry-3
 array-write-entry-3 c = search needs
 
--- src/fields.rt:41:28
+-- src/fields.rt: write(draft, 264 + 4 * wide(last), &entry);
 wide-requires : tie.Need-wide-requires
 wide-requires c κs = search needs
 
--- src/fields.rt:41:24
+-- src/fields.rt: write(draft, 264 + 4 * wide(last), &entry);
 mul-write : tie.Need-mul-write
 mul-write c = search needs
 
--- src/fields.rt:41:18
+-- src/fields.rt: write(draft, 264 + 4 * wide(last), &entry);
 add-write : tie.Need-add-write
 add-write c = search needs
 
--- src/fields.rt:41:40
+-- src/fields.rt: write(draft, 264 + 4 * wide(last), &entry);
 slice-aggregate-write : tie.Need-slice-aggregate-write
 slice-aggregate-write c = search needs
 
--- src/fields.rt:41:5
+-- src/fields.rt: write(draft, 264 + 4 * wide(last), &entry);
 write-requires : tie.Need-write-requires
 unfolding types fields
 write-requires c κs = omega arith
 
--- src/fields.rt:42:28
+-- src/fields.rt: write(draft, 784 + 8 * wide(last), name);
 wide-requires-2 : tie.Need-wide-requires-2
 wide-requires-2 c κs = search needs
 
--- src/fields.rt:42:24
+-- src/fields.rt: write(draft, 784 + 8 * wide(last), name);
 mul-write-2 : tie.Need-mul-write-2
 mul-write-2 c = search needs
 
--- src/fields.rt:42:18
+-- src/fields.rt: write(draft, 784 + 8 * wide(last), name);
 add-write-2 : tie.Need-add-write-2
 add-write-2 c = search needs
 
--- src/fields.rt:42:5
+-- src/fields.rt: write(draft, 784 + 8 * wide(last), name);
 write-requires-2 : tie.Need-write-requires-2
 unfolding types fields
 write-requires-2 c κs =
@@ -78,16 +78,16 @@ write-requires-2 c κs =
           (byte (·args .draft .now) 5 ∷ ·args .start ∷ ·args .long ∷ 0 ∷ []),
     )
 
--- src/fields.rt:43:16
+-- src/fields.rt: draft[6] = last + 1;
 add-draft : tie.Need-add-draft
 unfolding types fields
 add-draft c = omega arith
 
--- src/fields.rt:43:5
+-- src/fields.rt: draft[6] = last + 1;
 slice-write-draft : tie.Need-slice-write-draft
 slice-write-draft c = search needs
 
--- src/fields.rt:31:1
+-- src/fields.rt: fn add_field(draft: &mut [u8], levels: &[u8; 33], name: &[u8; 8], long: u8, start: u8)
 same-length : tie.Need-same-length
 unfolding types fields
 same-length c =
@@ -105,7 +105,7 @@ same-length c =
     (c .before .before .before .before .before .before .before .before .write .ensures)
     (c .before .before .write2 .ensures) _
 
--- src/fields.rt:31:1
+-- src/fields.rt: fn add_field(draft: &mut [u8], levels: &[u8; 33], name: &[u8; 8], long: u8, start: u8)
 returns : tie.Need-returns
 unfolding types fields
 returns c =

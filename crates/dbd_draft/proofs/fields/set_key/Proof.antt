@@ -5,48 +5,48 @@ use Rattle.dbd_draft.proofs.Judgements.{key-kept}
 use Rattle.dbd_draft.proofs.fields.set_key.Statement.{statement}
 use Rattle.dbd_draft.proofs.fields.set_key.Tie as tie
 
--- src/fields.rt:22:23
+-- src/fields.rt: let at = 8 * wide(draft[5]) + 2;
 slice-read-wide : tie.Need-slice-read-wide
 slice-read-wide c = search needs
 
--- src/fields.rt:22:18
+-- src/fields.rt: let at = 8 * wide(draft[5]) + 2;
 wide-requires : tie.Need-wide-requires
 wide-requires c κs = search needs
 
--- src/fields.rt:22:14
+-- src/fields.rt: let at = 8 * wide(draft[5]) + 2;
 mul-at : tie.Need-mul-at
 mul-at c = search needs
 
--- src/fields.rt:22:14
+-- src/fields.rt: let at = 8 * wide(draft[5]) + 2;
 add-at : tie.Need-add-at
 add-at c = search needs
 
--- src/fields.rt:24:5
+-- src/fields.rt: key[0] = kind;
 array-write-key : tie.Need-array-write-key
 array-write-key c = search needs
 
--- src/fields.rt:25:5
+-- src/fields.rt: key[1] = start;
 array-write-key-2 : tie.Need-array-write-key-2
 array-write-key-2 c = search needs
 
--- src/fields.rt:26:5
+-- src/fields.rt: key[2] = long;
 array-write-key-3 : tie.Need-array-write-key-3
 array-write-key-3 c = search needs
 
--- src/fields.rt:27:22
+-- src/fields.rt: write(draft, at, &key);
 slice-aggregate-write : tie.Need-slice-aggregate-write
 slice-aggregate-write c = search needs
 
--- src/fields.rt:27:5
+-- src/fields.rt: write(draft, at, &key);
 write-requires : tie.Need-write-requires
 unfolding types
 write-requires c κs = omega arith
 
--- src/fields.rt:18:1
+-- src/fields.rt: fn set_key(draft: &mut [u8], levels: &[u8; 33], kind: u8, long: u8, start: u8)
 same-length : tie.Need-same-length
 same-length c = search needs
 
--- src/fields.rt:18:1
+-- src/fields.rt: fn set_key(draft: &mut [u8], levels: &[u8; 33], kind: u8, long: u8, start: u8)
 returns : tie.Need-returns
 unfolding types
 returns c = let ·args = c .before .before .before .before .before .before .before .before .args in

@@ -9,11 +9,11 @@ use Rattle.dbd_draft.proofs.Judgements.{left-misplaced, left-twice, lef
 use Rattle.dbd_draft.proofs.fields.take_field.Statement.{statement}
 use Rattle.dbd_draft.proofs.fields.take_field.Tie as tie
 
--- src/fields.rt:58:15
+-- src/fields.rt: let top = draft[5];
 slice-read-top : tie.Need-slice-read-top
 slice-read-top c = search needs
 
--- src/fields.rt:60:9
+-- src/fields.rt: return Judged::Misplaced;
 returns : tie.Need-returns
 unfolding types
 returns c = let ·args = c .before .before .before .before .args in
@@ -21,24 +21,24 @@ returns c = let ·args = c .before .before .before .before .args in
     left-misplaced _ _ _ (field-none-yet (·args .draft .now) (·args .levels .now) (·pre .0) (·args .word .now)
     (·args .kind) (·args .long) (·args .start) (c .if1 .taken))
 
--- src/fields.rt:62:21
+-- src/fields.rt: let entry = 8 * wide(top);
 wide-requires : tie.Need-wide-requires
 wide-requires c κs = search needs
 
--- src/fields.rt:62:17
+-- src/fields.rt: let entry = 8 * wide(top);
 mul-entry : tie.Need-mul-entry
 mul-entry c = search needs
 
--- src/fields.rt:64:18
+-- src/fields.rt: if draft[entry + 2] != 0 {
 add-if3 : tie.Need-add-if3
 add-if3 c = search needs
 
--- src/fields.rt:64:12
+-- src/fields.rt: if draft[entry + 2] != 0 {
 slice-read-if3 : tie.Need-slice-read-if3
 unfolding types
 slice-read-if3 c = omega arith
 
--- src/fields.rt:65:13
+-- src/fields.rt: return Judged::Misplaced;
 returns-2 : tie.Need-returns-2
 unfolding types
 returns-2 c = let ·args = c .before .before .before .before .before .before .before .before .args in
@@ -49,44 +49,44 @@ returns-2 c = let ·args = c .before .before .before .before .before .before .be
     (·args .kind) (·args .long) (·args .start) (·if1 .left) (·wide .result) (·wide .ensures .0) (·if2 .taken)
     (c .if3 .taken))
 
--- src/fields.rt:68:16
+-- src/fields.rt: let name = filled(word);
 filled-requires : tie.Need-filled-requires
 filled-requires c κs = let ·pre = c .before .before .before .before .before .before .pre in
     ·pre .1
 
--- src/fields.rt:69:16
+-- src/fields.rt: let last = draft[6];
 slice-read-last : tie.Need-slice-read-last
 slice-read-last c = search needs
 
--- src/fields.rt:70:15
+-- src/fields.rt: if is_own(&draft[264..], &draft[784..], last, top, &name) {
 sub-is-own : tie.Need-sub-is-own
 sub-is-own c = search needs
 
--- src/fields.rt:70:15
+-- src/fields.rt: if is_own(&draft[264..], &draft[784..], last, top, &name) {
 part-is-own-start : tie.Need-part-is-own-start
 part-is-own-start c = search needs
 
--- src/fields.rt:70:15
+-- src/fields.rt: if is_own(&draft[264..], &draft[784..], last, top, &name) {
 part-is-own-end : tie.Need-part-is-own-end
 part-is-own-end c = search needs
 
--- src/fields.rt:70:30
+-- src/fields.rt: if is_own(&draft[264..], &draft[784..], last, top, &name) {
 sub-is-own-2 : tie.Need-sub-is-own-2
 sub-is-own-2 c = search needs
 
--- src/fields.rt:70:30
+-- src/fields.rt: if is_own(&draft[264..], &draft[784..], last, top, &name) {
 part-is-own-start-2 : tie.Need-part-is-own-start-2
 part-is-own-start-2 c = search needs
 
--- src/fields.rt:70:30
+-- src/fields.rt: if is_own(&draft[264..], &draft[784..], last, top, &name) {
 part-is-own-end-2 : tie.Need-part-is-own-end-2
 part-is-own-end-2 c = search needs
 
--- src/fields.rt:70:56
+-- src/fields.rt: if is_own(&draft[264..], &draft[784..], last, top, &name) {
 slice-aggregate-is-own : tie.Need-slice-aggregate-is-own
 slice-aggregate-is-own c = search needs
 
--- src/fields.rt:70:8
+-- src/fields.rt: if is_own(&draft[264..], &draft[784..], last, top, &name) {
 is-own-requires : tie.Need-is-own-requires
 unfolding fields
 is-own-requires c κs =
@@ -97,11 +97,11 @@ is-own-requires c κs =
           (8 * byte (·args .draft .now) 6) (omega arith),
     )
 
--- src/fields.rt:71:9
+-- src/fields.rt: return Judged::Twice;
 same-length : tie.Need-same-length
 same-length c = search needs
 
--- src/fields.rt:71:9
+-- src/fields.rt: return Judged::Twice;
 returns-3 : tie.Need-returns-3
 unfolding types
 returns-3 c =
@@ -119,11 +119,11 @@ returns-3 c =
     (c .before .is-own .result) (own-is (·args .draft .now) (·filled .result) (·args .word .now)
     (c .before .is-own .result) (·filled .ensures) (c .before .is-own .ensures)) (c .if4 .taken))
 
--- src/fields.rt:74:9
+-- src/fields.rt: return Judged::Unruled;
 same-length-2 : tie.Need-same-length-2
 same-length-2 c = search needs
 
--- src/fields.rt:74:9
+-- src/fields.rt: return Judged::Unruled;
 returns-4 : tie.Need-returns-4
 unfolding types fields
 returns-4 c =
@@ -143,24 +143,24 @@ returns-4 c =
     (·is-own .result) (own-is (·args .draft .now) (·filled .result) (·args .word .now) (·is-own .result)
     (·filled .ensures) (·is-own .ensures)) (c .before .if4 .left) (c .if5 .taken))
 
--- src/fields.rt:76:38
+-- src/fields.rt: if !good_span(start, long, draft[entry + 1]) {
 add-good-span : tie.Need-add-good-span
 add-good-span c = search needs
 
--- src/fields.rt:76:32
+-- src/fields.rt: if !good_span(start, long, draft[entry + 1]) {
 slice-read-good-span : tie.Need-slice-read-good-span
 unfolding types
 slice-read-good-span c = omega arith
 
--- src/fields.rt:76:9
+-- src/fields.rt: if !good_span(start, long, draft[entry + 1]) {
 good-span-requires : tie.Need-good-span-requires
 good-span-requires c κs = search needs
 
--- src/fields.rt:77:9
+-- src/fields.rt: return Judged::Unruled;
 same-length-3 : tie.Need-same-length-3
 same-length-3 c = search needs
 
--- src/fields.rt:77:9
+-- src/fields.rt: return Judged::Unruled;
 returns-5 : tie.Need-returns-5
 unfolding types fields
 returns-5 c =
@@ -184,7 +184,7 @@ returns-5 c =
     (·filled .ensures) (·is-own .ensures)) (·if4 .left) (·pre .1) (·if5 .left) (c .before .good-span .result)
     (c .before .good-span .ensures) (not-true (c .before .good-span .result) (c .if6 .taken)))
 
--- src/fields.rt:80:9
+-- src/fields.rt: set_key(draft, levels, kind, long, start);
 set-key-requires : tie.Need-set-key-requires
 unfolding types
 set-key-requires c κs = (
@@ -197,7 +197,7 @@ set-key-requires c κs = (
   ),
 )
 
--- src/fields.rt:82:5
+-- src/fields.rt: add_field(draft, levels, &name, long, start);
 add-field-requires : tie.Need-add-field-requires
 unfolding types fields
 add-field-requires c κs =
@@ -216,11 +216,11 @@ add-field-requires c κs =
     (λ w. prepared-none (·args .draft .now) (·args .levels .now) (·pre .0) (·filled .result) (·args .kind) (·args .long)
     (·args .start) (w .0 .left) (·if7 .draft) (w .1)) (·if7 .came)) (·if5 .left)
 
--- src/fields.rt:47:1
+-- src/fields.rt: pub(crate) fn take_field(
 same-length-4 : tie.Need-same-length-4
 same-length-4 c = search needs
 
--- src/fields.rt:47:1
+-- src/fields.rt: pub(crate) fn take_field(
 returns-6 : tie.Need-returns-6
 unfolding types fields
 returns-6 c =

@@ -8,57 +8,57 @@ use Rattle.blocks.proofs.Negated.{told-no, told-yes}
 use Rattle.dbd_draft.proofs.segments.add_type.Statement.{statement}
 use Rattle.dbd_draft.proofs.segments.add_type.Tie as tie
 
--- src/segments.rt:35:15
+-- src/segments.rt: let top = draft[5];
 slice-read-top : tie.Need-slice-read-top
 slice-read-top c = search needs
 
--- src/segments.rt:37:9
+-- src/segments.rt: return Judged::Unruled;
 returns : tie.Need-returns
 unfolding types
 returns c = let ·args = c .before .before .before .args in
     left-unruled _ _ _ (type-full (·args .draft .now) (·args .name .now) (·args .above) (·args .long) (c .if1 .taken))
 
--- src/segments.rt:39:22
+-- src/segments.rt: let at = 8 + 8 * wide(top);
 wide-requires : tie.Need-wide-requires
 wide-requires c κs = search needs
 
--- src/segments.rt:39:18
+-- src/segments.rt: let at = 8 + 8 * wide(top);
 mul-at : tie.Need-mul-at
 mul-at c = search needs
 
--- src/segments.rt:39:14
+-- src/segments.rt: let at = 8 + 8 * wide(top);
 add-at : tie.Need-add-at
 add-at c = search needs
 
--- src/segments.rt:41:5
+-- src/segments.rt: entry[0] = above;
 array-write-entry : tie.Need-array-write-entry
 array-write-entry c = search needs
 
--- src/segments.rt:42:5
+-- src/segments.rt: entry[1] = long;
 array-write-entry-2 : tie.Need-array-write-entry-2
 array-write-entry-2 c = search needs
 
--- src/segments.rt:43:22
+-- src/segments.rt: write(draft, at, &entry);
 slice-aggregate-write : tie.Need-slice-aggregate-write
 slice-aggregate-write c = search needs
 
--- src/segments.rt:43:5
+-- src/segments.rt: write(draft, at, &entry);
 write-requires : tie.Need-write-requires
 write-requires c κs = search needs
 
--- src/segments.rt:44:18
+-- src/segments.rt: write(draft, 520 + at, name);
 add-write : tie.Need-add-write
 add-write c = search needs
 
--- src/segments.rt:44:5
+-- src/segments.rt: write(draft, 520 + at, name);
 write-requires-2 : tie.Need-write-requires-2
 write-requires-2 c κs = search needs
 
--- src/segments.rt:45:43
+-- src/segments.rt: if !good_type(draft, levels, TypeCode(top + 1)) {
 add-draft : tie.Need-add-draft
 add-draft c = search needs
 
--- src/segments.rt:45:9
+-- src/segments.rt: if !good_type(draft, levels, TypeCode(top + 1)) {
 good-type-requires : tie.Need-good-type-requires
 unfolding types
 good-type-requires c κs =
@@ -75,11 +75,11 @@ good-type-requires c κs =
     .0) (c .before .before .before .before .before .before .before .before .before .write .ensures)
     (c .before .before .before .before .write2 .ensures) _ refl
 
--- src/segments.rt:46:9
+-- src/segments.rt: return Judged::Unruled;
 same-length : tie.Need-same-length
 same-length c = search needs
 
--- src/segments.rt:46:9
+-- src/segments.rt: return Judged::Unruled;
 returns-2 : tie.Need-returns-2
 unfolding types
 returns-2 c =
@@ -97,15 +97,15 @@ returns-2 c =
     .ensures) (c .before .before .before .before .before .before .write2 .ensures) _ refl
     (told-no (c .before .good-type .ensures .0) (c .if2 .taken)))
 
--- src/segments.rt:48:16
+-- src/segments.rt: draft[5] = top + 1;
 add-draft-2 : tie.Need-add-draft-2
 add-draft-2 c = search needs
 
--- src/segments.rt:48:5
+-- src/segments.rt: draft[5] = top + 1;
 slice-write-draft : tie.Need-slice-write-draft
 slice-write-draft c = search needs
 
--- src/segments.rt:31:1
+-- src/segments.rt: fn add_type(draft: &mut [u8], levels: &mut [u8; 33], name: &[u8; 8], above: u8, long: u8) -> Judged
 same-length-2 : tie.Need-same-length-2
 unfolding types
 same-length-2 c =
@@ -122,7 +122,7 @@ same-length-2 c =
     .wide .ensures .0) (c .before .before .before .before .before .before .before .before .before .before .before .write
     .ensures) (c .before .before .before .before .before .before .write2 .ensures) _
 
--- src/segments.rt:31:1
+-- src/segments.rt: fn add_type(draft: &mut [u8], levels: &mut [u8; 33], name: &[u8; 8], above: u8, long: u8) -> Judged
 returns-3 : tie.Need-returns-3
 unfolding types
 returns-3 c =

@@ -12,30 +12,30 @@ use Rattle.dbd_draft.proofs.Judgements.{left-misplaced, left-twice, lef
 use Rattle.dbd_draft.proofs.segments.take_segm.Statement.{statement}
 use Rattle.dbd_draft.proofs.segments.take_segm.Tie as tie
 
--- src/segments.rt:64:8
+-- src/segments.rt: if draft[520] == 0 {
 slice-read-if1 : tie.Need-slice-read-if1
 slice-read-if1 c = search needs
 
--- src/segments.rt:65:9
+-- src/segments.rt: return Judged::Misplaced;
 returns : tie.Need-returns
 returns c = let ·args = c .before .before .before .before .before .args in
     let ·pre = c .before .before .before .before .before .pre in
     left-misplaced _ _ _ (segm-early (·args .draft .now) (·args .levels .now) (·pre .0) (·args .word .now)
     (·args .parent .now) (·args .long) (c .if1 .taken))
 
--- src/segments.rt:67:15
+-- src/segments.rt: let top = draft[5];
 slice-read-top : tie.Need-slice-read-top
 slice-read-top c = search needs
 
--- src/segments.rt:68:33
+-- src/segments.rt: let root = are_same(parent, b"0");
 slice-aggregate-are-same : tie.Need-slice-aggregate-are-same
 slice-aggregate-are-same c = search needs
 
--- src/segments.rt:68:9
+-- src/segments.rt: let root = are_same(parent, b"0");
 are-same-requires : tie.Need-are-same-requires
 are-same-requires c κs = search needs
 
--- src/segments.rt:71:13
+-- src/segments.rt: return Judged::Misplaced;
 returns-2 : tie.Need-returns-2
 unfolding types
 returns-2 c = let ·args = c .before .before .before .before .before .before .before .before .before .before .args in
@@ -45,28 +45,28 @@ returns-2 c = let ·args = c .before .before .before .before .before .before .be
     (·args .parent .now) (·args .long) (·if1 .left) (·are-same .result) (·are-same .ensures) (c .before .if2 .taken)
     (c .if3 .taken))
 
--- src/segments.rt:74:16
+-- src/segments.rt: let name = filled(word);
 filled-requires : tie.Need-filled-requires
 filled-requires c κs = let ·pre = c .before .before .before .before .before .before .before .before .before .pre in
     ·pre .1
 
--- src/segments.rt:75:17
+-- src/segments.rt: if place_of(&draft[528..], top, &name) != 0 {
 sub-place-of : tie.Need-sub-place-of
 sub-place-of c = search needs
 
--- src/segments.rt:75:17
+-- src/segments.rt: if place_of(&draft[528..], top, &name) != 0 {
 part-place-of-start : tie.Need-part-place-of-start
 part-place-of-start c = search needs
 
--- src/segments.rt:75:17
+-- src/segments.rt: if place_of(&draft[528..], top, &name) != 0 {
 part-place-of-end : tie.Need-part-place-of-end
 part-place-of-end c = search needs
 
--- src/segments.rt:75:37
+-- src/segments.rt: if place_of(&draft[528..], top, &name) != 0 {
 slice-aggregate-place-of : tie.Need-slice-aggregate-place-of
 slice-aggregate-place-of c = search needs
 
--- src/segments.rt:75:8
+-- src/segments.rt: if place_of(&draft[528..], top, &name) != 0 {
 place-of-requires : tie.Need-place-of-requires
 unfolding types
 place-of-requires c κs =
@@ -74,11 +74,11 @@ place-of-requires c κs =
     .before .args in
     tail-room (·args .draft .now) 528 (8 * byte (·args .draft .now) 5) (omega arith)
 
--- src/segments.rt:76:9
+-- src/segments.rt: return Judged::Twice;
 same-length : tie.Need-same-length
 same-length c = search needs
 
--- src/segments.rt:76:9
+-- src/segments.rt: return Judged::Twice;
 returns-3 : tie.Need-returns-3
 unfolding types
 returns-3 c =
@@ -97,30 +97,30 @@ returns-3 c =
     (c .before .place-of .result) (place-is (·args .draft .now) (·filled .result) (·args .word .now)
     (c .before .place-of .result) (·filled .ensures) (c .before .place-of .ensures)) (c .if4 .taken))
 
--- src/segments.rt:78:17
+-- src/segments.rt: let other = filled(parent);
 filled-requires-2 : tie.Need-filled-requires-2
 filled-requires-2 c κs =
     let ·pre = c .before .before .before .before .before .before .before .before .before .before .before .before .before
     .before .before .pre in
     ·pre .2
 
--- src/segments.rt:79:26
+-- src/segments.rt: let above = place_of(&draft[528..], top, &other);
 sub-place-of-2 : tie.Need-sub-place-of-2
 sub-place-of-2 c = search needs
 
--- src/segments.rt:79:26
+-- src/segments.rt: let above = place_of(&draft[528..], top, &other);
 part-place-of-start-2 : tie.Need-part-place-of-start-2
 part-place-of-start-2 c = search needs
 
--- src/segments.rt:79:26
+-- src/segments.rt: let above = place_of(&draft[528..], top, &other);
 part-place-of-end-2 : tie.Need-part-place-of-end-2
 part-place-of-end-2 c = search needs
 
--- src/segments.rt:79:46
+-- src/segments.rt: let above = place_of(&draft[528..], top, &other);
 slice-aggregate-place-of-2 : tie.Need-slice-aggregate-place-of-2
 slice-aggregate-place-of-2 c = search needs
 
--- src/segments.rt:79:9
+-- src/segments.rt: let above = place_of(&draft[528..], top, &other);
 place-of-requires-2 : tie.Need-place-of-requires-2
 unfolding types
 place-of-requires-2 c κs =
@@ -128,11 +128,11 @@ place-of-requires-2 c κs =
     .before .before .before .before .before .before .before .args in
     tail-room (·args .draft .now) 528 (8 * byte (·args .draft .now) 5) (omega arith)
 
--- src/segments.rt:82:13
+-- src/segments.rt: return Judged::Orphan;
 same-length-2 : tie.Need-same-length-2
 same-length-2 c = search needs
 
--- src/segments.rt:82:13
+-- src/segments.rt: return Judged::Orphan;
 returns-4 : tie.Need-returns-4
 unfolding types
 returns-4 c =
@@ -159,7 +159,7 @@ returns-4 c =
     (place-is (·args .draft .now) (·filled2 .result) (·args .parent .now) (·place-of2 .result) (·filled2 .ensures)
     (·place-of2 .ensures)) (not-true (·are-same .result) (c .before .if5 .taken)) (c .if6 .taken))
 
--- src/segments.rt:85:5
+-- src/segments.rt: add_type(draft, levels, &name, above, long)
 add-type-requires : tie.Need-add-type-requires
 add-type-requires c κs = (
   c .before .before .before .before .before .before .before .before .before .before .before
@@ -171,11 +171,11 @@ add-type-requires c κs = (
   ),
 )
 
--- src/segments.rt:53:1
+-- src/segments.rt: pub(crate) fn take_segm(
 same-length-3 : tie.Need-same-length-3
 same-length-3 c = search needs
 
--- src/segments.rt:53:1
+-- src/segments.rt: pub(crate) fn take_segm(
 returns-5 : tie.Need-returns-5
 unfolding types
 returns-5 c = let ·add-type = c .before .before .add-type in
