@@ -15,7 +15,7 @@ use Rattle.rules.specs.Catalogue.{types, fields}
 use Rattle.statements.specs.Draft.{header, rows, catalogueOf, namesOf}
 use Rattle.statements.specs.Dbd.{Reading, given, dbdRead}
 use Rattle.statements.specs.Lent.{onto, high, handedOut, readInto, readBack}
-use Rattle.dbd_names.proofs.Rows.{joined-rows, length-rows, part-add}
+use Rattle.statements.proofs.Rows.{joined-rows, rows-length, part-then}
 use Rattle.dbd_draft.specs.Kept.{draftOf}
 use Rattle.dbd_read.specs.Reading.{Wide, Counted}
 
@@ -82,12 +82,12 @@ module _ (b : Bytes) (w : Wide b) where
   part-long i n h = length-take-le n (drop i b) (simp length-drop (omega (arith, w .long)))
 
   front-is : part b 0 (8 + 8 * types b) ≡ header 0x43 (types b) (fields b) ++ part b 8 (8 * types b)
-  front-is = part-add b 0 8 (8 * types b) ∙ ap (λ (t : Bytes). t ++ part b 8 (8 * types b)) (w .headed)
+  front-is = sym (part-then b 0 8 (8 * types b)) ∙ ap (λ (t : Bytes). t ++ part b 8 (8 * types b)) (w .headed)
 
   pub catalogue-is : catalogueOf (draftOf b) ≡ part b 0 (8 + 8 * types b) ++ part b 264 (4 * fields b)
   unfolding catalogueOf draftOf
   catalogue-is =
-      rw (length-rows 8 b 8 (types b), length-rows 4 b 264 (fields b), joined-rows 8 b 8 (types b), joined-rows 4 b 264 (fields b))
+      rw (rows-length 8 b 8 (types b), rows-length 4 b 264 (fields b), joined-rows 8 b 8 (types b), joined-rows 4 b 264 (fields b))
       (ap (λ (t : Bytes). t ++ part b 264 (4 * fields b)) (sym front-is))
 
   base-is : pick (eqb (byte b 520) 0) [] (part b 520 8) ≡ part b 520 8
@@ -96,10 +96,10 @@ module _ (b : Bytes) (w : Wide b) where
   pub names-is : namesOf (draftOf b) ≡ header 0x4E (types b) (fields b) ++ part b 520 (8 + 8 * types b) ++ part b 784 (8 * fields b)
   unfolding namesOf draftOf
   names-is =
-      rw (length-rows 8 b 8 (types b), length-rows 4 b 264 (fields b), joined-rows 8 b 528 (types b), joined-rows 8 b 784 (fields b), base-is)
+      rw (rows-length 8 b 8 (types b), rows-length 4 b 264 (fields b), joined-rows 8 b 528 (types b), joined-rows 8 b 784 (fields b), base-is)
       (ap (λ (t : Bytes). t ++ part b 784 (8 * fields b))
       (append-assoc (header 0x4E (types b) (fields b)) (part b 520 8) (part b 528 (8 * types b))
-      ∙ ap (λ (t : Bytes). header 0x4E (types b) (fields b) ++ t) (sym (part-add b 520 8 (8 * types b)))))
+      ∙ ap (λ (t : Bytes). header 0x4E (types b) (fields b) ++ t) (part-then b 520 8 (8 * types b))))
 
   pub catalogue-long : length (catalogueOf (draftOf b)) ≡ 8 + 8 * types b + 4 * fields b
   catalogue-long =
@@ -178,7 +178,7 @@ module _ (b : Bytes) (w : Wide b) where
           out-short (given (draftOf b)) cat names refl (tests false (lt-leb (length (namesOf (draftOf b))) (length names) (omega (arith, names-long))))
 
       counted : (256 * length (rows 8 b 8 (types b)) + 65536 * length (rows 4 b 264 (fields b))) ≡ 256 * types b + 65536 * fields b
-      counted = rw (length-rows 8 b 8 (types b), length-rows 4 b 264 (fields b))
+      counted = rw (rows-length 8 b 8 (types b), rows-length 4 b 264 (fields b))
 
       pub both-out : 8 + (8 + 8 * types b) + 8 * fields b ≤ length names → (c d : Bytes)
           → c ≡ onto (catalogueOf (draftOf b)) cat → d ≡ onto (namesOf (draftOf b)) names

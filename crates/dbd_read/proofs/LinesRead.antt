@@ -12,7 +12,7 @@ use Rattle.rules.specs.Catalogue.{types, fields}
 use Rattle.statements.specs.Lines.{linesOf}
 use Rattle.statements.specs.Draft.{Draft, Fault as Kind, misplaced, twice, orphan, unruled, faultNumber, Taken, goes, bad, lineTaken}
 use Rattle.statements.specs.Dbd.{Reading as Answer, refused, given, ended, readFrom, dbdRead}
-use Rattle.dbd_names.proofs.Rows.{length-rows}
+use Rattle.statements.proofs.Rows.{rows-length}
 use Rattle.dbd_draft.specs.declared.Judged.{Judged}
 use Rattle.dbd_draft.specs.declared.Judged.the-variants.{Good, Misplaced, Twice, Orphan, Unruled}
 use Rattle.dbd_draft.specs.Kept.{draftOf, told, Left, Sound}
@@ -123,7 +123,7 @@ module _ (text b levels : Bytes) (at n : ℕ) (h : length text ≤ at) (s : Soun
 
   counted : length (draftOf b .types) ≡ types b
   unfolding draftOf
-  counted = length-rows 8 b 8 (types b)
+  counted = rows-length 8 b 8 (types b)
 
   pub end-none : byte b 5 ≡ 0 → Read (Fault 1 n) b levels (dbdRead text)
   unfolding types ended refused faultNumber
