@@ -64,8 +64,7 @@ module _ (b levels : Bytes) (s : Sound b levels) (name : Bytes) (above long : �
       (type-same (typeWritten b name above long) (catalogueOf (draftOf c)) (types b)
       (λ j l m. sym (type-other b levels s name above long named room (suc (types b)) refl j (λ z. omega arith)) ∙ sym
       (block-byte c counted-framed j (omega arith)))
-      (type-ready b levels s name above long named room .ordered .lower)
-      (omega (arith, type-long b levels s name above long named room)) (omega (arith, block-long c counted-framed)))
+      (type-ready b levels s name above long named room .ordered .lower))
 
   -- LAW: the type is taken where it is good in the array
   pub type-ruled : (k : ℕ) → k ≡ suc (types b)
