@@ -50,7 +50,8 @@ fn put_names(draft: &[u8], top: usize, last: usize, names: &mut [u8])
 // Both blocks, if there is room for both.
 pub(crate) fn hand_out(draft: &[u8], cat: &mut [u8], names: &mut [u8]) -> u64
     requires { ⌜ Wide (now draft) ⌝ }
-    ensures { λ r. ⌜ readBack r (now (cat .exit)) (now (names .exit)) ≡ handedOut (given (draftOf (now (draft .entry)))) (now (cat .entry)) (now (names .entry)) ⌝ }
+    ensures { λ r. ⌜ readBack r (now (cat .exit)) (now (names .exit))
+        ≡ handedOut (given (draftOf (now (draft .entry)))) (now (cat .entry)) (now (names .entry)) ⌝ }
 {
     let top = wide(draft[5]);
     let last = wide(draft[6]);

@@ -47,7 +47,8 @@ fn put_parent(out: &mut [u8], at: usize, cat: &[u8], names: &[u8], t: TypeCode) 
 
 pub(crate) fn put_segm(out: &mut [u8], at: usize, cat: &[u8], names: &[u8], t: TypeCode) -> usize
     requires { ⌜ Fit (now cat) (now names) × (at + 64 < 4294967296) × (t .0 ≤ types (now cat)) × (parentOf (now cat) t .0 ≤ types (now cat)) ⌝ }
-    ensures { λ r. ⌜ Wrote at (spelled (segmStatement (now (cat .entry)) (now (names .entry)) (t .0)) ++ (lineEnd ∷ [])) (now (out .entry)) r (now (out .exit)) × (r ≤ at + 64) ⌝ }
+    ensures { λ r. ⌜ Wrote at (spelled (segmStatement (now (cat .entry)) (now (names .entry)) (t .0)) ++ (lineEnd ∷ []))
+        (now (out .entry)) r (now (out .exit)) × (r ≤ at + 64) ⌝ }
 {
     let from = 8 + 8 * wide(t.0);
     let to = from + 8;

@@ -49,7 +49,8 @@ fn put_fields(out: &mut [u8], at: usize, cat: &[u8], names: &[u8], t: TypeCode) 
 
 pub(crate) fn put_statements(out: &mut [u8], cat: &[u8], names: &[u8]) -> usize
     requires { ⌜ Fit (now cat) (now names) × Lower (now cat) ⌝ }
-    ensures { λ r. ⌜ Wrote 0 (textOf (map spelled (statements (now (cat .entry)) (now (names .entry))))) (now (out .entry)) r (now (out .exit)) × (r < 200000) ⌝ }
+    ensures { λ r. ⌜ Wrote 0 (textOf (map spelled (statements (now (cat .entry)) (now (names .entry)))))
+        (now (out .entry)) r (now (out .exit)) × (r < 200000) ⌝ }
 {
     let top = types(cat);
     let mut next = put_dbd(out, names);

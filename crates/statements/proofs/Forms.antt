@@ -44,7 +44,8 @@ unfolding digits valueFrom
 value-digits zero n l = omega arith
 value-digits (suc k) n l = elim (side n 10) [
   | inside a ↦ ap (valueFrom 0) (digits-few k n a) ∙ value-one (0x30 + n) ∙ omega arith
-  | outside a ↦ ap (valueFrom 0) (digits-many k n a) ∙ value-last 0 (digits k (n / 10)) (0x30 + n % 10) ∙ (let z : valueFrom 0 (digits k (n / 10)) ≡ n / 10 = value-digits k (n / 10) (omega arith) in rw z (omega arith))
+  | outside a ↦ ap (valueFrom 0) (digits-many k n a) ∙ value-last 0 (digits k (n / 10)) (0x30 + n % 10)
+      ∙ (let z : valueFrom 0 (digits k (n / 10)) ≡ n / 10 = value-digits k (n / 10) (omega arith) in rw z (omega arith))
 ]
 
 pub value-decimal : (n : ℕ) → n < 100000 → value (decimal n) ≡ n
@@ -104,7 +105,8 @@ pub is-field : (ts : List Token) → formed dbdForm ts ≡ false → formed segm
 unfolding statementOf
 is-field ts a b h = rw (statementOf, a, b, h)
 
-pub is-key : (ts : List Token) → formed dbdForm ts ≡ false → formed segmForm ts ≡ false → formed fieldForm ts ≡ false → formed keyForm ts ≡ true → statementOf ts ≡ some (keyOf ts)
+pub is-key : (ts : List Token) → formed dbdForm ts ≡ false → formed segmForm ts ≡ false → formed fieldForm ts ≡ false → formed keyForm ts ≡ true
+    → statementOf ts ≡ some (keyOf ts)
 unfolding statementOf
 is-key ts a b c h = rw (statementOf, a, b, c, h)
 

@@ -13,7 +13,8 @@ use Rattle.statements.specs.Text.{bytesOf}
 use Rattle.statements.specs.Dbd.{dbdRead, dbdWrite}
 use Rattle.statements.specs.Lent.{readInto, writeInto}
 
--- a text that reads to these blocks, which are then written to a text that reads to them again; a text's fault and line; blocks that are written so, blocks that are not; and the two calls on lent buffers
+-- a text that reads to these blocks, which are then written to a text that reads to them again; a text's fault and line; blocks that are written so,
+-- blocks that are not; and the two calls on lent buffers
 pub data Case : Type 0 where
   reads : Bytes → Bytes → Bytes → Case
   refuses : Bytes → ℕ → ℕ → Case
