@@ -60,7 +60,7 @@ module _ (cat : Bytes) where
 
     pub good-parent : (u : ℕ) → 1 ≤ u → u ≤ types cat → goodParent cat u ≡ true
     unfolding goodType
-    good-parent u a b = first-of (goodParent cat u) (leb 1 (lengthOf cat (code u))) (leb (lengthOf cat (code u)) 120) (goodKey cat (code u)) (zeros (part cat (8 * u + 5) 3)) (leb (level cat (code u)) 15) (good-type u a b)
+    good-parent u a b = first-of (goodParent cat u) (leb 1 (lengthOf cat (code u))) (leb (lengthOf cat (code u)) 120) (goodKey cat (code u)) (zeros (part cat (8 * u + 5) 2)) (leb (level cat (code u)) 15) (good-type u a b)
 
     pub lower-to : (k : ℕ) → k ≤ types cat → Types.lower par k ≡ true
     lower-to zero l = refl

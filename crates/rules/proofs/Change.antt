@@ -13,14 +13,14 @@ use Rattle.terms.specs.declared.Parentage.{Parentage}
 use Rattle.terms.specs.declared.Parentage.the-variants.{Of}
 use Rattle.terms.specs.declared.Position.{Position}
 use Rattle.terms.specs.declared.Status.{Status}
-use Rattle.terms.specs.declared.Status.the-variants.{Blank, GE, DA, II, FX}
+use Rattle.terms.specs.declared.Status.the-variants.{Blank, GE, DA, II, FX, PD}
 use Rattle.terms.specs.Choice.{pick}
 use Rattle.terms.specs.Names.{cell}
 use Rattle.terms.specs.Moves.{placeNumber, afterPlace, holdDropped, afterInsert}
 use Rattle.forest.specs.Insert.{spot}
 use Rattle.rules.specs.Block.{Bytes, sameBytes}
 use Rattle.rules.specs.Catalogue.{keyKind}
-use Rattle.rules.specs.Cells.{Segment, segment, arriving, key, goesBefore, segmentLevel, runAt, rowAt}
+use Rattle.rules.specs.Cells.{Segment, segment, arriving, key, keyed, goesBefore, segmentLevel, runAt, rowAt}
 use Rattle.rules.specs.Change.{put, swap, applied, cellsAfter}
 use Rattle.rules.specs.Arguments.{Level, lastArgument, getLevels, parentLevels}
 use Rattle.rules.specs.Matching.{firstMatch, along}
@@ -61,10 +61,11 @@ module _ (cat : Bytes) (cs : List Segment) (pos : Position) (area : Bytes) where
   unfolding insertAmong inserted changed
   among-follows m x above i n =
       let r = i + spot (segmentLevel cat) x (goesBefore cat x) (drop i cs) in
-      either (eqb (keyKind cat (x .code)) 1 && keyTaken cat cs x i n) {x = refused II pos area} (record { is = refl })
+      either (not (keyed cat x)) {x = refused PD pos area} (record { is = refl })
+      (either (eqb (keyKind cat (x .code)) 1 && keyTaken cat cs x i n) {x = refused II pos area} (record { is = refl })
       (either (eqb (length cs) m) {x = refused FX pos area}
       {y = changed cat (afterInsert r (isOneOf above (pos .parentage)) pos) x 0 (put r (x ∷ [])) (applied (put r (x ∷ [])) cs) area}
-      (record { is = refl }) (record { is = refl }))
+      (record { is = refl }) (record { is = refl })))
 
   under-follows : (m : ℕ) (x : Segment) (f : Found) → Follows cs (insertUnder cat cs pos area m x f)
   under-follows m x Nothing = record { is = refl }

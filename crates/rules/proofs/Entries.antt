@@ -14,8 +14,8 @@ use Rattle.forest.specs.Forest.{inside, outside, side}
 use Rattle.forest.specs.Good.{on, off, is}
 use Rattle.forest.specs.Numbers.{range}
 use Rattle.rules.specs.Block.{Bytes, byte, part, every, zeros, marked}
-use Rattle.rules.specs.Catalogue.{types, fields, lengthOf, keyKind, keyStart, keyLength, fieldType, fieldStart, fieldLength, level, isType, largest}
-use Rattle.rules.specs.Catalogue.{goodSpan, goodKey, goodParent, goodType, goodField, goodHeader, goodCatalogue}
+use Rattle.rules.specs.Catalogue.{types, fields, lengthOf, keyKind, keyStart, keyLength, keyValue, fieldType, fieldStart, fieldLength, level, isType, largest}
+use Rattle.rules.specs.Catalogue.{goodSpan, goodValue, goodKey, goodParent, goodType, goodField, goodHeader, goodCatalogue}
 use Rattle.rules.specs.Table.{cellSize}
 use Rattle.rules.proofs.Every.{every-at}
 use Rattle.rules.proofs.Joined.{two, three, six, seven}
@@ -33,7 +33,7 @@ pub record TypeFacts (cat : Bytes) (t : TypeCode) : Type 0 where
   pub long-least : 1 ≤ lengthOf cat t
   pub long-most : lengthOf cat t ≤ 120
   pub kind-most : keyKind cat t ≤ 2
-  pub no-key : keyKind cat t ≡ 0 → (keyStart cat t ≡ 0) × (keyLength cat t ≡ 0)
+  pub no-key : keyKind cat t ≡ 0 → (keyStart cat t ≡ 0) × (keyLength cat t ≡ 0) × (keyValue cat t ≡ 0)
   pub some-key : (keyKind cat t ≡ 0 → ⊥) → (1 ≤ keyStart cat t) × (1 ≤ keyLength cat t)
   pub key-within : keyStart cat t + keyLength cat t ≤ suc (lengthOf cat t)
   pub level-most : level cat t ≤ 15
@@ -54,25 +54,26 @@ span-of start long most h =
     let b : start + long - 1 ≤ most = leb-true (start + long - 1) most (p .2) in
     (a, leb-true 1 long (p .1), omega arith)
 
--- a key as numbers: kind 0 has start and length 0
-record Key (kind start long most : ℕ) : Type 0 where
+-- a key as numbers: kind 0 has start, length and value type 0
+record Key (kind start long value most : ℕ) : Type 0 where
   kind-most : kind ≤ 2
-  none : kind ≡ 0 → (start ≡ 0) × (long ≡ 0)
+  none : kind ≡ 0 → (start ≡ 0) × (long ≡ 0) × (value ≡ 0)
   some : (kind ≡ 0 → ⊥) → (1 ≤ start) × (1 ≤ long)
   within : start + long ≤ suc most
 
-key-of : (kind start long most : ℕ) → pick (eqb kind 0) (eqb start 0 && eqb long 0) (leb kind 2 && goodSpan start long most) ≡ true → Key kind start long most
-key-of kind start long most h = elim (is (eqb kind 0)) [
+key-of : (kind start long value most : ℕ) → pick (eqb kind 0) (eqb start 0 && eqb long 0 && eqb value 0) (leb kind 2 && goodSpan start long most && goodValue value long) ≡ true
+    → Key kind start long value most
+key-of kind start long value most h = elim (is (eqb kind 0)) [
   | on e ↦
       let z : kind ≡ 0 = eqb-true kind 0 e in
-      let f : (eqb start 0 && eqb long 0) ≡ true = rw e at h in
-      let a = two _ _ f in
+      let f : (eqb start 0 && eqb long 0 && eqb value 0) ≡ true = rw e at h in
+      let a = three _ _ _ f in
       let b : start ≡ 0 = eqb-true start 0 (a .0) in
       let d : long ≡ 0 = eqb-true long 0 (a .1) in
-      record { kind-most = omega arith; none = λ q. (b, d); some = λ n. absurd (n z); within = omega arith }
+      record { kind-most = omega arith; none = λ q. (b, d, eqb-true value 0 (a .2)); some = λ n. absurd (n z); within = omega arith }
   | off e ↦
-      let f : (leb kind 2 && goodSpan start long most) ≡ true = rw e at h in
-      let a = two _ _ f in
+      let f : (leb kind 2 && goodSpan start long most && goodValue value long) ≡ true = rw e at h in
+      let a = three (leb kind 2) (goodSpan start long most) (goodValue value long) f in
       let b = span-of start long most (a .1) in
       record { kind-most = leb-true kind 2 (a .0); none = λ q. absurd (eqb-false kind 0 e q); some = λ n. (b .0, b .1); within = b .2 }
 ]
@@ -150,8 +151,8 @@ module _ (cat : Bytes) where
     pub type-facts : (t : TypeCode) → 1 ≤ t .0 → t .0 ≤ types cat → TypeFacts cat t
     unfolding goodType goodKey
     type-facts t a b =
-        let p = six (goodParent cat (t .0)) _ _ _ (zeros (part cat (8 * t .0 + 5) 3)) _ (good-type cat g (t .0) a b) in
-        let k = key-of (keyKind cat t) (keyStart cat t) (keyLength cat t) (lengthOf cat t) (p .3) in
+        let p = six (goodParent cat (t .0)) _ _ _ (zeros (part cat (8 * t .0 + 5) 2)) _ (good-type cat g (t .0) a b) in
+        let k = key-of (keyKind cat t) (keyStart cat t) (keyLength cat t) (keyValue cat t) (lengthOf cat t) (p .3) in
         record {
           long-least = leb-true 1 (lengthOf cat t) (p .1);
           long-most = leb-true (lengthOf cat t) 120 (p .2);
@@ -166,7 +167,7 @@ module _ (cat : Bytes) where
     unfolding goodField
     field-facts f a b =
         let h : goodField cat (f .0) ≡ true = every-at (goodField cat) 1 (fields cat) (f .0) (split .2) a (omega arith) in
-        let p = three _ _ _ h in
+        let p = three (isType cat (fieldType cat f)) (goodSpan (fieldStart cat f) (fieldLength cat f) (lengthOf cat (fieldType cat f))) _ h in
         let r = type-range (fieldType cat f) (p .0) in
         let s = span-of (fieldStart cat f) (fieldLength cat f) (lengthOf cat (fieldType cat f)) (p .1) in
         record { type-least = r .0; type-most = r .1; start-least = s .0; long-least = s .1; within = s .2 }

@@ -2,6 +2,7 @@ pub mod Choice
 pub mod Every
 pub mod Joined
 pub mod Order
+pub mod Packed
 pub mod Values
 pub mod Catalogue
 pub mod Entries

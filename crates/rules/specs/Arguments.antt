@@ -17,7 +17,8 @@ use Rattle.terms.specs.declared.ArgumentRead.the-variants.{Got, Fault}
 use Rattle.terms.specs.Choice.{pick}
 use Rattle.terms.specs.Names.{code, field, sameType}
 use Rattle.rules.specs.Block.{Bytes, byte, part}
-use Rattle.rules.specs.Catalogue.{fields, fieldType, fieldLength, isType, parentOf, typeBeneath, lineage}
+use Rattle.rules.specs.Order.{isValue}
+use Rattle.rules.specs.Catalogue.{fields, fieldType, fieldLength, fieldValue, isType, parentOf, typeBeneath, lineage}
 -- R25: the operators by their numbers
 unfoldable pub use Rattle.terms.specs.Operators.{operatorOf}
 
@@ -45,7 +46,7 @@ module _ (cat : Bytes) (list : Bytes) where
   unfoldable pub isFieldOf : TypeCode → FieldNumber → Bool
   isFieldOf t f = leb 1 (f .0) && leb (f .0) (fields cat) && sameType (fieldType cat f) t
 
-  -- one argument, which begins at this byte
+  -- one argument, which begins at this byte; R90: its value is one of the field's value type
   unfoldable pub argumentAt : TypeCode → ℕ → ArgumentRead
   argumentAt before at =
       let t = code (byte list at) in
@@ -58,7 +59,8 @@ module _ (cat : Bytes) (list : Bytes) where
       (pick (leb (length list) (at + 2)) (Fault AJ)
       (pick (not (isFieldOf t f)) (Fault AK)
       (pick (ltb (length list) (at + 3 + fieldLength cat f)) (Fault AJ)
-      (Got (record { code = t; qualification = Test (operatorOf o) f (at + 3); next = at + 3 + fieldLength cat f }))))))))
+      (pick (not (isValue (fieldValue cat f) (part list (at + 3) (fieldLength cat f)))) (Fault AJ)
+      (Got (record { code = t; qualification = Test (operatorOf o) f (at + 3); next = at + 3 + fieldLength cat f })))))))))
 
   -- R26: read from byte `at` on, at most n arguments, up to the first fault
   unfoldable pub argumentsFrom : ℕ → TypeCode → ℕ → ListRead

@@ -14,7 +14,7 @@ use Rattle.terms.specs.declared.Parentage.the-variants.{Absent, Of}
 use Rattle.terms.specs.declared.Position.{Position}
 use Rattle.terms.specs.declared.Argument.{Argument}
 use Rattle.terms.specs.declared.Status.{Status}
-use Rattle.terms.specs.declared.Status.the-variants.{Blank, GA, GK, GB, GE, DA, II, FX}
+use Rattle.terms.specs.declared.Status.the-variants.{Blank, GA, GK, GB, GE, DA, II, FX, PD}
 use Rattle.terms.specs.declared.Found.{Found}
 use Rattle.terms.specs.declared.Found.the-variants.{At, Nothing}
 use Rattle.terms.specs.declared.Answer.{Answer}
@@ -26,7 +26,7 @@ use Rattle.forest.specs.Numbers.{range, isIn}
 use Rattle.forest.specs.Insert.{spot}
 use Rattle.rules.specs.Block.{Bytes, anyOf, sameBytes}
 use Rattle.rules.specs.Catalogue.{keyKind, level}
-use Rattle.rules.specs.Cells.{Segment, segment, arriving, shownBytes, long, key, sameKey, goesBefore, segmentLevel, levelAt, runAt, endAt, rowAt}
+use Rattle.rules.specs.Cells.{Segment, segment, arriving, shownBytes, long, key, keyed, sameKey, goesBefore, segmentLevel, levelAt, runAt, endAt, rowAt}
 use Rattle.rules.specs.Change.{Change, nothing, put, swap, cut, applied}
 use Rattle.rules.specs.Arguments.{Level, lastArgument, getLevels, parentLevels}
 use Rattle.rules.specs.Matching.{firstMatch, along}
@@ -125,12 +125,14 @@ module _ (cat : Bytes) where
     getNextWithin hold ls =
         gotten GE (levelStatus cs ls (pos .place)) (λ i. pos .parentage) hold (firstMatch cat cs ls (afterPlace (pos .place)) (parentEnd cs (pos .parentage)))
 
-    -- ISRT under a parent that was found: x becomes cell r, beneath the cells `above`, if no twin has its key and there is room; these are the cells then
+    -- ISRT under a parent that was found: x becomes cell r, beneath the cells `above`, if its key is a value (R91), no twin has it and there is room; these
+    -- are the cells then
     unfoldable pub inserted : ℕ → Segment → List ℕ → Bool → ℕ → List Segment → After
     inserted m x above taken r new =
-        pick (eqb (keyKind cat (x .code)) 1 && taken) (refused II pos area)
+        pick (not (keyed cat x)) (refused PD pos area)
+        (pick (eqb (keyKind cat (x .code)) 1 && taken) (refused II pos area)
         (pick (eqb (length cs) m) (refused FX pos area)
-        (changed (afterInsert r (isOneOf above (pos .parentage)) pos) x 0 (put r (x ∷ [])) new area))
+        (changed (afterInsert r (isOneOf above (pos .parentage)) pos) x 0 (put r (x ∷ [])) new area)))
 
     -- x among the n cells from i on, which are all those beneath its parent
     unfoldable pub insertAmong : ℕ → Segment → List ℕ → ℕ → ℕ → After

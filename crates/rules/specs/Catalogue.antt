@@ -16,6 +16,10 @@ use Rattle.rules.specs.Block.{Bytes, byte, part, every, zeros, marked}
 abbrev pub goodSpan : ℕ → ℕ → ℕ → Bool
 goodSpan start long L = leb 1 start && leb 1 long && leb (start + long - 1) L
 
+-- R86: bytes, or packed decimal in 16 bytes at most
+abbrev pub goodValue : ℕ → ℕ → Bool
+goodValue w long = pick (eqb w 1) (leb long 16) (eqb w 0)
+
 module _ (cat : Bytes) where
   -- R2: T and F
   unfoldable pub types : ℕ
@@ -44,7 +48,7 @@ module _ (cat : Bytes) where
   unfoldable pub keyLength : TypeCode → ℕ
   keyLength t = typeByte t 4
 
-  -- the value type of the key: one of the three zero bytes
+  -- R86: the value type of the key
   unfoldable pub keyValue : TypeCode → ℕ
   keyValue t = typeByte t 7
 
@@ -62,7 +66,7 @@ module _ (cat : Bytes) where
   unfoldable pub fieldLength : FieldNumber → ℕ
   fieldLength f = fieldByte f 2
 
-  -- the value type of the field: the zero byte
+  -- R86: the value type of the field
   unfoldable pub fieldValue : FieldNumber → ℕ
   fieldValue f = fieldByte f 3
 
@@ -87,11 +91,11 @@ module _ (cat : Bytes) where
   largest zero = 0
   largest (suc k) = let m = largest k in pick (ltb m (lengthOf (code (suc k)))) (lengthOf (code (suc k))) m
 
-  -- R4, R5: the kind, and the span, or zeros where there is no key
+  -- R4, R5, R86: the kind, the span and the value type, or zeros where there is no key
   unfoldable pub goodKey : TypeCode → Bool
   goodKey t =
-      pick (eqb (keyKind t) 0) (eqb (keyStart t) 0 && eqb (keyLength t) 0)
-      (leb (keyKind t) 2 && goodSpan (keyStart t) (keyLength t) (lengthOf t))
+      pick (eqb (keyKind t) 0) (eqb (keyStart t) 0 && eqb (keyLength t) 0 && eqb (keyValue t) 0)
+      (leb (keyKind t) 2 && goodSpan (keyStart t) (keyLength t) (lengthOf t) && goodValue (keyValue t) (keyLength t))
 
   -- R7: whose child type k may be
   unfoldable pub goodParent : ℕ → Bool
@@ -101,13 +105,13 @@ module _ (cat : Bytes) where
   unfoldable pub goodType : ℕ → Bool
   goodType k =
       goodParent k && leb 1 (lengthOf (code k)) && leb (lengthOf (code k)) 120 && goodKey (code k)
-      && zeros (part cat (8 * k + 5) 3) && leb (level (code k)) 15
+      && zeros (part cat (8 * k + 5) 2) && leb (level (code k)) 15
 
-  -- R6: an entry of a field that is right
+  -- R6, R86: an entry of a field that is right
   unfoldable pub goodField : ℕ → Bool
   goodField f =
       isType (fieldType (field f)) && goodSpan (fieldStart (field f)) (fieldLength (field f)) (lengthOf (fieldType (field f)))
-      && eqb (fieldByte (field f) 3) 0
+      && goodValue (fieldValue (field f)) (fieldLength (field f))
 
   -- R2, R3: the header, and how long the block is
   unfoldable pub goodHeader : Bool

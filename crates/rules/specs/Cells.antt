@@ -15,7 +15,7 @@ use Rattle.forest.specs.Good.{formed}
 use Rattle.forest.specs.Groups.{ok}
 use Rattle.forest.specs.Numbers.{ancestors, run}
 use Rattle.rules.specs.Block.{Bytes, part}
-use Rattle.rules.specs.Order.{valueOrder}
+use Rattle.rules.specs.Order.{isValue, valueOrder}
 use Rattle.rules.specs.Catalogue.{isType, parentOf, lengthOf, keyKind, keyStart, keyLength, keyValue, level}
 
 -- R13: the segment that a cell holds
@@ -54,6 +54,10 @@ module _ (cat : Bytes) where
   -- the key's bytes: none with kind 0
   unfoldable pub key : Segment → Bytes
   key s = part (s .bytes) (keyStart cat (s .code) - 1) (keyLength cat (s .code))
+
+  -- R89: the key is a value of its value type
+  unfoldable pub keyed : Segment → Bool
+  keyed s = isValue (keyValue cat (s .code)) (key s)
 
   -- how the key of c stands to that of d, a segment of the same type
   unfoldable pub keyOrder : Segment → Segment → Order

@@ -19,8 +19,9 @@ use Rattle.rules.specs.Block.{Bytes, every, anyOf, zeros, marked, sameBy
 use Rattle.rules.specs.Catalogue.{types, fields, typeByte, parentOf, lengthOf, keyKind, keyStart, keyLength, keyValue}
 use Rattle.rules.specs.Catalogue.{fieldByte, fieldType, fieldStart, fieldLength, fieldValue, lineage, level, isType, typeBeneath, largest}
 use Rattle.rules.specs.Catalogue.{goodKey, goodParent, goodType, goodField, goodHeader, goodCatalogue}
-use Rattle.rules.specs.Order.{order, valueOrder}
-use Rattle.rules.specs.Cells.{Segment, segmentOf, arriving, shownBytes, long, key, keyOrder, twinOrder, sameKey, isChild, goesBefore}
+use Rattle.rules.specs.Packed.{isNumber, digitsOn, magnitude, isMinus, above, below, numberOrder, packedOrder}
+use Rattle.rules.specs.Order.{order, isValue, valueOrder}
+use Rattle.rules.specs.Cells.{Segment, segmentOf, arriving, shownBytes, long, key, keyed, keyOrder, twinOrder, sameKey, isChild, goesBefore}
 use Rattle.rules.specs.Cells.{goodListing, levelAt, runAt, endAt, rowAt}
 use Rattle.rules.specs.Table.{count, cellSize, cellStart, room, typeAt, segmentAt, listing, goodRoom, padded, goodTable, cellBytes, tableBytes}
 use Rattle.rules.specs.Position.{goodPosition, positionBytes, goodBlock, positionOf}
@@ -51,7 +52,7 @@ catalogueComputed cat = goodCatalogue cat
 
 -- segments and their keys
 unfoldable pub segmentsComputed : Bytes → Segment → Segment → Bool
-unfolding catalogueComputed order valueOrder segmentOf arriving shownBytes long key keyOrder twinOrder sameKey isChild goesBefore
+unfolding catalogueComputed isNumber digitsOn magnitude isMinus above below numberOrder packedOrder order isValue valueOrder segmentOf arriving shownBytes long key keyed keyOrder twinOrder sameKey isChild goesBefore
 segmentsComputed cat c d = twinOrder cat c d
 
 -- the cells as a forest: levels, runs, ancestors
@@ -71,7 +72,7 @@ positionComputed cat cs pos = goodPosition cat cs pos
 
 -- the list, and what matches it
 unfoldable pub listComputed : Bytes → Bytes → TypeCode → List Level
-unfolding fieldsComputed operatorOf goodNext isFieldOf argumentAt argumentsFrom listRead askedOf complete
+unfolding fieldsComputed isNumber isValue operatorOf goodNext isFieldOf argumentAt argumentsFrom listRead askedOf complete
 listComputed cat list t = complete cat list (listRead cat list .arguments) t
 
 unfoldable pub searchComputed : Bytes → List Segment → List Level → Place → Found

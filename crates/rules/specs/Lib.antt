@@ -1,4 +1,5 @@
 pub mod Block
+pub mod Packed
 pub mod Order
 pub mod Catalogue
 pub mod Cells

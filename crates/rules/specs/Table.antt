@@ -9,7 +9,7 @@ use Rattle.terms.specs.Names.{code}
 use Rattle.forest.specs.Numbers.{range}
 use Rattle.rules.specs.Block.{Bytes, byte, word, wordBytes, part, every, zeros, marked}
 use Rattle.rules.specs.Catalogue.{types, lengthOf, largest}
-use Rattle.rules.specs.Cells.{Segment, segmentOf, goodListing}
+use Rattle.rules.specs.Cells.{Segment, segmentOf, keyed, goodListing}
 
 -- R10: n
 unfoldable pub count : Bytes → ℕ
@@ -47,11 +47,11 @@ module _ (cat : Bytes) where
     unfoldable pub padded : ℕ → Bool
     padded i = zeros (part tab (suc (cellStart i) + lengthOf cat (typeAt i)) (cellSize - suc (lengthOf cat (typeAt i))))
 
-    -- the check of a table (R10 to R15)
+    -- the check of a table (R10 to R15, R89)
     unfoldable pub goodTable : Bool
     goodTable =
         goodRoom && marked 0x54 tab && eqb (byte tab 5) cellSize && leb (count tab) room
-        && every padded (range 0 (count tab)) && zeros (drop (cellStart (count tab)) tab) && goodListing cat listing
+        && every padded (range 0 (count tab)) && zeros (drop (cellStart (count tab)) tab) && every (keyed cat) listing && goodListing cat listing
 
   -- R13: the bytes of a segment
   unfoldable pub cellBytes : Segment → Bytes

@@ -15,7 +15,7 @@ use Rattle.terms.specs.declared.Parentage.the-variants.{Absent, Of}
 use Rattle.terms.specs.declared.Position.{Position}
 use Rattle.terms.specs.declared.Argument.{Argument}
 use Rattle.terms.specs.declared.Status.{Status}
-use Rattle.terms.specs.declared.Status.the-variants.{Blank, GA, GK, GE, DA, II, FX}
+use Rattle.terms.specs.declared.Status.the-variants.{Blank, GA, GK, GE, DA, II, FX, PD}
 use Rattle.terms.specs.Choice.{pick}
 use Rattle.terms.specs.Names.{sameType}
 use Rattle.forest.specs.Forest.{Forest, void, node, cellsOf, forestOf}
@@ -26,7 +26,7 @@ use Rattle.forest.specs.Insert.{graft, insertUnder as graftUnder}
 use Rattle.forest.specs.Numbers.{range}
 use Rattle.rules.specs.Block.{Bytes, sameBytes}
 use Rattle.rules.specs.Catalogue.{keyKind}
-use Rattle.rules.specs.Cells.{Segment, segment, arriving, shownBytes, key, sameKey, goesBefore, segmentLevel, levelAt}
+use Rattle.rules.specs.Cells.{Segment, segment, arriving, shownBytes, key, keyed, sameKey, goesBefore, segmentLevel, levelAt}
 use Rattle.rules.specs.Change.{nothing, put, swap, cut}
 use Rattle.rules.specs.Arguments.{Level, lastArgument, getLevels, parentLevels}
 use Rattle.rules.specs.Matching.{agrees, isImplied}
@@ -168,9 +168,10 @@ module _ (cat : Bytes) (cs : List Segment) where
     -- (49) x as number r beneath inspos, in a row of siblings of which one has its key or none; dp′ is the whole afterwards
     unfoldable pub putUnder : ℕ → Segment → Path → Bool → ℕ → List Segment → After
     putUnder m x inspos taken r dp′ =
-        pick (eqb (keyKind cat (x .code)) 1 && taken) (answered II here)
+        pick (not (keyed cat x)) (answered PD here)
+        (pick (eqb (keyKind cat (x .code)) 1 && taken) (answered II here)
         (pick (eqb (length cs) m) (answered FX here)
-        (changed cat (numbered (afterPut inspos r here)) x 0 (put r (x ∷ [])) dp′ area))
+        (changed cat (numbered (afterPut inspos r here)) x 0 (put r (x ∷ [])) dp′ area)))
 
     -- (49) insert-rec into the row of siblings subdp, whose first segment has number i
     abbrev pub insertRec : ℕ → Segment → Path → ℕ → Forest Segment → Forest Segment → After

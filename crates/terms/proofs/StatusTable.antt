@@ -6,7 +6,7 @@ use Prim.Native.Nat.{ℕ, _+_, _*_}
 use lib.Dec.{eqb}
 use lib.ListN.{getD}
 use Rattle.terms.specs.declared.Status.{Status}
-use Rattle.terms.specs.declared.Status.the-variants.{Blank, GA, GK, GB, GE, GP, CX, TX, PX, AD, AC, AJ, AK, AH, AB, DJ, DA, II, FX}
+use Rattle.terms.specs.declared.Status.the-variants.{Blank, GA, GK, GB, GE, GP, CX, TX, PX, AD, AC, AJ, AK, AH, AB, DJ, DA, II, FX, PD}
 use Rattle.terms.specs.Choice.{pick}
 use Rattle.terms.specs.Statuses.{number, letters}
 use Rattle.terms.specs.Paper.{printedRow, StatusRow, printedStatuses}
@@ -34,6 +34,7 @@ line DJ = 15
 line DA = 16
 line II = 17
 line FX = 18
+line PD = 19
 
 -- CLAIM: the row there holds its number and its letters
 status-rows : (s : Status) → printedRow printedStatuses (line s) ≡ some (record { status = s; number = number s; letters = letters s })
@@ -57,6 +58,7 @@ status-rows DJ = refl
 status-rows DA = refl
 status-rows II = refl
 status-rows FX = refl
+status-rows PD = refl
 
 -- THEOREM: the status table is as printed
 pub statuses-printed : StatusesPrinted
@@ -100,6 +102,7 @@ number-told DJ = refl
 number-told DA = refl
 number-told II = refl
 number-told FX = refl
+number-told PD = refl
 
 letters-told : (s : Status) → byLetters (letters s) printedStatuses ≡ s
 unfolding printedStatuses
@@ -122,6 +125,7 @@ letters-told DJ = refl
 letters-told DA = refl
 letters-told II = refl
 letters-told FX = refl
+letters-told PD = refl
 
 -- THEOREM: no two statuses share a number
 pub numbers-apart : NumbersApart

@@ -6,7 +6,7 @@ use mathlib.Core.Option.{Option, none, some}
 use Prim.Native.Nat.{ℕ, zero, suc}
 use Prim.Native.String.{String}
 use Rattle.terms.specs.declared.Status.{Status}
-use Rattle.terms.specs.declared.Status.the-variants.{Blank, GA, GK, GB, GE, GP, CX, TX, PX, AD, AC, AJ, AK, AH, AB, DJ, DA, II, FX}
+use Rattle.terms.specs.declared.Status.the-variants.{Blank, GA, GK, GB, GE, GP, CX, TX, PX, AD, AC, AJ, AK, AH, AB, DJ, DA, II, FX, PD}
 use Rattle.terms.specs.declared.Operator.{Operator}
 use Rattle.terms.specs.declared.Operator.the-variants.{Eq, Ne, Lt, Le, Gt, Ge}
 use Rattle.terms.specs.Text.{bytesOf}
@@ -47,6 +47,7 @@ printedStatuses =
     ∷ given DA 30 "DA"
     ∷ given II 31 "II"
     ∷ given FX 32 "FX"
+    ∷ given PD 33 "PD"
     ∷ []
 
 pub record OperatorRow : Type 0 where

@@ -73,6 +73,7 @@ pub enum Status {
     DA,
     II,
     FX,
+    PD,
 }
 
 // R26: an argument, or the fault that answers.

@@ -26,6 +26,7 @@ pub fn number(s: Status) -> u8
         Status::DA => 30,
         Status::II => 31,
         Status::FX => 32,
+        Status::PD => 33,
     }
 }
 
@@ -53,5 +54,6 @@ pub fn letters(s: Status) -> [u8; 2]
         Status::DA => [b'D', b'A'],
         Status::II => [b'I', b'I'],
         Status::FX => [b'F', b'X'],
+        Status::PD => [b'P', b'D'],
     }
 }

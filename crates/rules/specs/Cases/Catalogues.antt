@@ -1,4 +1,4 @@
--- The catalogue, rule by rule (R2 to R8): the bench catalogue with a byte changed, and what the check answers. The claim is in proofs/Bench.antt.
+-- The catalogue, rule by rule (R2 to R8, R86): the bench catalogue with a byte changed, and what the check answers. The claim is in proofs/Bench.antt.
 -- Assumes nothing: these are definitions.
 use mathlib.Core.List.{List, [], _∷_, _++_}
 use Prim.Native.Nat.{ℕ, zero, suc}
@@ -20,6 +20,13 @@ beneathRoot (suc k) = 1 ∷ 1 ∷ 0 ∷ 0 ∷ 0 ∷ 0 ∷ 0 ∷ 0 ∷ beneathRoo
 
 abbrev pub wideCatalogue : ℕ → Bytes
 wideCatalogue k = 0x48 ∷ 0x44 ∷ 0x43 ∷ 0 ∷ 1 ∷ suc k ∷ 0 ∷ 0 ∷ 0 ∷ 1 ∷ 0 ∷ 0 ∷ 0 ∷ 0 ∷ 0 ∷ 0 ∷ beneathRoot k
+
+-- the bench catalogue with a key of type 1, and with a field 1, over its first n of 17 bytes and of value type w
+abbrev longKey : ℕ → ℕ → Bytes
+longKey n w = set (set (withByte 9 17) 12 n) 15 w
+
+abbrev longField : ℕ → ℕ → Bytes
+longField n w = set (set (withByte 9 17) 42 n) 43 w
 
 -- one type with n fields, all of them its first byte
 abbrev pub firstBytes : ℕ → Bytes
@@ -65,11 +72,21 @@ ruled =
     ∷ catalogueIs (withByte 12 255) CX
     ∷ catalogueIs (withByte 12 3) Blank
     ∷ catalogueIs (withByte 12 4) CX
-    -- three zero bytes
+    -- two zero bytes
     ∷ catalogueIs (withByte 13 1) CX
     ∷ catalogueIs (withByte 14 1) CX
-    ∷ catalogueIs (withByte 15 1) CX
-    -- a field's type is 1 to T, its start and length go by the L of that type, its last byte is zero
+    -- R86: the value type of a key is 0 or 1, and of no key 0; a packed one has at most 16 bytes
+    ∷ catalogueIs (withByte 15 1) Blank
+    ∷ catalogueIs (withByte 15 2) CX
+    ∷ catalogueIs (withByte 15 255) CX
+    ∷ catalogueIs (withByte 23 1) Blank
+    ∷ catalogueIs (withByte 39 1) CX
+    ∷ catalogueIs (withByte 39 2) CX
+    ∷ catalogueIs (longKey 16 1) Blank
+    ∷ catalogueIs (longKey 17 1) CX
+    ∷ catalogueIs (longKey 17 0) Blank
+    ∷ catalogueIs (longKey 18 0) CX
+    -- a field's type is 1 to T, its start and length go by the L of that type
     ∷ catalogueIs (withByte 40 0) CX
     ∷ catalogueIs (withByte 48 5) CX
     ∷ catalogueIs (withByte 49 2) Blank
@@ -78,8 +95,15 @@ ruled =
     ∷ catalogueIs (withByte 50 0) CX
     ∷ catalogueIs (withByte 50 2) Blank
     ∷ catalogueIs (withByte 50 3) CX
-    ∷ catalogueIs (withByte 43 1) CX
-    ∷ catalogueIs (withByte 55 1) CX
+    -- R86: the value type of a field is 0 or 1, whatever its key has; a packed one has at most 16 bytes
+    ∷ catalogueIs (withByte 43 1) Blank
+    ∷ catalogueIs (withByte 43 2) CX
+    ∷ catalogueIs (withByte 51 1) Blank
+    ∷ catalogueIs (withByte 55 1) Blank
+    ∷ catalogueIs (withByte 55 255) CX
+    ∷ catalogueIs (longField 16 1) Blank
+    ∷ catalogueIs (longField 17 1) CX
+    ∷ catalogueIs (longField 17 0) Blank
     -- R7: which type has parent 0
     ∷ catalogueIs (withByte 8 1) CX
     ∷ catalogueIs (withByte 32 0) CX

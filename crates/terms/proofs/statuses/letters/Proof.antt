@@ -78,6 +78,10 @@ enum-told-18 c = search needs
 enum-told-19 : tie.Need-enum-told-19
 enum-told-19 c = search needs
 
+-- src/statuses.rt: Status::PD => [b'P', b'D'],
+enum-told-20 : tie.Need-enum-told-20
+enum-told-20 c = search needs
+
 -- src/statuses.rt: pub fn letters(s: Status) -> [u8; 2]
 returns : tie.Need-returns
 returns c = simp (c .enum-told .given .1)
@@ -154,6 +158,10 @@ returns-18 c = simp (c .enum-told18 .given .1)
 returns-19 : tie.Need-returns-19
 returns-19 c = simp (c .enum-told19 .given .1)
 
+-- src/statuses.rt: pub fn letters(s: Status) -> [u8; 2]
+returns-20 : tie.Need-returns-20
+returns-20 c = simp (c .enum-told20 .given .1)
+
 pub letters-spec : {M : Type 1} → statement M
 letters-spec =
     tie.close
@@ -177,6 +185,7 @@ letters-spec =
     enum-told-17
     enum-told-18
     enum-told-19
+    enum-told-20
     returns
     returns-2
     returns-3
@@ -195,4 +204,5 @@ letters-spec =
     returns-16
     returns-17
     returns-18
-    returns-19)
+    returns-19
+    returns-20)

@@ -78,6 +78,10 @@ enum-told-18 c = search needs
 enum-told-19 : tie.Need-enum-told-19
 enum-told-19 c = search needs
 
+-- src/statuses.rt: Status::PD => 33,
+enum-told-20 : tie.Need-enum-told-20
+enum-told-20 c = search needs
+
 -- src/statuses.rt: pub fn number(s: Status) -> u8
 returns : tie.Need-returns
 returns c = simp (c .enum-told .given .1)
@@ -154,6 +158,10 @@ returns-18 c = simp (c .enum-told18 .given .1)
 returns-19 : tie.Need-returns-19
 returns-19 c = simp (c .enum-told19 .given .1)
 
+-- src/statuses.rt: pub fn number(s: Status) -> u8
+returns-20 : tie.Need-returns-20
+returns-20 c = simp (c .enum-told20 .given .1)
+
 pub number-spec : {M : Type 1} → statement M
 number-spec =
     tie.close
@@ -177,6 +185,7 @@ number-spec =
     enum-told-17
     enum-told-18
     enum-told-19
+    enum-told-20
     returns
     returns-2
     returns-3
@@ -195,4 +204,5 @@ number-spec =
     returns-16
     returns-17
     returns-18
-    returns-19)
+    returns-19
+    returns-20)
