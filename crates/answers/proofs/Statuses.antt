@@ -3,7 +3,7 @@ use mathlib.Core.Path.{_≡_, refl}
 use Prim.Native.Nat.{ℕ}
 use native.Mathlib.Omega.{arith}
 use Rattle.terms.specs.declared.Status.{Status}
-use Rattle.terms.specs.declared.Status.the-variants.{Blank, GA, GK, GB, GE, GP, CX, TX, PX, AD, AC, AJ, AK, AH, AB, DJ, DA, II, FX}
+use Rattle.terms.specs.declared.Status.the-variants.{Blank, GA, GK, GB, GE, GP, CX, TX, PX, AD, AC, AJ, AK, AH, AB, DJ, DA, II, FX, PD}
 use Rattle.terms.specs.Statuses.{number}
 
 pub blank-is : (s : Status) → number s ≡ 0 → s ≡ Blank
@@ -26,3 +26,4 @@ blank-is DJ e = absurd (omega arith)
 blank-is DA e = absurd (omega arith)
 blank-is II e = absurd (omega arith)
 blank-is FX e = absurd (omega arith)
+blank-is PD e = absurd (omega arith)

@@ -17,8 +17,9 @@ use Rattle.terms.specs.declared.ArgumentRead.{ArgumentRead}
 use Rattle.terms.specs.declared.ArgumentRead.the-variants.{Got, Fault}
 use Rattle.terms.specs.Choice.{pick}
 use Rattle.terms.specs.Names.{code, field, sameType}
-use Rattle.rules.specs.Block.{Bytes, byte}
-use Rattle.rules.specs.Catalogue.{fields, fieldType, fieldLength, goodCatalogue}
+use Rattle.rules.specs.Block.{Bytes, byte, part}
+use Rattle.rules.specs.Order.{isValue}
+use Rattle.rules.specs.Catalogue.{fields, fieldType, fieldLength, fieldValue, goodCatalogue}
 use Rattle.rules.specs.Arguments.{ListRead, Asked, implied, operatorOf, goodNext, argumentsFrom, listRead, meant}
 
 -- what a call has of its catalogue and its list once neither is refused
@@ -26,12 +27,13 @@ pub record SoundList (cat list : Bytes) : Type 0 where
   pub catalogue : goodCatalogue cat ≡ true
   pub read : listRead cat list .fault ≡ Blank
 
--- what the field and the value of a test are: a field of the argument's type, and a value of its length within the list
+-- what the field and the value of a test are: a field of the argument's type, and a value of its length and value type within the list
 pub record GoodTest (cat list : Bytes) (t : TypeCode) (o : Operator) (f : FieldNumber) (v : ℕ) : Type 0 where
   pub first : 1 ≤ f .0
   pub last : f .0 ≤ fields cat
   pub own : fieldType cat f ≡ t
   pub within : v + fieldLength cat f ≤ length list
+  pub value : isValue (fieldValue cat f) (part list v (fieldLength cat f)) ≡ true
 
 abbrev pub GoodQualification : Bytes → Bytes → TypeCode → Qualification → Type 0
 GoodQualification cat list t None = Unit {0}

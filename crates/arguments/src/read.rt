@@ -3,6 +3,7 @@ use blocks::wide;
 use catalogue::entry_bytes::fields;
 use catalogue::fields::field_length;
 use catalogue::fields::field_type;
+use catalogue::fields::field_value;
 use catalogue::lineage::is_beneath;
 use catalogue::type_range::is_type;
 use terms::Argument;
@@ -12,6 +13,7 @@ use terms::Operator;
 use terms::Qualification;
 use terms::Status;
 use terms::TypeCode;
+use values::is_value;
 ghost use mathlib.Core.Path.{_≡_};
 ghost use mathlib.Core.List.{[]};
 ghost use Rattle.rules.specs.Arguments.{operatorOf, goodNext, isFieldOf, argumentAt, listRead};
@@ -103,11 +105,16 @@ pub fn read_argument(cat: &[u8], list: &[u8], before: TypeCode, at: usize) -> Ar
     if list.len() <= at + 2 {
         return ArgumentRead::Fault(Status::AJ);
     }
-    if !is_field_of(cat, t, FieldNumber(list[at + 2])) {
+    let f = FieldNumber(list[at + 2]);
+    if !is_field_of(cat, t, f) {
         return ArgumentRead::Fault(Status::AK);
     }
     let a = argument_at(cat, list, at);
-    if list.len() < a.next {
+    let next = a.next;
+    if list.len() < next {
+        return ArgumentRead::Fault(Status::AJ);
+    }
+    if !is_value(field_value(cat, f), &list[at + 3..next]) {
         return ArgumentRead::Fault(Status::AJ);
     }
     ArgumentRead::Got(a)

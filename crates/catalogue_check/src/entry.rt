@@ -4,12 +4,13 @@ use catalogue::entries::data_length;
 use catalogue::entries::key_kind;
 use catalogue::entries::key_length;
 use catalogue::entries::key_start;
+use catalogue::entries::key_value;
 use catalogue::entries::parent;
-use catalogue::entry_bytes::field_byte;
 use catalogue::entry_bytes::type_byte;
 use catalogue::fields::field_length;
 use catalogue::fields::field_start;
 use catalogue::fields::field_type;
+use catalogue::fields::field_value;
 use catalogue::lineage::add_level;
 use catalogue::lineage::is_above;
 use catalogue::type_range::is_type;
@@ -20,7 +21,7 @@ ghost use mathlib.Core.Bool.{true, _&&_};
 ghost use Prim.Native.Nat.{_+_, _*_};
 ghost use lib.Dec.{leb};
 ghost use Rattle.rules.specs.Block.{part, zeros};
-ghost use Rattle.rules.specs.Catalogue.{lengthOf, goodSpan, goodKey, goodParent, goodType, goodField};
+ghost use Rattle.rules.specs.Catalogue.{lengthOf, goodSpan, goodValue, goodKey, goodParent, goodType, goodField};
 ghost use Rattle.catalogue_check.specs.Levelled.{Ready, Next};
 
 // R5: a span within the data. The sum is taken in wide numbers, where it cannot wrap.
@@ -36,23 +37,40 @@ pub fn good_span(start: u8, long: u8, most: u8) -> bool
     wide(start) + wide(long) - 1 <= wide(most)
 }
 
-// R4, R5: the kind of key, and its span, or zeros where the type has none.
+// R86: a value type, of a key or field of this length.
+fn good_value(w: u8, long: u8) -> bool
+    ensures { λ r. ⌜ r ≡ goodValue w long ⌝ }
+{
+    if w == 1 {
+        return long <= 16;
+    }
+    w == 0
+}
+
+// R4, R5, R86: the kind of key, its span and its value type, or zeros where the type has none.
 fn good_key(cat: &[u8], t: TypeCode) -> bool
     ensures { λ r. ⌜ r ≡ goodKey (now (cat .entry)) t ⌝ }
 {
     let kind = key_kind(cat, t);
     let start = key_start(cat, t);
     let long = key_length(cat, t);
+    let value = key_value(cat, t);
     if kind == 0 {
         if start != 0 {
             return false;
         }
-        return long == 0;
+        if long != 0 {
+            return false;
+        }
+        return value == 0;
     }
     if 2 < kind {
         return false;
     }
-    good_span(start, long, data_length(cat, t))
+    if !good_span(start, long, data_length(cat, t)) {
+        return false;
+    }
+    good_value(value, long)
 }
 
 // R7: whose child the type may be.
@@ -80,17 +98,14 @@ fn good_length(cat: &[u8], t: TypeCode) -> bool
     long <= 120
 }
 
-// R4: the last bytes of a type's entry.
-pub fn ends_in_zeros(cat: &[u8], t: TypeCode) -> bool
-    ensures { λ r. ⌜ r ≡ zeros (part (now (cat .entry)) (8 * t .0 + 5) 3) ⌝ }
+// R4: the two bytes of a type's entry before its value type.
+fn has_zeros(cat: &[u8], t: TypeCode) -> bool
+    ensures { λ r. ⌜ r ≡ zeros (part (now (cat .entry)) (8 * t .0 + 5) 2) ⌝ }
 {
     if type_byte(cat, t, 5) != 0 {
         return false;
     }
-    if type_byte(cat, t, 6) != 0 {
-        return false;
-    }
-    type_byte(cat, t, 7) == 0
+    type_byte(cat, t, 6) == 0
 }
 
 // The types before t have been found good: the row holds their levels, and gains that of t if it is good too.
@@ -107,14 +122,14 @@ pub fn good_type(cat: &[u8], levels: &mut [u8; 33], t: TypeCode) -> bool
     if !good_key(cat, t) {
         return false;
     }
-    if !ends_in_zeros(cat, t) {
+    if !has_zeros(cat, t) {
         return false;
     }
     add_level(cat, levels, t);
     levels[wide(t.0)] <= 15
 }
 
-// R6: a field's type, its span in the data of that type, and the zero.
+// R6, R86: a field's type, its span in the data of that type, and its value type.
 pub fn good_field(cat: &[u8], f: FieldNumber) -> bool
     ensures { λ r. ⌜ r ≡ goodField (now (cat .entry)) (f .0) ⌝ }
 {
@@ -127,5 +142,5 @@ pub fn good_field(cat: &[u8], f: FieldNumber) -> bool
     if !good_span(start, long, data_length(cat, t)) {
         return false;
     }
-    field_byte(cat, f, 3) == 0
+    good_value(field_value(cat, f), long)
 }

@@ -19,9 +19,10 @@ use Rattle.forest.specs.Runs.{under, under-in, under-out}
 use Rattle.forest.specs.Numbers.{range, isIn, ancestors, row-number, run-ancestor}
 use Rattle.rules.specs.Block.{Bytes, byte, part, every, zeros, marked}
 use Rattle.rules.specs.Catalogue.{types, parentOf, lengthOf, isType, lineage, level, typeBeneath, goodCatalogue}
-use Rattle.rules.specs.Cells.{Segment, segment, typeNumber, isChild, siblings, segmentLevel, goodListing, levelAt, runAt, endAt}
+use Rattle.rules.specs.Cells.{Segment, segment, keyed, typeNumber, isChild, siblings, segmentLevel, goodListing, levelAt, runAt, endAt}
 use Rattle.rules.specs.Table.{count, cellSize, cellStart, room, listing, padded, goodRoom, goodTable}
 use Rattle.rules.specs.Tree.{dataPart, segments}
+use Rattle.rules.proofs.Table.{table-tests, cell-keyed}
 use Rattle.rules.proofs.Catalogue.{par, good-lower}
 use Rattle.rules.proofs.Cells.{listing-length}
 use Rattle.rules.proofs.Tree.{segments-cells}
@@ -170,8 +171,11 @@ module _ {cat tab : Bytes} {size : ℕ} (s : Sound cat tab size) where
   cs = listing cat tab
 
   pub sound-listing : goodListing cat (listing cat tab) ≡ true
-  unfolding goodTable
-  sound-listing = both-right (goodRoom cat tab && marked 0x54 tab && eqb (byte tab 5) (cellSize cat) && leb (count tab) (room cat tab) && every (padded cat tab) (range 0 (count tab)) && zeros (drop (cellStart cat (count tab)) tab)) (goodListing cat (listing cat tab)) (s .table)
+  sound-listing = table-tests cat tab (s .table) .cells
+
+  -- R89: the key of each cell is a value
+  pub sound-keyed : (i : ℕ) → i < count tab → keyed cat (segment (listing cat tab) i) ≡ true
+  sound-keyed i l = cell-keyed cat tab (s .table) i l
 
   pub sound-known : (i : ℕ) → i < count tab → isType cat (segment (listing cat tab) i .code) ≡ true
   sound-known i l = row-type cat cs (s .catalogue) sound-listing i (omega (arith, listing-length cat tab)) .0

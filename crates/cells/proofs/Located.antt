@@ -19,6 +19,7 @@ use Rattle.rules.specs.Block.{Bytes, byte, every, zeros, marked}
 use Rattle.rules.specs.Catalogue.{goodCatalogue}
 use Rattle.rules.specs.Cells.{Segment, segment, segmentOf, levelAt, runAt, endAt, goodListing}
 use Rattle.rules.specs.Table.{count, cellSize, cellStart, room, typeAt, segmentAt, listing, padded, goodRoom, goodTable}
+use Rattle.rules.proofs.Table.{table-tests}
 use Rattle.rules.proofs.Cells.{listing-at}
 use Rattle.cells.specs.Lent.{Sized, Inside, startOf, behind, nearest, endFrom, climbed, parentAt}
 use Rattle.cells.specs.Sound.{Sound}
@@ -178,36 +179,24 @@ pub record Housed (cat tab : Bytes) : Type 0 where
   pub few : count tab ≤ room cat tab
 
 module _ (cat tab : Bytes) (h : goodTable cat tab ≡ true) where
-  front-of : (a b c d e f g : Bool) → (a && b && c && d && e && f && g) ≡ true → (a ≡ true) × (c ≡ true) × (d ≡ true)
-  front-of a b c d e f g k =
-      let x : (a && b && c && d) ≡ true = both-left (a && b && c && d) e (both-left (a && b && c && d && e) f (both-left (a && b && c && d && e && f) g k)) in
-      let y : (a && b && c) ≡ true = both-left (a && b && c) d x in
-      (both-left a b (both-left (a && b) c y), both-right (a && b) c y, both-right (a && b && c) d x)
-
-  front : (goodRoom cat tab ≡ true) × (eqb (byte tab 5) (cellSize cat) ≡ true) × (leb (count tab) (room cat tab) ≡ true)
-  unfolding goodTable
-  front =
-      front-of (goodRoom cat tab) (marked 0x54 tab) (eqb (byte tab 5) (cellSize cat)) (leb (count tab) (room cat tab))
-      (every (padded cat tab) (range 0 (count tab))) (zeros (drop (cellStart cat (count tab)) tab)) (goodListing cat (listing cat tab)) h
-
   pub good-housed : Housed cat tab
   unfolding goodRoom cellStart
   good-housed =
-      let p = front in
-      let q = both-left (leb 8 (length tab) && eqb (length tab) (cellStart cat (room cat tab))) (leb (room cat tab) 4096) (p .0) in
+      let p = table-tests cat tab h in
+      let q = both-left (leb 8 (length tab) && eqb (length tab) (cellStart cat (room cat tab))) (leb (room cat tab) 4096) (p .roomy) in
       record {
         whole = eqb-true (length tab) (cellStart cat (room cat tab)) (both-right (leb 8 (length tab)) (eqb (length tab) (cellStart cat (room cat tab))) q);
-        most = leb-true (room cat tab) 4096 (both-right (leb 8 (length tab) && eqb (length tab) (cellStart cat (room cat tab))) (leb (room cat tab) 4096) (p .0));
-        told = eqb-true (byte tab 5) (cellSize cat) (p .1);
-        few = leb-true (count tab) (room cat tab) (p .2);
+        most = leb-true (room cat tab) 4096 (both-right (leb 8 (length tab) && eqb (length tab) (cellStart cat (room cat tab))) (leb (room cat tab) 4096) (p .roomy));
+        told = eqb-true (byte tab 5) (cellSize cat) (p .size);
+        few = leb-true (count tab) (room cat tab) (p .few);
       }
 
 pub good-sized : (cat tab : Bytes) → goodCatalogue cat ≡ true → goodTable cat tab ≡ true → Sized cat tab (cellSize cat)
-good-sized cat tab g h = room-sized cat tab refl g (front cat tab h .0) (good-housed cat tab h .few)
+good-sized cat tab g h = room-sized cat tab refl g (table-tests cat tab h .roomy) (good-housed cat tab h .few)
 
 -- a good table has room for so many cells, used or not
 pub sound-inside : {cat tab : Bytes} {size : ℕ} → Sound cat tab size → (k : ℕ) → k ≤ room cat tab → Inside tab size k
-sound-inside {cat} {tab} s k l = inside-less (inside-room cat tab (s .sized .is) (s .catalogue) (front cat tab (s .table) .0)) k l
+sound-inside {cat} {tab} s k l = inside-less (inside-room cat tab (s .sized .is) (s .catalogue) (table-tests cat tab (s .table) .roomy)) k l
 
 pub good-sound : (cat tab : Bytes) → goodCatalogue cat ≡ true → goodTable cat tab ≡ true → Sound cat tab (cellSize cat)
 good-sound cat tab g h = record { catalogue = g; table = h; sized = good-sized cat tab g h }

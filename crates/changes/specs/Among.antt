@@ -1,5 +1,5 @@
 -- ISRT in three parts: the parent, what refuses the new segment at its spot, and the cell put in. Assumes nothing: these are definitions.
-use mathlib.Core.Bool.{Bool, false}
+use mathlib.Core.Bool.{Bool, false, not}
 use mathlib.Core.List.{List, [], _∷_}
 use Prim.Native.Nat.{ℕ, suc}
 use lib.Dec.{eqb}
@@ -9,11 +9,11 @@ use Rattle.terms.specs.declared.Position.{Position}
 use Rattle.terms.specs.declared.Found.{Found}
 use Rattle.terms.specs.declared.Found.the-variants.{At, Nothing}
 use Rattle.terms.specs.declared.Status.{Status}
-use Rattle.terms.specs.declared.Status.the-variants.{Blank, GE, II, FX}
+use Rattle.terms.specs.declared.Status.the-variants.{Blank, GE, II, FX, PD}
 use Rattle.terms.specs.Choice.{pick}
 use Rattle.terms.specs.Moves.{afterInsert}
 use Rattle.rules.specs.Block.{Bytes}
-use Rattle.rules.specs.Cells.{Segment, endAt, rowAt}
+use Rattle.rules.specs.Cells.{Segment, keyed, endAt, rowAt}
 use Rattle.rules.specs.Arguments.{Level}
 use Rattle.rules.specs.Matching.{along}
 use Rattle.rules.specs.Change.{put, applied}
@@ -42,12 +42,12 @@ module _ (cat : Bytes) (cs : List Segment) (pos : Position) where
     unfoldable pub putIn : ℕ → Segment → Bool → After
     putIn r x beneath = changed cat (afterInsert r beneath pos) x 0 (put r (x ∷ [])) (applied (put r (x ∷ [])) cs) area
 
-    -- x among the cells from `from` to before `to`, in a table of room m
+    -- x among the cells from `from` to before `to`, in a table of room m; PD (R91), unless its key is a value
     unfoldable pub insertedAmong : ℕ → Segment → ℕ → ℕ → Bool → After
     insertedAmong m x from to beneath =
         let s = spotAmong cat cs x from to in
         let refusal = insertStatus (s .taken) (length cs) m in
-        pick (isBlank refusal) (putIn (s .at) x beneath) (refused refusal pos area)
+        pick (not (keyed cat x)) (refused PD pos area) (pick (isBlank refusal) (putIn (s .at) x beneath) (refused refusal pos area))
 
     -- R51: GE where there is no parent
     abbrev pub insertedIn : ℕ → Segment → Parented → After

@@ -16,6 +16,7 @@ use terms::Status;
 use terms::TypeCode;
 use terms::statuses::number;
 use twins::Spot;
+use twins::is_keyed;
 use twins::spot_sound;
 use update::edits::insert_cell_sound;
 ghost use mathlib.Core.Path.{_≡_};
@@ -113,7 +114,7 @@ fn put_sound(
     told(cat, Status::Blank, pos.after_insert(at, beneath), t, 0)
 }
 
-// The parent, the spot among the twins, what refuses it, and the cell put in, in this order.
+// The parent, the key, the spot among the twins, what refuses it there, and the cell put in, in this order.
 pub fn insert(
     cat: &[u8],
     tab: &mut [u8],
@@ -132,6 +133,9 @@ pub fn insert(
     let Parented::Among(from, to, beneath) = found_parent(cat, tab, size, pos, list, t) else {
         return missed(Status::GE, pos);
     };
+    if !is_keyed(cat, t, area) {
+        return bare(Status::PD, pos);
+    }
     let spot = spot_sound(cat, tab, size, t, area, from, to);
     let refusal = insert_refused(cat, tab, size, spot);
     if number(refusal) != 0 {

@@ -4,7 +4,7 @@ use Prim.Native.Nat.{ℕ, _+_, _*_, _<_, _/_, _%_}
 use native.Mathlib.Omega.{arith}
 use lib.Dec.{lit<}
 use Rattle.terms.specs.declared.Status.{Status}
-use Rattle.terms.specs.declared.Status.the-variants.{Blank, GA, GK, GB, GE, GP, CX, TX, PX, AD, AC, AJ, AK, AH, AB, DJ, DA, II, FX}
+use Rattle.terms.specs.declared.Status.the-variants.{Blank, GA, GK, GB, GE, GP, CX, TX, PX, AD, AC, AJ, AK, AH, AB, DJ, DA, II, FX, PD}
 use Rattle.terms.specs.Statuses.{number}
 use Rattle.umbristal.specs.Face.{packed, packedReport}
 use Rattle.cobol.specs.Told.{Parts, AnswerTold, ReportTold}
@@ -29,6 +29,7 @@ number-small DJ = lit< tt
 number-small DA = lit< tt
 number-small II = lit< tt
 number-small FX = lit< tt
+number-small PD = lit< tt
 
 parts-of : (x s t l n r : ℕ) → x ≡ s + 256 * t + 65536 * l + 16777216 * n + 4294967296 * r → s < 256 → t < 256 → l < 256 → n < 256 → r < 65536
     → Parts x s t l n r

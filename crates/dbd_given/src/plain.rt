@@ -2,8 +2,8 @@
 use blocks::word_at;
 use catalogue::entry_bytes::field_byte;
 use catalogue::entry_bytes::fields;
+use catalogue::entry_bytes::type_byte;
 use catalogue::entry_bytes::types;
-use catalogue_check::entry::ends_in_zeros;
 use terms::FieldNumber;
 use terms::TypeCode;
 ghost use mathlib.Core.Path.{_≡_};
@@ -14,6 +14,19 @@ ghost use Rattle.forest.specs.Numbers.{range};
 ghost use Rattle.rules.specs.Block.{part, every, zeros};
 ghost use Rattle.rules.specs.Catalogue.{types, fields, fieldByte};
 ghost use Rattle.statements.specs.Dbd.{isPlain};
+
+// The last three bytes of a type's entry.
+fn ends_in_zeros(cat: &[u8], t: TypeCode) -> bool
+    ensures { λ r. ⌜ r ≡ zeros (part (now (cat .entry)) (8 * t .0 + 5) 3) ⌝ }
+{
+    if type_byte(cat, t, 5) != 0 {
+        return false;
+    }
+    if type_byte(cat, t, 6) != 0 {
+        return false;
+    }
+    type_byte(cat, t, 7) == 0
+}
 
 fn plain_types(cat: &[u8]) -> bool
     ensures { λ r. ⌜ r ≡ every (λ k. zeros (part (now (cat .entry)) (8 * k + 5) 3)) (range 1 (types (now (cat .entry)))) ⌝ }

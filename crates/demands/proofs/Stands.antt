@@ -15,7 +15,7 @@ use Rattle.terms.specs.declared.Parentage.{Parentage}
 use Rattle.terms.specs.declared.Parentage.the-variants.{Absent, Of}
 use Rattle.terms.specs.declared.Position.{Position}
 use Rattle.terms.specs.declared.Status.{Status}
-use Rattle.terms.specs.declared.Status.the-variants.{Blank, GA, GK, GB, GE, GP, CX, TX, PX, AD, AC, AJ, AK, AH, AB, DJ, DA, II, FX}
+use Rattle.terms.specs.declared.Status.the-variants.{Blank, GA, GK, GB, GE, GP, CX, TX, PX, AD, AC, AJ, AK, AH, AB, DJ, DA, II, FX, PD}
 use Rattle.terms.specs.declared.Found.{Found}
 use Rattle.terms.specs.declared.Found.the-variants.{At, Nothing}
 use Rattle.terms.specs.Choice.{pick}
@@ -88,6 +88,7 @@ module _ (cat tab : Bytes) (pos : Position) (list area : Bytes) where
   stood-missed c DA l m = absurd (omega arith)
   stood-missed c II l m = absurd (omega arith)
   stood-missed c FX l m = absurd (omega arith)
+  stood-missed c PD l m = absurd (omega arith)
 
   stood-unless : (c : ℕ) (s : Status) (a : After) → Hard s → (isBlank s ≡ true → Stood c a) → Stood c (unless s pos area a)
   unfolding unless stopped

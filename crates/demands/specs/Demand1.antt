@@ -11,7 +11,7 @@ use lib.Dec.{leb}
 use lib.ListN.{set, replicate}
 use Rattle.terms.specs.declared.Position.{Position}
 use Rattle.terms.specs.declared.Status.{Status}
-use Rattle.terms.specs.declared.Status.the-variants.{Blank, GA, GK, GB, GE, GP, CX, TX, PX, AD, AC, AJ, AK, AH, AB, DJ, DA, II, FX}
+use Rattle.terms.specs.declared.Status.the-variants.{Blank, GA, GK, GB, GE, GP, CX, TX, PX, AD, AC, AJ, AK, AH, AB, DJ, DA, II, FX, PD}
 use Rattle.terms.specs.Statuses.{number}
 use Rattle.terms.specs.Moves.{fresh, holdDropped}
 use Rattle.forest.specs.Numbers.{isIn}
@@ -46,6 +46,7 @@ isGivenTo c list DJ = repl c || dlet c
 isGivenTo c list DA = repl c
 isGivenTo c list II = isrt c
 isGivenTo c list FX = isrt c
+isGivenTo c list PD = isrt c
 isGivenTo c list Blank = true
 isGivenTo c list CX = true
 isGivenTo c list TX = true

@@ -11,7 +11,7 @@ use Rattle.terms.specs.declared.Place.the-variants.{On, Before}
 use Rattle.terms.specs.declared.Position.{Position}
 use Rattle.terms.specs.declared.Argument.{Argument}
 use Rattle.terms.specs.declared.Status.{Status}
-use Rattle.terms.specs.declared.Status.the-variants.{Blank, GA, GK, GB, GE, GP, CX, TX, PX, AD, AC, AJ, AK, AH, AB, DJ, DA, II, FX}
+use Rattle.terms.specs.declared.Status.the-variants.{Blank, GA, GK, GB, GE, GP, CX, TX, PX, AD, AC, AJ, AK, AH, AB, DJ, DA, II, FX, PD}
 use Rattle.terms.specs.declared.Found.{Found}
 use Rattle.terms.specs.declared.Found.the-variants.{At, Nothing}
 use Rattle.terms.specs.Choice.{pick}
@@ -21,7 +21,7 @@ use Rattle.terms.specs.Moves.{placeNumber, afterPlace, isAbsent}
 use Rattle.forest.specs.Good.{isNil}
 use Rattle.rules.specs.Block.{Bytes, sameBytes}
 use Rattle.rules.specs.Catalogue.{keyKind, goodCatalogue}
-use Rattle.rules.specs.Cells.{Segment, segment, arriving, key, levelAt, runAt}
+use Rattle.rules.specs.Cells.{Segment, segment, arriving, key, keyed, levelAt, runAt}
 use Rattle.rules.specs.Table.{count, cellSize, room, listing, goodTable}
 use Rattle.rules.specs.Position.{goodPosition}
 use Rattle.rules.specs.Arguments.{listRead, lastArgument, isQualified, getLevels, parentLevels}
@@ -134,12 +134,13 @@ module _ (cat tab : Bytes) (pos : Position) (c : ℕ) (list area : Bytes) where
   abbrev pub held : Segment
   held = segment cells (placeNumber (pos .place))
 
-  -- the call's own: 10 and 11, 30, 31, 32, and where it is done 1 and 2
+  -- the call's own: 10 and 11, 30, 33, 31, 32, and where it is done 1 and 2
   abbrev pub ownRows : List Row
   ownRows =
       row GB (next c && isNil list && leb (count tab) (afterPlace (pos .place)))
       ∷ row GE ((get c && not (next c && isNil list) && isNothing found) || (isrt c && (not root && isNothing parent)))
       ∷ row DA (repl c && not (sameBytes (key cat held) (key cat (arriving cat (held .code) area))))
+      ∷ row PD (isrt c && not (keyed cat new))
       ∷ row II (isrt c && (eqb (keyKind cat newType) 1 && taken))
       ∷ row FX (isrt c && eqb (count tab) (room cat tab))
       ∷ row GA (stepped && ltb foundLevel placeLevel)

@@ -14,7 +14,7 @@ use Rattle.forest.specs.Forest.{Forest, cellsOf, forestOf}
 use Rattle.forest.specs.Good.{formed}
 use Rattle.rules.specs.Block.{Bytes, byte}
 use Rattle.rules.specs.Catalogue.{lengthOf, isType, goodCatalogue}
-use Rattle.rules.specs.Cells.{Segment, typeNumber, isChild, siblings, segmentLevel}
+use Rattle.rules.specs.Cells.{Segment, typeNumber, keyed, isChild, siblings, segmentLevel}
 use Rattle.rules.specs.Table.{room, listing, goodTable, tableBytes}
 
 -- what every slice has: each byte is below 256
@@ -26,11 +26,12 @@ abbrev pub All : {A : Type 0} → (A → Type 0) → List A → Type 0
 All P [] = Unit {0}
 All P (x ∷ xs) = P x × All P xs
 
--- a segment that a cell can hold: one of a type of the catalogue, with as many bytes as that type has
+-- a segment that a cell can hold: one of a type of the catalogue, with as many bytes as that type has, whose key is a value
 pub record Fits (cat : Bytes) (s : Segment) : Type 0 where
   pub known : isType cat (s .code) ≡ true
   pub long : length (s .bytes) ≡ lengthOf cat (s .code)
   pub bytes : IsBytes (s .bytes)
+  pub valued : keyed cat s ≡ true
 
 module _ (cat : Bytes) where
   -- R14 and R15 of a forest: which types stand where, with the twins in the order of their keys

@@ -9,7 +9,7 @@ use lib.ListN.{length, take, drop, set, length-append}
 use lib.Seq.{sets, sets-eq, take-suc, take-all}
 use borrow.Author.Tests.{lt-ltb, le-ltb}
 use Rattle.terms.specs.declared.Status.{Status}
-use Rattle.terms.specs.declared.Status.the-variants.{Blank, GA, GK, GB, GE, GP, CX, TX, PX, AD, AC, AJ, AK, AH, AB, DJ, DA, II, FX}
+use Rattle.terms.specs.declared.Status.the-variants.{Blank, GA, GK, GB, GE, GP, CX, TX, PX, AD, AC, AJ, AK, AH, AB, DJ, DA, II, FX, PD}
 use Rattle.terms.specs.Statuses.{letters}
 use Rattle.rules.specs.Block.{Bytes, byte}
 use Rattle.rules.specs.Listing.{digits, hexDigit, hex}
@@ -64,6 +64,7 @@ letters-length s = elim s [
   | DA ↦ refl
   | II ↦ refl
   | FX ↦ refl
+  | PD ↦ refl
 ]
 
 pub two-bytes : (l : Bytes) → length l ≡ 2 → (byte l 0 ∷ []) ++ (byte l 1 ∷ []) ≡ l

@@ -6,7 +6,7 @@ use native.Mathlib.Omega.{arith}
 use lib.ListN.{length}
 use borrow.Author.Tests.{eq-eqb, ne-eqb}
 use Rattle.terms.specs.declared.Status.{Status}
-use Rattle.terms.specs.declared.Status.the-variants.{Blank, GA, GK, GB, GE, GP, CX, TX, PX, AD, AC, AJ, AK, AH, AB, DJ, DA, II, FX}
+use Rattle.terms.specs.declared.Status.the-variants.{Blank, GA, GK, GB, GE, GP, CX, TX, PX, AD, AC, AJ, AK, AH, AB, DJ, DA, II, FX, PD}
 use Rattle.terms.specs.Statuses.{number, letters}
 use Rattle.terms.specs.Paper.{StatusRow, printedStatuses}
 use Rattle.rules.specs.Block.{Bytes, byte}
@@ -34,6 +34,7 @@ found DJ = refl
 found DA = refl
 found II = refl
 found FX = refl
+found PD = refl
 
 pub letters-of : (s : Status) {n : ℕ} {l : Bytes} → n ≡ number s → l ≡ letters s → l ≡ lettersOf n
 letters-of s e f = f ∙ found s ∙ ap lettersOf (sym e)

@@ -73,6 +73,7 @@ pub(crate) fn letters_of(status: u8) -> [u8; 2]
         30 => letters(Status::DA),
         31 => letters(Status::II),
         32 => letters(Status::FX),
+        33 => letters(Status::PD),
         _ => [b'?', b'?'],
     }
 }

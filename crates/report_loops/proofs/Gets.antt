@@ -34,6 +34,7 @@ use Rattle.rules.specs.Matching.{matches, seek, firstMatch}
 use Rattle.rules.specs.Change.{nothing}
 use Rattle.rules.specs.Calls.{afterMiss, answerOf, missed, over, missStatus, levelStatus, getNext, getNextWithin, called}
 use Rattle.rules.specs.Outcome.{Outcome, unsound, misused, unless, afterSound, afterCall, landed, outcomeOf, outcome}
+use Rattle.rules.proofs.Table.{table-tests}
 use Rattle.rules.proofs.Search.{seek-none, seek-here, seek-next}
 use Rattle.rules.proofs.Cells.{listing-length, row-run}
 use Rattle.rules.proofs.Positions.{fresh-good, miss-good}
@@ -112,10 +113,7 @@ module _ (cat tab : Bytes) (g : goodCatalogue cat ≡ true) (h : goodTable cat t
   cs = listing cat tab
 
   pub good-listing : goodListing cat cs ≡ true
-  unfolding goodTable
-  good-listing =
-      both-right (goodRoom cat tab && marked 0x54 tab && eqb (byte tab 5) (cellSize cat) && leb (count tab) (room cat tab) && every (padded cat tab) (range 0 (count tab)) && zeros (drop (cellStart cat (count tab)) tab))
-      (goodListing cat cs) h
+  good-listing = table-tests cat tab h .cells
 
   -- a segment has as many bytes as its type says
   data-long : (j : ℕ) → j < length cs → length (shownBytes cat (segment cs j)) ≡ long cat (segment cs j)

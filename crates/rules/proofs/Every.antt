@@ -4,10 +4,10 @@ use mathlib.Core.Bool.{Bool, true, false, _&&_}
 use mathlib.Core.List.{List, [], _∷_, _++_, map}
 use Prim.Native.Nat.{ℕ, zero, suc, _+_, _<_, _≤_}
 use native.Mathlib.Omega.{arith}
-use lib.ListN.{replicate}
+use lib.ListN.{length, getD, replicate}
 use Rattle.terms.specs.Choice.{pick}
 use Rattle.forest.specs.Forest.{inside, outside, side}
-use Rattle.forest.specs.Good.{on, off, is}
+use Rattle.forest.specs.Good.{on, off, is, both-left, both-right}
 use Rattle.forest.specs.Numbers.{range}
 use Rattle.rules.specs.Block.{every, zeros}
 
@@ -44,6 +44,12 @@ module _ {A : Type 0} (p : A → Bool) where
     | on e ↦ rw (every-in p (f x) (map f xs) (h x ∙ e), every-in p x xs e) (every-map f xs h)
     | off e ↦ rw (every-out p (f x) (map f xs) (h x ∙ e), every-out p x xs e)
   ]
+
+-- what holds of each holds of one, by its place in the row
+pub every-getD : {A : Type 0} (p : A → Bool) (xs : List A) (i : ℕ) (d : A) → every p xs ≡ true → i < length xs → p (getD xs i d) ≡ true
+every-getD p [] i d e h = absurd (omega arith)
+every-getD p (x ∷ xs) zero d e h = both-left (p x) (every p xs) (sym (every-cons p x xs) ∙ e)
+every-getD p (x ∷ xs) (suc i) d e h = every-getD p xs i d (both-right (p x) (every p xs) (sym (every-cons p x xs) ∙ e)) (omega arith)
 
 -- what holds of each number of a range holds of one
 pub every-at : (p : ℕ → Bool) (i n u : ℕ) → every p (range i n) ≡ true → i ≤ u → u < i + n → p u ≡ true

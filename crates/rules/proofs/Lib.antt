@@ -7,6 +7,7 @@ pub mod Values
 pub mod Catalogue
 pub mod Entries
 pub mod Cells
+pub mod Table
 pub mod Search
 pub mod Paths
 pub mod Tree

@@ -3,14 +3,15 @@ use arguments::asked::asked_of;
 use arguments::read::operator_of;
 use blocks::slices::order_of;
 use blocks::wide;
-use catalogue::fields::field_length;
-use catalogue::fields::field_start;
+use catalogue::fields::entry_of;
 use cells::lookup::code_at;
 use cells::lookup::data_part;
+use cells::lookup::start_of;
 use terms::CellNumber;
 use terms::FieldNumber;
 use terms::TypeCode;
 use terms::operators::holds;
+use values::holds_at;
 ghost use mathlib.Core.Path.{_≡_};
 ghost use mathlib.Core.Bool.{true};
 ghost use mathlib.Core.List.{_++_};
@@ -23,16 +24,20 @@ ghost use Rattle.arguments.specs.Asked.{testAt};
 ghost use Rattle.search.specs.Good.{Testable, Heeding, Told};
 ghost use Rattle.search.specs.Stretch.{agreesAlone};
 
-// The test of R25: the field is on the left. The value begins at byte v of the list, behind operator and field number.
+// The test of R25: the field is on the left. The value begins at byte v of the list, behind operator and field number. A field that holds no value of
+// its value type satisfies no operator (R90).
 fn passes(cat: &[u8], tab: &[u8], size: usize, list: &[u8], c: CellNumber, v: usize) -> bool
     requires { ⌜ Testable (now cat) (now tab) (now list) size (c .0) v ⌝ }
     ensures { λ r. ⌜ r ≡ satisfies (now (cat .entry)) (segment (listing (now (cat .entry)) (now (tab .entry))) (c .0))
         (meant (now (cat .entry)) (now (list .entry)) (testAt (now (list .entry)) v)) ⌝ }
 {
     let o = operator_of(list[v - 2]);
-    let f = FieldNumber(list[v - 1]);
-    let start = wide(field_start(cat, f));
-    let long = wide(field_length(cat, f));
+    let entry = entry_of(cat, FieldNumber(list[v - 1]));
+    let start = wide(cat[entry + 1]);
+    let long = wide(cat[entry + 2]);
+    if cat[entry + 3] == 1 {
+        return holds_at(o, tab, start_of(tab, size, c) + start, list, v, long);
+    }
     let field = data_part(cat, tab, size, c, start, long);
     let end = v + long;
     let value = &list[v..end];

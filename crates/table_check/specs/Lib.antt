@@ -1,3 +1,4 @@
+pub mod Keys
 pub mod Groups
 pub mod Readers
 pub mod Frame

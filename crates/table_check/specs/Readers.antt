@@ -8,9 +8,10 @@ use lib.ListN.{length, take}
 use Rattle.terms.specs.Names.{code}
 use Rattle.forest.specs.Numbers.{range}
 use Rattle.rules.specs.Block.{Bytes, byte, part}
-use Rattle.rules.specs.Catalogue.{types, parentOf, keyKind, keyStart, keyLength, goodCatalogue}
+use Rattle.rules.specs.Catalogue.{types, parentOf, keyKind, keyStart, keyLength, keyValue, goodCatalogue}
 use Rattle.rules.specs.Table.{count, listing}
 use Rattle.cells.specs.Lent.{Sized, Inside, startOf}
+use Rattle.table_check.specs.Keys.{Valued}
 use Rattle.table_check.specs.Groups.{typ, isTwin, afterGroup, afterTwin, afterRow, afterTypes}
 
 -- byte k of what the row tells of type v
@@ -30,7 +31,7 @@ keyBefore cells facts v left = part cells (startBefore cells facts left + fact f
 -- the row has the four bytes of type v
 pub record Entry (cat facts : Bytes) (v : ℕ) : Type 0 where
   pub parent : fact facts v 0 ≡ parentOf cat (code v) .0
-  pub kind : fact facts v 1 ≡ keyKind cat (code v)
+  pub kind : fact facts v 1 ≡ keyKind cat (code v) + 4 * keyValue cat (code v)
   pub start : fact facts v 2 ≡ keyStart cat (code v)
   pub long : fact facts v 3 ≡ keyLength cat (code v)
 
@@ -70,6 +71,7 @@ pub record Told (cat tab cells facts : Bytes) : Type 0 where
   pub sized : Sized cat tab (byte facts 0)
   pub cut : cells ≡ take (startOf tab (byte facts 0) (count tab)) tab
   pub row : Filled cat (byte facts 0) (types cat) facts
+  pub valued : Valued cat tab
 
 -- the cell at which `left` are left is a twin of type v behind the one at which `last` were left
 pub record TwinIs (cells facts : Bytes) (v last left : ℕ) (r : Bool) : Type 0 where

@@ -1,4 +1,6 @@
-// The check of a table: the header first, so that a bad block costs little, then the bytes that no segment uses, then the listing.
+// The check of a table: the header first, so that a bad block costs little, then the bytes that no segment uses, then the
+// keys, then the listing.
+use crate::keys::has_keys;
 use crate::padding::all_free;
 use crate::padding::all_padded;
 use crate::readers::is_listing;
@@ -47,6 +49,9 @@ pub fn is_good_on(cat: &[u8], tab: &[u8]) -> bool
         return false;
     }
     if !all_free(cat, tab, size) {
+        return false;
+    }
+    if !has_keys(cat, tab, size) {
         return false;
     }
     is_listing(cat, tab, size)

@@ -1,5 +1,6 @@
-// The check of a table (R10 to R15): the frame and the room in it, the padding, and the two readers that call each other.
+// The check of a table (R10 to R15, R89): the frame and the room in it, the padding, the stored keys, and the two readers that call each other.
 pub mod check;
+mod keys;
 mod padding;
 mod readers;
 pub mod room;

@@ -8,23 +8,27 @@ use cells::lookup::code_at;
 use cells::lookup::count;
 use cells::lookup::start_of;
 use terms::CellNumber;
+use terms::Operator;
 use terms::Order;
+use values::holds_at;
 ghost use mathlib.Core.Path.{_≡_};
 ghost use mathlib.Core.Bool.{true};
 ghost use Prim.Native.Nat.{_≤_, _<_};
 ghost use lib.ListN.{replicate};
+ghost use Rattle.rules.specs.Packed.{isNumber};
 ghost use Rattle.rules.specs.Order.{order};
 ghost use Rattle.rules.specs.Catalogue.{types, goodCatalogue};
 ghost use Rattle.rules.specs.Cells.{goodListing};
 ghost use Rattle.rules.specs.Table.{listing};
 ghost use Rattle.cells.specs.Lent.{Sized};
+ghost use Rattle.table_check.specs.Keys.{Valued, packedFollows};
 ghost use Rattle.table_check.specs.Readers.{fact, startBefore, codeBefore, keyBefore, Filled, Fits, Headed, Follows, TwinIs, GroupLeaves, SegmentLeaves};
 
 // A type's code as the row of facts is asked by it: a byte would be kept twice in each frame, narrow and wide.
 struct TypeIndex(usize);
 
-// The row: 4 bytes a type, its parent and its key's kind, start and length; the first byte of all is the cell size. A code that no type has is nobody's
-// child there: 0 stands for its parent, and no segment has type 0.
+// The row: 4 bytes a type, its parent and its key's kind, start and length, a packed key's kind with 4 added; the first byte of all is the cell size. A
+// code that no type has is nobody's child there: 0 stands for its parent, and no segment has type 0.
 fn fill(cat: &[u8], size: usize, facts: &mut [u8; 132])
     requires { ⌜ (goodCatalogue (now cat) ≡ true) × (size ≤ 121) × (now facts ≡ replicate 132 0) ⌝ }
     ensures { λ _. ⌜ Filled (now (cat .entry)) size (types (now (cat .entry))) (now (facts .exit)) ⌝ }
@@ -34,7 +38,7 @@ fn fill(cat: &[u8], size: usize, facts: &mut [u8; 132])
     while v < wide(types(cat)) {
         v += 1;
         facts[4 * v] = cat[8 * v];
-        facts[4 * v + 1] = cat[8 * v + 2];
+        facts[4 * v + 1] = cat[8 * v + 2] + 4 * cat[8 * v + 7];
         facts[4 * v + 2] = cat[8 * v + 3];
         facts[4 * v + 3] = cat[8 * v + 4];
     }
@@ -80,6 +84,25 @@ fn key_order(cells: &[u8], facts: &[u8; 132], t: TypeIndex, last: usize, left: u
     order_of(&cells[a..x], &cells[b..y])
 }
 
+// Whether the packed key of a cell of type t, at which `last` were left, lets that of a later one follow, at which `left` are left: a unique one has to be
+// greater.
+fn packed_twin(cells: &[u8], facts: &[u8; 132], t: TypeIndex, last: usize, left: usize) -> bool
+    requires { ⌜ Follows (now cells) (now facts) (t .0) last left ⌝ }
+    ensures { λ r. ⌜ isNumber (keyBefore (now (cells .entry)) (now (facts .entry)) (t .0) last) ≡ true
+        → isNumber (keyBefore (now (cells .entry)) (now (facts .entry)) (t .0) left) ≡ true
+        → r ≡ packedFollows (fact (now (facts .entry)) (t .0) 1) (keyBefore (now (cells .entry)) (now (facts .entry)) (t .0) last)
+        (keyBefore (now (cells .entry)) (now (facts .entry)) (t .0) left) ⌝ }
+{
+    let from = fact(facts, t, 2);
+    let long = fact(facts, t, 3);
+    let a = start_before(cells, facts, last) + from;
+    let b = start_before(cells, facts, left) + from;
+    if fact(facts, t, 1) == 5 {
+        return holds_at(Operator::Lt, cells, a, cells, b, long);
+    }
+    holds_at(Operator::Le, cells, a, cells, b, long)
+}
+
 // Whether the next cell is the next twin of type t behind the twin at which `last` were left.
 fn twin(cells: &[u8], facts: &[u8; 132], t: TypeIndex, last: usize, left: usize) -> bool
     requires { ⌜ Follows (now cells) (now facts) (t .0) last left ⌝ }
@@ -91,6 +114,9 @@ fn twin(cells: &[u8], facts: &[u8; 132], t: TypeIndex, last: usize, left: usize)
     let kind = fact(facts, t, 1);
     if kind == 0 {
         return true;
+    }
+    if 2 < kind {
+        return packed_twin(cells, facts, t, last, left);
     }
     match key_order(cells, facts, t, last, left) {
         Order::Smaller => true,
@@ -145,7 +171,7 @@ fn segment(cells: &[u8], facts: &[u8; 132], p: TypeIndex, left: usize) -> usize
 
 // R14: the n cells are one group of type 1 with all beneath it, and nothing is left over.
 pub(crate) fn is_listing(cat: &[u8], tab: &[u8], size: usize) -> bool
-    requires { ⌜ (goodCatalogue (now cat) ≡ true) × Sized (now cat) (now tab) size ⌝ }
+    requires { ⌜ (goodCatalogue (now cat) ≡ true) × Sized (now cat) (now tab) size × Valued (now cat) (now tab) ⌝ }
     ensures { λ r. ⌜ r ≡ goodListing (now (cat .entry)) (listing (now (cat .entry)) (now (tab .entry))) ⌝ }
 {
     let n = count(tab);

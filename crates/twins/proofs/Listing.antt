@@ -26,6 +26,7 @@ use Rattle.rules.specs.Calls.{keyTaken}
 use Rattle.rules.proofs.Catalogue.{par, good-lower}
 use Rattle.rules.proofs.Cells.{listing-length}
 use Rattle.cells.proofs.Located.{end-within}
+use Rattle.cells.proofs.Ancestry.{sound-listing}
 use Rattle.catalogue.proofs.Hierarchy.{type-range, level-child, level-root}
 use Rattle.twins.specs.Among.{New, Beneath, top, child, passed}
 use Rattle.twins.proofs.Rows.{Each, each-at, each-level, spot-low, spot-within, low-past, bare-behind}
@@ -127,13 +128,8 @@ module _ (cat tab : Bytes) (x : Segment) (g : goodCatalogue cat ≡ true) (good 
 
 -- the row that a new segment goes to
 module _ {cat tab : Bytes} {size : ℕ} {t : TypeCode} {area : Bytes} (n : New cat tab size t area) {from to : ℕ} (b : Beneath cat tab t from to) where
-  last-of : (a b c d e f g : Bool) → (a && b && c && d && e && f && g) ≡ true → g ≡ true
-  last-of a b c d e f g h = both-right (a && b && c && d && e && f) g h
-
   good-cells : goodListing cat (listing cat tab) ≡ true
-  unfolding goodTable
-  good-cells =
-      last-of (goodRoom cat tab) (marked 0x54 tab) (eqb (byte tab 5) (cellSize cat)) (leb (count tab) (room cat tab)) (every (padded cat tab) (range 0 (count tab))) (zeros (drop (cellStart cat (count tab)) tab)) (goodListing cat (listing cat tab)) (n .sound .table)
+  good-cells = sound-listing (n .sound)
 
   pub row-new : Row cat tab (arriving cat t area) from to
   unfolding arriving segmentOf

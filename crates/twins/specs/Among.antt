@@ -11,18 +11,28 @@ use Rattle.terms.specs.declared.Order.the-variants.{Smaller, Greater}
 use Rattle.terms.specs.Choice.{pick}
 use Rattle.forest.specs.Insert.{spot}
 use Rattle.rules.specs.Block.{Bytes}
-use Rattle.rules.specs.Catalogue.{parentOf, lengthOf, keyKind, isType}
-use Rattle.rules.specs.Cells.{Segment, segment, typeNumber, keyOrder, goesBefore, segmentLevel, endAt}
+use Rattle.rules.specs.Catalogue.{parentOf, lengthOf, keyKind, isType, goodCatalogue}
+use Rattle.rules.specs.Cells.{Segment, segment, typeNumber, arriving, keyed, keyOrder, goesBefore, segmentLevel, endAt}
 use Rattle.rules.specs.Table.{count, listing}
 use Rattle.rules.specs.Calls.{keyTaken}
 use Rattle.cells.specs.Sound.{Sound}
 use Rattle.twins.specs.declared.Spot.{Spot}
 
--- a new segment of type t, with the area's first L bytes, and a checked table that it goes to
+-- a new segment of type t, with the area's first L bytes
+pub record Brought (cat : Bytes) (t : TypeCode) (area : Bytes) : Type 0 where
+  pub catalogue : goodCatalogue cat ≡ true
+  pub known : isType cat t ≡ true
+  pub enough : lengthOf cat t ≤ length area
+
+-- the same, and a checked table that it goes to
 pub record New (cat tab : Bytes) (size : ℕ) (t : TypeCode) (area : Bytes) : Type 0 where
   pub sound : Sound cat tab size
   pub known : isType cat t ≡ true
   pub enough : lengthOf cat t ≤ length area
+
+-- and its key is a value (R91)
+abbrev pub Keyed : Bytes → TypeCode → Bytes → Type 0
+Keyed cat t area = keyed cat (arriving cat t area) ≡ true
 
 -- the cells from `from` to before `to` are all those beneath its parent: for type 1 all cells, else those behind cell p in the run of p
 pub data Beneath (cat tab : Bytes) (t : TypeCode) (from to : ℕ) : Type 0 where
