@@ -14,6 +14,8 @@ use Rattle.rules.specs.Cases.Changes.{insertCases, replaceCases, deleteC
 use Rattle.rules.specs.Cases.Refusals.{refusalCases, orderCases}
 use Rattle.rules.specs.Cases.Listings.{listingCases}
 use Rattle.rules.specs.Cases.Untrue.{untrueCases}
+use Rattle.rules.specs.Cases.Numbers.{meets, numberCases}
+use Rattle.rules.specs.Cases.Packed.{keyCases, fieldCases, storeCases, torques, measured, allMeasured}
 use Rattle.rules.specs.Cases.Further.{stepNote, full, multiple, twoSegments}
 use Rattle.rules.specs.Computed.{computed}
 
@@ -80,6 +82,23 @@ order-cases = tt
 pub listing-cases : T (all right listingCases)
 unfolding computed listingCases catalogue table empty stepNote full
 listing-cases = tt
+
+-- packed numbers by themselves, as keys in a table, as fields that are tested, as keys that are brought and replaced
+pub number-cases : T (all meets numberCases)
+unfolding computed numberCases
+number-cases = tt
+
+pub packed-key-cases : T (all right keyCases)
+unfolding computed keyCases torques measured
+packed-key-cases = tt
+
+pub packed-field-cases : T (all right fieldCases)
+unfolding computed fieldCases torques measured
+packed-field-cases = tt
+
+pub packed-store-cases : T (all right storeCases)
+unfolding computed storeCases torques measured allMeasured
+packed-store-cases = tt
 
 -- and cases that say what is not so do not hold
 pub untrue-cases : T (all (λ c. not (right c)) untrueCases)

@@ -7,6 +7,7 @@ use Rattle.rules.specs.Cases.Bench.{cases, catalogue, table, empty, outp
 use Rattle.rules.specs.Cases.Gets.{getCases, missCases, overCases, levelCases}
 use Rattle.rules.specs.Cases.Along.{alongCases, line, lineTable}
 use Rattle.rules.specs.Cases.Changes.{insertCases, replaceCases, deleteCases}
+use Rattle.rules.specs.Cases.Packed.{fieldCases, storeCases, torques, measured, allMeasured}
 use Rattle.rules.specs.Cases.Further.{stepNote, full}
 use Rattle.rules.specs.Computed.{computed}
 
@@ -45,3 +46,11 @@ replaces-forest = tt
 pub deletes-forest : T (all (rightBy treeOutcome) deleteCases)
 unfolding computed deleteCases catalogue table
 deletes-forest = tt
+
+pub packed-fields-forest : T (all (rightBy treeOutcome) fieldCases)
+unfolding computed fieldCases torques measured
+packed-fields-forest = tt
+
+pub packed-stores-forest : T (all (rightBy treeOutcome) storeCases)
+unfolding computed storeCases torques measured allMeasured
+packed-stores-forest = tt

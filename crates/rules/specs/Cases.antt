@@ -13,6 +13,8 @@ pub mod Changes
 pub mod Refusals
 pub mod Listings
 pub mod Untrue
+pub mod Numbers
+pub mod Packed
 use mathlib.Core.Bool.{Bool, true, false, _&&_, not}
 use mathlib.Core.List.{List, [], _∷_, _++_}
 use Prim.Native.Nat.{ℕ}
