@@ -13,14 +13,15 @@ use Rattle.terms.specs.declared.TypeCode.{TypeCode}
 use Rattle.forest.specs.Numbers.{range}
 use Rattle.forest.specs.Forest.{Forest, void, node, cellsOf, forestOf, cells-forest}
 use Rattle.forest.specs.Good.{Wf, formed-wf, both-left}
-use Rattle.rules.specs.Block.{Bytes, byte, word, wordBytes, part, every, zeros, marked}
+use Rattle.rules.specs.Block.{Bytes, byte, word, wordBytes, part, zeros, marked}
 use Rattle.rules.specs.Catalogue.{parentOf, lengthOf, isType}
-use Rattle.rules.specs.Cells.{Segment, segment, blank, segmentOf, arriving, typeNumber, isChild, siblings, segmentLevel, goodListing}
+use Rattle.rules.specs.Cells.{Segment, segment, blank, segmentOf, arriving, keyed, typeNumber, isChild, siblings, segmentLevel, goodListing}
 use Rattle.rules.specs.Table.{count, cellSize, cellStart, room, typeAt, segmentAt, listing, goodRoom, padded, goodTable, cellBytes, tableBytes}
 use Rattle.rules.proofs.Every.{every-at}
 use Rattle.rules.proofs.Cells.{listing-at, listing-length}
 use Rattle.encoding.specs.Determined.{IsBytes, All, Fits}
-use Rattle.rules.proofs.Joined.{three, four, seven}
+use Rattle.rules.proofs.Joined.{three, four}
+use Rattle.rules.proofs.Table.{Tested, table-tests, cell-keyed}
 use Rattle.rules.proofs.Entries.{length-cell, cell-some}
 use Rattle.encoding.proofs.Lists.{zeros-all, front, bytes-take, bytes-drop, drop-take, drop-row, all-append, all-at, all-of}
 
@@ -38,9 +39,10 @@ module _ (cat : Bytes) where
 
   -- a segment from the front of an area that is long enough
   module _ (t : TypeCode) (area : Bytes) (l : lengthOf cat t ≤ length area) where
-    segment-fits : isType cat t ≡ true → IsBytes area → Fits cat (segmentOf cat t area)
+    segment-fits : isType cat t ≡ true → IsBytes area → keyed cat (segmentOf cat t area) ≡ true → Fits cat (segmentOf cat t area)
     unfolding segmentOf
-    segment-fits k h = record { known = k; long = omega (arith, length-take-le (lengthOf cat t) area l); bytes = bytes-take (lengthOf cat t) area h }
+    segment-fits k h v =
+        record { known = k; long = omega (arith, length-take-le (lengthOf cat t) area l); bytes = bytes-take (lengthOf cat t) area h; valued = v }
 
     new-cell : cellBytes cat (segmentOf cat t area) ≡ t .0 ∷ (take (lengthOf cat t) area ++ replicate (cellSize cat - suc (lengthOf cat t)) 0)
     unfolding cellBytes segmentOf
@@ -48,9 +50,9 @@ module _ (cat : Bytes) where
         ap (λ (n : ℕ). t .0 ∷ (take (lengthOf cat t) area ++ replicate (cellSize cat - suc n) 0)) (length-take-le (lengthOf cat t) area l)
 
     -- the same of a segment that arrives in the area
-    pub arriving-fits : isType cat t ≡ true → IsBytes area → Fits cat (arriving cat t area)
+    pub arriving-fits : isType cat t ≡ true → IsBytes area → keyed cat (arriving cat t area) ≡ true → Fits cat (arriving cat t area)
     unfolding arriving
-    arriving-fits k h = segment-fits k h
+    arriving-fits k h v = segment-fits k h v
 
     arriving-cell : cellBytes cat (arriving cat t area) ≡ t .0 ∷ (take (lengthOf cat t) area ++ replicate (cellSize cat - suc (lengthOf cat t)) 0)
     unfolding arriving
@@ -109,16 +111,12 @@ module _ (cat : Bytes) where
 
   module _ (tab : Bytes) (good : goodTable cat tab ≡ true) where
     -- what the check has tested
-    tests : (goodRoom cat tab ≡ true) × (marked 0x54 tab ≡ true) × (eqb (byte tab 5) (cellSize cat) ≡ true) × (leb (count tab) (room cat tab) ≡ true)
-        × (every (padded cat tab) (range 0 (count tab)) ≡ true) × (zeros (drop (cellStart cat (count tab)) tab) ≡ true) × (goodListing cat (listing cat tab) ≡ true)
-    unfolding goodTable
-    tests =
-        seven (goodRoom cat tab) (marked 0x54 tab) (eqb (byte tab 5) (cellSize cat)) (leb (count tab) (room cat tab))
-        (every (padded cat tab) (range 0 (count tab))) (zeros (drop (cellStart cat (count tab)) tab)) (goodListing cat (listing cat tab)) good
+    tests : Tested cat tab
+    tests = table-tests cat tab good
 
     room-parts : (leb 8 (length tab) ≡ true) × (eqb (length tab) (cellStart cat (room cat tab)) ≡ true) × (leb (room cat tab) 4096 ≡ true)
     unfolding goodRoom
-    room-parts = three (leb 8 (length tab)) (eqb (length tab) (cellStart cat (room cat tab))) (leb (room cat tab) 4096) (tests .0)
+    room-parts = three (leb 8 (length tab)) (eqb (length tab) (cellStart cat (room cat tab))) (leb (room cat tab) 4096) (tests .roomy)
 
     pub table-length : length tab ≡ 8 + room cat tab * cellSize cat
     unfolding cellStart
@@ -128,10 +126,10 @@ module _ (cat : Bytes) where
     table-room = leb-true (room cat tab) 4096 (room-parts .2)
 
     pub table-count : count tab ≤ room cat tab
-    table-count = leb-true (count tab) (room cat tab) (tests .3)
+    table-count = leb-true (count tab) (room cat tab) (tests .few)
 
     pub table-listing : goodListing cat (listing cat tab) ≡ true
-    table-listing = tests .6
+    table-listing = tests .cells
 
     -- the first k cells lie within the block
     pub table-within : (k : ℕ) → k ≤ room cat tab → 8 + k * cellSize cat ≤ length tab
@@ -162,7 +160,7 @@ module _ (cat : Bytes) where
       table-padded =
           let a : ℕ = suc (cellStart cat i) + lengthOf cat (typeAt cat tab i) in
           let r : ℕ = cellSize cat - suc (lengthOf cat (typeAt cat tab i)) in
-          let h : zeros (part tab a r) ≡ true = every-at (padded cat tab) 0 (count tab) i (tests .4) (omega arith) (omega arith) in
+          let h : zeros (part tab a r) ≡ true = every-at (padded cat tab) 0 (count tab) i (tests .filled) (omega arith) (omega arith) in
           let k : length (part tab a r) ≡ r = length-take-le r (drop a tab) (omega (arith, length-drop a tab, cell-in, length-cell cat (typeAt cat tab i) (table-known i l))) in
           zeros-all (part tab a r) h ∙ ap (λ (n : ℕ). replicate n 0) k
 
@@ -181,7 +179,9 @@ module _ (cat : Bytes) where
 
       pub cell-fits : IsBytes tab → Fits cat (segmentAt cat tab i)
       unfolding segmentAt
-      cell-fits h = segment-fits (typeAt cat tab i) (drop (suc (cellStart cat i)) tab) data-in (table-known i l) (bytes-drop (suc (cellStart cat i)) tab h)
+      cell-fits h =
+          segment-fits (typeAt cat tab i) (drop (suc (cellStart cat i)) tab) data-in (table-known i l) (bytes-drop (suc (cellStart cat i)) tab h)
+          (rw (listing-at cat tab i l) at (cell-keyed cat tab good i l))
 
     pub table-fits : IsBytes tab → All (Fits cat) (listing cat tab)
     table-fits h = all-of (Fits cat) blank (listing cat tab) (λ i l. let k : i < count tab = omega (arith, listing-length cat tab) in rw (listing-at cat tab i k) (cell-fits i k h))
@@ -214,20 +214,20 @@ module _ (cat : Bytes) where
         let b : Bytes = drop (8 + n * cellSize cat) tab in
         let z : length b ≡ (room cat tab - n) * cellSize cat =
         omega (arith, length-drop (8 + n * cellSize cat) tab, table-length, cells-split n (room cat tab) table-count) in
-        sym (drop-drop (n * cellSize cat) 8 tab ∙ zeros-all b (tests .5) ∙ ap (λ (k : ℕ). replicate k 0) z)
+        sym (drop-drop (n * cellSize cat) 8 tab ∙ zeros-all b (tests .free) ∙ ap (λ (k : ℕ). replicate k 0) z)
 
     -- the first six bytes; the count's two
     pub table-head : 0x48 ∷ 0x44 ∷ 0x54 ∷ 0 ∷ 1 ∷ cellSize cat ∷ [] ≡ take 6 tab
     unfolding marked
     table-head =
-        let h = four (eqb (byte tab 0) 0x48) (eqb (byte tab 1) 0x44) (eqb (byte tab 2) 0x54) (eqb (word tab 3) 1) (tests .1) in
+        let h = four (eqb (byte tab 0) 0x48) (eqb (byte tab 1) 0x44) (eqb (byte tab 2) 0x54) (eqb (word tab 3) 1) (tests .mark) in
         let e0 : byte tab 0 ≡ 0x48 = eqb-true (byte tab 0) 0x48 (h .0) in
         let e1 : byte tab 1 ≡ 0x44 = eqb-true (byte tab 1) 0x44 (h .1) in
         let e2 : byte tab 2 ≡ 0x54 = eqb-true (byte tab 2) 0x54 (h .2) in
         let w : word tab 3 ≡ 1 = eqb-true (word tab 3) 1 (h .3) in
         let e3 : byte tab 3 ≡ 0 = omega arith in
         let e4 : byte tab 4 ≡ 1 = omega arith in
-        let e5 : byte tab 5 ≡ cellSize cat = eqb-true (byte tab 5) (cellSize cat) (tests .2) in
+        let e5 : byte tab 5 ≡ cellSize cat = eqb-true (byte tab 5) (cellSize cat) (tests .size) in
         let e : map (byte tab) (range 0 6) ≡ 0x48 ∷ 0x44 ∷ 0x54 ∷ 0 ∷ 1 ∷ cellSize cat ∷ [] = rw (e0, e1, e2, e3, e4, e5) in
         sym (ap (take 6) (front tab 0 6 (omega (arith, table-length))) ∙ e)
 

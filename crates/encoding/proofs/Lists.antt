@@ -33,6 +33,12 @@ unfolding every
 every-of p k zero h = refl
 every-of p k (suc n) h = every-in p k (range (suc k) n) (h k (omega arith) (omega arith)) ∙ every-of p (suc k) n (λ i a b. h i (omega arith) (omega arith))
 
+-- a test that whatever has P passes, over a row of which each one has P
+pub every-all : {A : Type 0} (P : A → Type 0) (p : A → Bool) → ((x : A) → P x → p x ≡ true) → (xs : List A) → All P xs → every p xs ≡ true
+unfolding every
+every-all P p h [] a = refl
+every-all P p h (x ∷ xs) a = every-in p x xs (h x (a .0)) ∙ every-all P p h xs (a .1)
+
 -- the n bytes from byte k on, one by one
 pub front : (b : Bytes) (k n : ℕ) → k + n ≤ length b → drop k b ≡ map (byte b) (range k n) ++ drop (k + n) b
 front b k zero l = let z : k ≡ k + 0 = omega arith in ap (λ (i : ℕ). drop i b) z

@@ -1,30 +1,27 @@
 -- The table made of cells that fit, read again. Assumes nothing.
 use mathlib.Core.Path.{_≡_, refl, ap, sym, _∙_}
-use mathlib.Core.Bool.{Bool, true, _&&_}
+use mathlib.Core.Bool.{true}
 use mathlib.Core.List.{List, [], _∷_, _++_, flatMap, append-assoc}
 use Prim.Native.Nat.{ℕ, suc, _+_, _-_, _*_, _/_, _%_, _<_, _≤_}
 use native.Mathlib.Omega.{arith}
 use native.Mathlib.Nat.{mul-le-mul-right, mul-div-cancel, div-add-mod, div-lt-iff-lt-mul, mod-lt}
-use lib.Dec.{leb, eqb}
+use lib.Dec.{eqb}
 use lib.ListN.{length, take, drop, replicate, length-append, length-replicate}
 use lib.Seq.{drop-cons, take-at, drop-at, drop-append-le, drop-drop, getD-drop, ext-getD}
 use borrow.Author.Tests.{le-leb, eq-eqb}
 use Rattle.terms.specs.declared.TypeCode.{TypeCode}
 use Rattle.terms.specs.Names.{code}
-use Rattle.forest.specs.Numbers.{range}
 use Rattle.rules.specs.Block.{Bytes, byte, wordBytes, part, every, zeros, marked}
 use Rattle.rules.specs.Catalogue.{lengthOf, goodCatalogue}
-use Rattle.rules.specs.Cells.{Segment, segment, blank, segmentOf, goodListing}
+use Rattle.rules.specs.Cells.{Segment, segment, blank, segmentOf, keyed, goodListing}
 use Rattle.rules.specs.Table.{count, cellSize, cellStart, room, typeAt, segmentAt, listing, goodRoom, padded, goodTable, cellBytes, tableBytes}
 use Rattle.rules.proofs.Cells.{listing-at, listing-length}
 use Rattle.encoding.specs.Determined.{IsBytes, All, Fits}
 use Rattle.rules.proofs.Every.{zeros-row}
+use Rattle.rules.proofs.Table.{tests-table}
 use Rattle.rules.proofs.Entries.{cell-some, cell-most, type-low}
-use Rattle.encoding.proofs.Lists.{every-of, bytes-none, bytes-all, bytes-cons, bytes-append, bytes-zeros, all-at}
+use Rattle.encoding.proofs.Lists.{every-of, every-all, bytes-none, bytes-all, bytes-cons, bytes-append, bytes-zeros, all-at}
 use Rattle.encoding.proofs.Bytes.{rowBytes, cells-split, row-length, row-drop}
-
-all-true : (a b c d e f g : Bool) → a ≡ true → b ≡ true → c ≡ true → d ≡ true → e ≡ true → f ≡ true → g ≡ true → (a && b && c && d && e && f && g) ≡ true
-all-true a b c d e f g p q r s t u v = rw (p, q, r, s, t, u, v)
 
 module _ (cat : Bytes) (m : ℕ) (cs : List Segment) where
   abbrev made : Bytes
@@ -133,15 +130,17 @@ module _ (cat : Bytes) (m : ℕ) (cs : List Segment) where
 
     -- the check takes it, where its cells are well formed and its room is not too large
     pub made-good : m ≤ 4096 → goodListing cat cs ≡ true → goodTable cat made ≡ true
-    unfolding goodTable
     made-good low shaped =
-        all-true (goodRoom cat made) (marked 0x54 made) (eqb (byte made 5) (cellSize cat)) (leb (count made) (room cat made))
-        (every (padded cat made) (range 0 (count made))) (zeros (drop (cellStart cat (count made)) made)) (goodListing cat (listing cat made))
-        (room-good low) made-mark made-size
-        (le-leb (count made) (room cat made) (omega (arith, made-count, made-room)))
-        (every-of (padded cat made) 0 (count made) (λ i a b. made-padded i (omega (arith, made-count))))
-        (ap (λ (k : ℕ). zeros (drop (cellStart cat k) made)) made-count ∙ ap zeros made-free ∙ zeros-row ((m - length cs) * cellSize cat))
-        (ap (goodListing cat) made-listing ∙ shaped)
+        tests-table cat made (record {
+          roomy = room-good low;
+          mark = made-mark;
+          size = made-size;
+          few = le-leb (count made) (room cat made) (omega (arith, made-count, made-room));
+          filled = every-of (padded cat made) 0 (count made) (λ i a b. made-padded i (omega (arith, made-count)));
+          free = ap (λ (k : ℕ). zeros (drop (cellStart cat k) made)) made-count ∙ ap zeros made-free ∙ zeros-row ((m - length cs) * cellSize cat);
+          keys = ap (every (keyed cat)) made-listing ∙ every-all (Fits cat) (keyed cat) (λ s f. f .valued) cs fits;
+          cells = ap (goodListing cat) made-listing ∙ shaped;
+        })
 
   -- it is a slice of bytes
   module _ (g : goodCatalogue cat ≡ true) where

@@ -22,8 +22,9 @@ use Rattle.terms.specs.Choice.{pick}
 use Rattle.terms.specs.Names.{code, field}
 use Rattle.terms.specs.Moves.{isAbsent, placeNumber, afterPlace}
 use Rattle.forest.specs.Good.{on, off, is, both-left, both-right, isNil}
-use Rattle.rules.specs.Block.{Bytes, byte}
-use Rattle.rules.specs.Catalogue.{fieldLength, isType, typeBeneath, goodCatalogue}
+use Rattle.rules.specs.Block.{Bytes, byte, part}
+use Rattle.rules.specs.Order.{isValue}
+use Rattle.rules.specs.Catalogue.{fieldLength, fieldValue, isType, typeBeneath, goodCatalogue}
 use Rattle.rules.specs.Cells.{Segment, endAt}
 use Rattle.rules.specs.Table.{cellSize, listing, goodTable}
 use Rattle.rules.specs.Position.{goodPlace, goodParentage, goodHold, goodPosition}
@@ -154,7 +155,9 @@ module _ (cat list : Bytes) where
         (pick-of Named (ltb 6 (byte list (at + 1))) (Fault AJ) _ tt
         (pick-of Named (leb (length list) (at + 2)) (Fault AJ) _ tt
         (pick-of Named (not (isFieldOf cat list (code (byte list at)) (field (byte list (at + 2))))) (Fault AK) _ tt
-        (pick-of Named (ltb (length list) (at + 3 + fieldLength cat (field (byte list (at + 2))))) (Fault AJ) (Got _) tt k))))))
+        (pick-of Named (ltb (length list) (at + 3 + fieldLength cat (field (byte list (at + 2))))) (Fault AJ) _ tt
+        (pick-of Named (not (isValue (fieldValue cat (field (byte list (at + 2)))) (part list (at + 3) (fieldLength cat (field (byte list (at + 2)))))))
+        (Fault AJ) (Got _) tt k)))))))
     | off h ↦ rw h tt
   ]
 

@@ -1,6 +1,6 @@
 -- ISRT: the leaf put among the siblings of a forest is the cell put among the cells, at the same number, with the same twins. Assumes nothing.
 use mathlib.Core.Path.{_≡_, refl, ap, sym, _∙_}
-use mathlib.Core.Bool.{Bool, true, false, _&&_, _||_}
+use mathlib.Core.Bool.{Bool, true, false, _&&_, _||_, not}
 use mathlib.Core.Option.{none, some}
 use mathlib.Core.List.{List, [], _∷_, _++_, map, append-assoc, append-nil}
 use Prim.Native.Nat.{ℕ, suc, _+_, _-_, _<_, _≤_}
@@ -13,7 +13,7 @@ use Rattle.terms.specs.declared.Place.the-variants.{On}
 use Rattle.terms.specs.declared.Parentage.{Parentage}
 use Rattle.terms.specs.declared.Parentage.the-variants.{Absent, Of}
 use Rattle.terms.specs.declared.Position.{Position}
-use Rattle.terms.specs.declared.Status.the-variants.{II, FX}
+use Rattle.terms.specs.declared.Status.the-variants.{II, FX, PD}
 use Rattle.terms.specs.Choice.{pick}
 use Rattle.terms.specs.Names.{code, cell, sameType}
 use Rattle.terms.specs.Moves.{afterInsert}
@@ -26,7 +26,7 @@ use Rattle.forest.specs.Insert.{graft, insertUnder as graftUnder, passes, place
 use Rattle.forest.specs.Numbers.{range, isIn}
 use Rattle.rules.specs.Block.{Bytes, every, anyOf}
 use Rattle.rules.specs.Catalogue.{keyKind, level}
-use Rattle.rules.specs.Cells.{Segment, segment, blank, segmentLevel, sameKey, keyOrder, goesBefore, rowAt}
+use Rattle.rules.specs.Cells.{Segment, segment, blank, segmentLevel, keyed, sameKey, keyOrder, goesBefore, rowAt}
 use Rattle.rules.specs.Matching.{pathTo}
 use Rattle.rules.specs.Change.{put}
 use Rattle.rules.specs.Calls.{After, refused, changed, isOneOf, keyTaken, inserted, insertAmong}
@@ -212,9 +212,10 @@ module _ (cat : Bytes) (cs : List Segment) where
     -- what an insert answers, by its position before and after
     abbrev after : ℕ → Position → Position → Bool → ℕ → List Segment → After
     after m before then taken r new =
-        pick (eqb (keyKind cat (x .code)) 1 && taken) (refused II before area)
+        pick (not (keyed cat x)) (refused PD before area)
+        (pick (eqb (keyKind cat (x .code)) 1 && taken) (refused II before area)
         (pick (eqb (length cs) m) (refused FX before area)
-        (changed cat then x 0 (put r (x ∷ [])) new area))
+        (changed cat then x 0 (put r (x ∷ [])) new area)))
 
     put-after : (m : ℕ) (inspos : Path) (taken : Bool) (r : ℕ) (new : List Segment)
         → putUnder cat cs (paths cat cs pos) area m x inspos taken r new ≡ after m (numbered (paths cat cs pos)) (numbered (afterPut inspos r (paths cat cs pos))) taken r new

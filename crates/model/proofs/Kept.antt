@@ -19,7 +19,7 @@ use Rattle.terms.specs.declared.Position.{Position}
 use Rattle.terms.specs.declared.Argument.{Argument}
 use Rattle.terms.specs.declared.Answer.{Answer}
 use Rattle.terms.specs.declared.Status.{Status}
-use Rattle.terms.specs.declared.Status.the-variants.{Blank, GE, DA, II, FX}
+use Rattle.terms.specs.declared.Status.the-variants.{Blank, GE, DA, II, FX, PD}
 use Rattle.terms.specs.declared.Found.{Found}
 use Rattle.terms.specs.declared.Found.the-variants.{At, Nothing}
 use Rattle.terms.specs.Choice.{pick}
@@ -33,7 +33,8 @@ use Rattle.forest.specs.Insert.{spot}
 use Rattle.forest.specs.Numbers.{isIn, ancestors, run}
 use Rattle.rules.specs.Block.{Bytes, sameBytes}
 use Rattle.rules.specs.Catalogue.{parentOf, lengthOf, keyKind, level, isType, goodCatalogue}
-use Rattle.rules.specs.Cells.{Segment, segment, segmentOf, arriving, shownBytes, blank, typeNumber, key, isChild, goesBefore, segmentLevel, goodListing, levelAt, runAt, endAt, rowAt}
+use Rattle.rules.specs.Cells.{Segment, segment, segmentOf, arriving, shownBytes, blank, typeNumber, key, keyed, isChild, goesBefore, segmentLevel}
+use Rattle.rules.specs.Cells.{goodListing, levelAt, runAt, endAt, rowAt}
 use Rattle.rules.specs.Table.{cellSize, room, listing, goodTable, tableBytes}
 use Rattle.rules.specs.Position.{goodPlace, goodParentage, goodHold, goodPosition}
 use Rattle.rules.specs.Arguments.{Level, complete, listRead, lastArgument, getLevels}
@@ -55,7 +56,7 @@ use Rattle.rules.proofs.Tree.{missing, leading}
 use Rattle.model.proofs.Along.{along-heads}
 use Rattle.model.proofs.Parents.{never, level-child, level-root, root-parent, parent-type, listing-levelled, numbers-levelled, match-type}
 use Rattle.model.proofs.Asked.{not-true, by-number, Usable, usable-of, last-type, good-place, good-parentage, good-hold, parent-before, held-on}
-use Rattle.model.proofs.Twins.{same-bytes}
+use Rattle.model.proofs.Twins.{same-bytes, keyed-same}
 use Rattle.model.proofs.Levels.{run-deep, end-from, end-le, end-some, in-row, row-in, level-front, level-new, levels-set, spot-le, spot-deep}
 use Rattle.model.proofs.Changed.{delete-good, replace-good, top-good, under-good}
 
@@ -246,8 +247,8 @@ module _ (cat : Bytes) (cs : List Segment) (m : ℕ) (area : Bytes) where
       keeps-within hold ls =
           keeps-gotten GE (levelStatus cat cs ls (pos .place)) (λ i. pos .parentage) hold (firstMatch cat cs ls (afterPlace (pos .place)) (parentEnd cat cs (pos .parentage))) (lands-within ls (pos .parentage) refl)
 
-      -- ISRT: a cell at r, behind its parent q and the cells that it passed
-      module _ (x : Segment) (new : Fits cat x) where
+      -- ISRT: a cell at r, behind its parent q and the cells that it passed; it fits once PD is not given (R91)
+      module _ (x : Segment) (new : keyed cat x ≡ true → Fits cat x) where
         abbrev before : Segment → Bool
         before s = goesBefore cat x s
 
@@ -260,8 +261,8 @@ module _ (cat : Bytes) (cs : List Segment) (m : ℕ) (area : Bytes) where
         with-long : (r : ℕ) → r ≤ length cs → length (with-x r) ≡ suc (length cs)
         with-long r l = omega (arith, length-append (take r cs) (x ∷ drop r cs), length-take-le r cs l, length-drop r cs)
 
-        with-fits : (r : ℕ) → All (Fits cat) (with-x r)
-        with-fits r = all-append (Fits cat) (take r cs) (x ∷ drop r cs) (all-take (Fits cat) r cs whole) (new, all-drop (Fits cat) r cs whole)
+        with-fits : keyed cat x ≡ true → (r : ℕ) → All (Fits cat) (with-x r)
+        with-fits v r = all-append (Fits cat) (take r cs) (x ∷ drop r cs) (all-take (Fits cat) r cs whole) (new v, all-drop (Fits cat) r cs whole)
 
         module _ (r : ℕ) (fit : r ≤ length cs) where
           -- the parentage that stays is above the new cell
@@ -272,15 +273,17 @@ module _ (cat : Bytes) (cs : List Segment) (m : ℕ) (area : Bytes) where
           stays above a Absent = refl
           stays above a (Of p) = elim (is (isIn (p .0) above)) [ on e ↦ rw e (a (p .0) e) | off e ↦ rw e ]
 
-          keeps-inserted : (above : List ℕ) (taken : Bool) → Above above → ((eqb (keyKind cat (x .code)) 1 && taken) ≡ false → goodListing cat (with-x r) ≡ true)
+          keeps-inserted : (above : List ℕ) (taken : Bool) → Above above
+              → (keyed cat x ≡ true → (eqb (keyKind cat (x .code)) 1 && taken) ≡ false → goodListing cat (with-x r) ≡ true)
               → Keeps true true (inserted cat cs pos area m x above taken r (with-x r))
           unfolding inserted changed answerOf
           keeps-inserted above taken a h =
-              pick-by (Keeps true true) (eqb (keyKind cat (x .code)) 1 && taken) _ _ (λ e. keeps-refused true true II refl)
+              pick-by (Keeps true true) (not (keyed cat x)) _ _ (λ e. keeps-refused true true PD refl)
+              (λ v. pick-by (Keeps true true) (eqb (keyKind cat (x .code)) 1 && taken) _ _ (λ e. keeps-refused true true II refl)
               (λ f. pick-by (Keeps true true) (eqb (length cs) m) _ _ (λ e. keeps-refused true true FX refl)
               (λ e. record {
-                formed = h f;
-                fits = with-fits r;
+                formed = h (not-true (keyed cat x) v) f;
+                fits = with-fits (not-true (keyed cat x) v) r;
                 few = (let z : (length cs ≡ m) → ⊥ = eqb-false (length cs) m e in omega (arith, with-long r fit));
                 sits = sits-of cat (with-x r) (afterInsert r (isOneOf above (pos .parentage)) pos)
                     (lt-ltb r (length (with-x r)) (omega (arith, with-long r fit))) (stays above a (pos .parentage)) refl;
@@ -290,7 +293,7 @@ module _ (cat : Bytes) (cs : List Segment) (m : ℕ) (area : Bytes) where
                 only = λ z. never true refl z;
                 long = refl;
                 filled = bytes;
-              }))
+              })))
 
         -- the row of the parent lies above the new cell
         module _ (q : ℕ) (l : q < length cs) (deep : suc (lev (segment cs q)) ≡ lev x) where
@@ -339,20 +342,20 @@ module _ (cat : Bytes) (cs : List Segment) (m : ℕ) (area : Bytes) where
           unfolding insertAmong
           keeps-beneath c =
               keeps-inserted r r-fit (rowAt cat cs q) (keyTaken cat cs x (suc q) (runAt cat cs q - 1)) row-above
-              (under-good cat g cs good whole pos area x new q l deep c)
+              (λ v. under-good cat g cs good whole pos area x (new v) q l deep c)
 
         keeps-top : Levelled lev (lev x) (forestOf lev cs) → isChild cat 0 x ≡ true → Keeps true true (insertAmong cat cs pos area m x [] 0 (length cs))
         unfolding insertAmong
         keeps-top a c =
             keeps-inserted (0 + spot lev x before cs) (omega (arith, spot-le lev x before blank cs)) [] (keyTaken cat cs x 0 (length cs)) (λ p e. never false e refl)
-            (top-good cat g cs good whole pos area x new a c)
+            (λ v. top-good cat g cs good whole pos area x (new v) a c)
 
       module _ (t : TypeCode) (known : isType cat t ≡ true) where
         abbrev x′ : Segment
         x′ = arriving cat t area
 
-        x-fits : Fits cat x′
-        x-fits = arriving-fits cat t area (type-wide t known) known bytes
+        x-fits : keyed cat x′ ≡ true → Fits cat x′
+        x-fits v = arriving-fits cat t area (type-wide t known) known bytes v
 
         x-level : segmentLevel cat x′ ≡ level cat t
         unfolding arriving segmentOf
@@ -388,20 +391,23 @@ module _ (cat : Bytes) (cs : List Segment) (m : ℕ) (area : Bytes) where
         abbrev y : Segment
         y = replacement cat cs pos area i
 
-        y-fits : Fits cat y
-        unfolding replacement
-        y-fits =
-            let k : isType cat (segment cs i .code) ≡ true = all-at (Fits cat) blank cs i whole on-cell .known in
-            arriving-fits cat (segment cs i .code) area (type-wide (segment cs i .code) k) k bytes
-
         y-type : typeNumber y ≡ typeNumber (segment cs i)
         unfolding replacement arriving segmentOf
         y-type = refl
 
-        set-fits : All (Fits cat) (set cs i y)
-        set-fits =
-            subst (All (Fits cat)) (sym (set-split cs i y on-cell))
-            (all-append (Fits cat) (take i cs) (y ∷ drop (suc i) cs) (all-take (Fits cat) i cs whole) (y-fits, all-drop (Fits cat) (suc i) cs whole))
+        -- where DA is not given the key is the old one, which is a value
+        module _ (same : key cat y ≡ key cat (segment cs i)) where
+          y-fits : Fits cat y
+          unfolding replacement
+          y-fits =
+              let old : Fits cat (segment cs i) = all-at (Fits cat) blank cs i whole on-cell in
+              let v : keyed cat y ≡ true = keyed-same cat y (segment cs i) y-type same ∙ old .valued in
+              arriving-fits cat (segment cs i .code) area (type-wide (segment cs i .code) (old .known)) (old .known) bytes v
+
+          set-fits : All (Fits cat) (set cs i y)
+          set-fits =
+              subst (All (Fits cat)) (sym (set-split cs i y on-cell))
+              (all-append (Fits cat) (take i cs) (y ∷ drop (suc i) cs) (all-take (Fits cat) i cs whole) (y-fits, all-drop (Fits cat) (suc i) cs whole))
 
         keeps-replace : Keeps false true (replace cat cs pos area)
         unfolding replace replaced changed answerOf
@@ -412,7 +418,7 @@ module _ (cat : Bytes) (cs : List Segment) (m : ℕ) (area : Bytes) where
             let k : key cat (segment cs i) ≡ key cat y = same-bytes (key cat (segment cs i)) (key cat y) (not-true (sameBytes (key cat (segment cs i)) (key cat y)) e) in
             record {
               formed = replace-good cat g cs good whole i y on-cell y-type (sym k);
-              fits = set-fits;
+              fits = set-fits (sym k);
               few = omega arith;
               sits = sits-of cat (set cs i y) (holdDropped pos)
                   (place-same cat cs (set cs i y) n (pos .place) ∙ good-place cat cs pos here)

@@ -1,10 +1,10 @@
 -- What a good catalogue says of a type: its parent, its level, and the levels of a good listing. Assumes nothing.
 use mathlib.Core.Path.{_≡_, refl, ap, sym, _∙_, subst}
-use mathlib.Core.Bool.{Bool, true, false, _&&_}
+use mathlib.Core.Bool.{Bool, true, false}
 use mathlib.Core.List.{List, [], _∷_, _++_, map, reverse, reverse-cons}
-use Prim.Native.Nat.{ℕ, zero, suc, _+_, _-_, _*_, _<_, _≤_}
+use Prim.Native.Nat.{ℕ, zero, suc, _-_, _<_, _≤_}
 use native.Mathlib.Omega.{arith}
-use lib.Dec.{leb, eqb}
+use lib.Dec.{eqb}
 use lib.ListN.{length}
 use borrow.Author.Tests.{le-leb, ne-eqb, eqb-true, eqb-false}
 use Rattle.terms.specs.declared.TypeCode.{TypeCode}
@@ -12,20 +12,19 @@ use Rattle.terms.specs.declared.Argument.{Argument}
 use Rattle.terms.specs.Choice.{pick}
 use Rattle.terms.specs.Names.{code, sameType}
 use Rattle.forest.specs.Forest.{Forest, forestOf}
-use Rattle.forest.specs.Good.{on, off, is, both-left, both-right, Wf, formed-wf, levelled}
+use Rattle.forest.specs.Good.{on, off, is, both-left, Wf, formed-wf, levelled}
 use Rattle.forest.specs.Shape.{Levelled}
 use Rattle.forest.specs.Rows.{map-append}
-use Rattle.forest.specs.Numbers.{range, isIn}
+use Rattle.forest.specs.Numbers.{isIn}
 use Rattle.forest.specs.Types as Types
-use Rattle.rules.specs.Block.{Bytes, every, zeros, part}
-use Rattle.rules.specs.Catalogue.{types, fields, parentOf, lengthOf, lineage, level, isType, goodKey, goodParent, goodType, goodField, goodHeader, goodCatalogue}
+use Rattle.rules.specs.Block.{Bytes}
+use Rattle.rules.specs.Catalogue.{types, parentOf, lineage, level, isType, goodParent, goodCatalogue}
 use Rattle.rules.specs.Cells.{Segment, segment, typeNumber, isChild, siblings, segmentLevel, goodListing, levelAt}
 use Rattle.rules.specs.Arguments.{Level, askedOf, complete}
 use Rattle.rules.specs.Matching.{agrees, satisfies, agree, pathTo, matches}
 use Rattle.rules.specs.Paths.{Path, end}
 use Rattle.rules.specs.Tree.{dataPart, segments}
-use Rattle.rules.proofs.Every.{every-at}
-use Rattle.rules.proofs.Catalogue.{par, good-lower}
+use Rattle.rules.proofs.Catalogue.{par, good-parent, good-lower}
 use Rattle.rules.proofs.Paths.{end-path}
 use Rattle.rules.proofs.Tree.{segments-cells}
 use Rattle.encoding.proofs.Entries.{is-type, good-types}
@@ -35,10 +34,6 @@ use Rattle.model.proofs.Along.{agree-in}
 -- a test cannot be both
 pub never : {A : Type 0} (b : Bool) → b ≡ true → b ≡ false → A
 never b e f = absurd (let z : _≡_ {A = ℕ} 1 0 = ap (λ (c : Bool). pick c 1 0) (sym e ∙ f) in omega arith)
-
-first-of : (a b c d e f : Bool) → (a && b && c && d && e && f) ≡ true → a ≡ true
-first-of true b c d e f h = refl
-first-of false b c d e f h = h
 
 no-zero : (p : ℕ → ℕ) (n u : ℕ) → isIn 0 (Types.lineageFrom p n u) ≡ false
 unfolding Types.lineageFrom
@@ -52,13 +47,6 @@ module _ (cat : Bytes) where
   level-none = refl
 
   module _ (g : goodCatalogue cat ≡ true) where
-    good-parent : (u : ℕ) → 1 ≤ u → u ≤ types cat → goodParent cat u ≡ true
-    unfolding goodCatalogue goodType
-    good-parent u a b =
-        first-of (goodParent cat u) (leb 1 (lengthOf cat (code u))) (leb (lengthOf cat (code u)) 120) (goodKey cat (code u)) (zeros (part cat (8 * u + 5) 3)) (leb (level cat (code u)) 15)
-        (every-at (goodType cat) 1 (types cat) u
-        (both-right (goodHeader cat) (every (goodType cat) (range 1 (types cat))) (both-left (goodHeader cat && every (goodType cat) (range 1 (types cat))) (every (goodField cat) (range 1 (fields cat))) g)) a (omega arith))
-
     lineage-step : (t : TypeCode) → isType cat t ≡ true → lineage cat t ≡ t .0 ∷ lineage cat (parentOf cat t)
     unfolding lineage
     lineage-step t h = let z = is-type cat t h in Types.lineage-step (par cat) (types cat) (good-lower cat g) (t .0) (z .0) (z .1)
@@ -71,7 +59,7 @@ module _ (cat : Bytes) where
     -- R7, of the root
     pub root-parent : parentOf cat (code 1) .0 ≡ 0
     unfolding goodParent
-    root-parent = eqb-true (parentOf cat (code 1) .0) 0 (good-parent 1 (omega arith) (good-types cat g .0))
+    root-parent = eqb-true (parentOf cat (code 1) .0) 0 (good-parent cat g 1 (omega arith) (good-types cat g .0))
 
     -- LAW: R8, of the root
     pub level-root : (t : TypeCode) → isType cat t ≡ true → t .0 ≡ 1 → level cat t ≡ 1
@@ -82,7 +70,7 @@ module _ (cat : Bytes) where
     parent-some : (u : ℕ) → 1 ≤ u → u ≤ types cat → (u ≡ 1 → ⊥) → 1 ≤ par cat u
     unfolding goodParent lineage Types.lineage
     parent-some u a b ne =
-        let f : isIn (par cat u) (Types.lineageFrom (par cat) (u - 1) (u - 1)) ≡ true = rw (ne-eqb u 1 ne) at (good-parent u a b) in
+        let f : isIn (par cat u) (Types.lineageFrom (par cat) (u - 1) (u - 1)) ≡ true = rw (ne-eqb u 1 ne) at (good-parent cat g u a b) in
         elim (is (eqb (par cat u) 0)) [
           | on e ↦
               let z : par cat u ≡ 0 = eqb-true (par cat u) 0 e in

@@ -20,9 +20,9 @@ use Rattle.forest.specs.Edit.{size, edit, edit-in, edit-out, getD-past}
 use Rattle.forest.specs.Runs.{swap, size-node}
 use Rattle.forest.specs.Keep.{Sits}
 use Rattle.rules.specs.Block.{Bytes, sameBytes}
-use Rattle.rules.specs.Order.{valueOrder}
+use Rattle.rules.specs.Order.{isValue, valueOrder}
 use Rattle.rules.specs.Catalogue.{parentOf, lengthOf, keyKind, keyStart, keyLength, keyValue, isType}
-use Rattle.rules.specs.Cells.{Segment, typeNumber, key, keyOrder, twinOrder, sameKey, isChild, siblings, goesBefore, segmentLevel}
+use Rattle.rules.specs.Cells.{Segment, typeNumber, key, keyed, keyOrder, twinOrder, sameKey, isChild, siblings, goesBefore, segmentLevel}
 use Rattle.rules.specs.Tree.{hasKey}
 use Rattle.rules.proofs.Order.{turned}
 use Rattle.rules.proofs.Values.{value-turned, value-transitive, value-left, value-right}
@@ -244,6 +244,11 @@ module _ (cat : Bytes) where
     stand-of : (a b : Segment) → siblings cat a b ≡ stand (typeNumber a) (typeNumber b) (key cat a) (key cat b)
     unfolding twinOrder keyOrder
     stand-of a b = refl
+
+    -- LAW: its key is a value where the other's is
+    pub keyed-same : keyed cat x ≡ keyed cat c
+    unfolding keyed
+    keyed-same = ap (λ (t : ℕ). isValue (keyValue cat (code t)) (key cat x)) e ∙ ap (isValue (keyValue cat (c .code))) h
 
     before-same : (b : Segment) → siblings cat c b ≡ true → siblings cat x b ≡ true
     before-same b s =
