@@ -96,9 +96,9 @@ pub packed-field-cases : T (all right fieldCases)
 unfolding computed fieldCases torques measured
 packed-field-cases = tt
 
-pub packed-store-cases : T (all right storeCases)
+pub packed-change-cases : T (all right storeCases)
 unfolding computed storeCases torques measured allMeasured
-packed-store-cases = tt
+packed-change-cases = tt
 
 -- and cases that say what is not so do not hold
 pub untrue-cases : T (all (λ c. not (right c)) untrueCases)
