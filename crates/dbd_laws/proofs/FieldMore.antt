@@ -126,7 +126,8 @@ module _ (d : Draft) (s : Sound d) (n : Bytes) (start long : ℕ) (us : List Byt
     | off h ↦ rw (own-snoc-out k fs (d .fieldNames) new n (s .each-named) h) (s .apart-fields k)
   ]
 
-  module _ (long-us : length us ≡ T d) (wide : Wide 8 us) (flat : Plain us) (same : (i : ℕ) → i < T d → byte (getD us i []) 1 ≡ byte (getD (d .types) i []) 1) where
+  module _ (long-us : length us ≡ T d) (wide : Wide 8 us) (flat : Plain us)
+      (same : (i : ℕ) → i < T d → byte (getD us i []) 1 ≡ byte (getD (d .types) i []) 1) where
     -- the new field, as the check of the block has it
     pub new-fits : goodField (catalogueOf next) (length (fs ++ (new ∷ []))) ≡ true → Fits us new
     new-fits g =
