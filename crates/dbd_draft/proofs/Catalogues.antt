@@ -10,7 +10,8 @@ use lib.Seq.{getD-append-add}
 use borrow.Author.Tests.{le-leb}
 use Rattle.terms.specs.Names.{field}
 use Rattle.rules.specs.Block.{Bytes, byte, part}
-use Rattle.rules.specs.Catalogue.{types, fields, typeByte, keyKind, lengthOf, fieldByte, fieldType, fieldStart, fieldLength, isType, goodSpan, goodField}
+use Rattle.rules.specs.Catalogue.{types, fields, typeByte, keyKind, lengthOf, fieldByte, fieldType, fieldStart, fieldLength, fieldValue, isType}
+use Rattle.rules.specs.Catalogue.{goodSpan, goodField}
 use Rattle.statements.specs.Draft.{header, catalogueOf, isKeyed}
 use Rattle.statements.proofs.Rows.{rows-length, joined-rows, part-then, part-length, part-byte}
 use Rattle.dbd_draft.specs.Kept.{draftOf, Sound}
@@ -82,7 +83,7 @@ module _ (b : Bytes) (s : Framed b) where
 
     -- LAW: it is good where its span lies within the last type's data
     pub last-good : goodField (catalogueOf (draftOf b)) (suc n) ≡ goodSpan start long (byte b (8 * types b + 1))
-    unfolding goodField isType fieldType fieldStart fieldLength lengthOf typeByte
+    unfolding goodField isType fieldType fieldStart fieldLength fieldValue lengthOf typeByte
     last-good =
         let o : byte (catalogueOf (draftOf b)) (8 * types b + 1) ≡ byte b (8 * types b + 1) = block-byte (8 * types b + 1) (omega arith) in
         rw (

@@ -89,7 +89,7 @@ module _ (b levels : Bytes) (s : Sound b levels) (name : Bytes) (above long : â„
   unfolding goodType
   type-low k e g =
       let c = typeWritten b name above long in
-      let t = six (goodParent c k) (leb 1 (lengthOf c (code k))) (leb (lengthOf c (code k)) 120) (goodKey c (code k)) (zeros (part c (8 * k + 5) 3))
+      let t = six (goodParent c k) (leb 1 (lengthOf c (code k))) (leb (lengthOf c (code k)) 120) (goodKey c (code k)) (zeros (part c (8 * k + 5) 2))
       (leb (level c (code k)) 15) g in
       omega (arith, own-length k e, leb-true (lengthOf c (code k)) 120 (t .2))
 

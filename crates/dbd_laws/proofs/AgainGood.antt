@@ -12,7 +12,8 @@ use Rattle.terms.specs.Names.{code, field}
 use Rattle.forest.specs.Numbers.{isIn}
 use Rattle.forest.specs.Types as Types
 use Rattle.rules.specs.Block.{Bytes, part, zeros}
-use Rattle.rules.specs.Catalogue.{types, lengthOf, keyKind, keyStart, keyLength, fieldType, fieldStart, fieldLength, fieldByte, lineage, level, isType}
+use Rattle.rules.specs.Catalogue.{types, lengthOf, keyKind, keyStart, keyLength, keyValue, lineage, level, isType}
+use Rattle.rules.specs.Catalogue.{fieldType, fieldStart, fieldLength, fieldValue, fieldByte}
 use Rattle.rules.specs.Catalogue.{goodKey, goodParent, goodType, goodField}
 use Rattle.rules.proofs.Joined.{three, six}
 use Rattle.rules.proofs.Catalogue.{par}
@@ -54,19 +55,19 @@ module _ (a c : Bytes) (k : ℕ) (low : Types.lower (par c) k ≡ true) (same : 
 
   -- R78: a type right behind its SEGM, which has no key yet
   pub type-again : 1 ≤ k → lengthOf a (code k) ≡ lengthOf c (code k) → keyKind a (code k) ≡ 0 → keyStart a (code k) ≡ 0 → keyLength a (code k) ≡ 0
-      → zeros (part a (8 * k + 5) 3) ≡ true → goodType c k ≡ true → goodType a k ≡ true
+      → keyValue a (code k) ≡ 0 → zeros (part a (8 * k + 5) 2) ≡ true → goodType c k ≡ true → goodType a k ≡ true
   unfolding goodType goodKey
-  type-again l e k0 s0 l0 z g =
+  type-again l e k0 s0 l0 v0 z g =
       let p = six (goodParent c k) (leb 1 (lengthOf c (code k))) (leb (lengthOf c (code k)) 120) (goodKey c (code k))
-      (zeros (part c (8 * k + 5) 3)) (leb (level c (code k)) 15) g in
+      (zeros (part c (8 * k + 5) 2)) (leb (level c (code k)) 15) g in
       all-six (goodParent a k) (leb 1 (lengthOf a (code k))) (leb (lengthOf a (code k)) 120) (goodKey a (code k))
-      (zeros (part a (8 * k + 5) 3)) (leb (level a (code k)) 15)
-      (parent-same l ∙ p .0) (ap (leb 1) e ∙ p .1) (ap (λ (x : ℕ). leb x 120) e ∙ p .2) (rw (k0, s0, l0)) z (ap (λ (x : ℕ). leb x 15) level-same ∙ p .5)
+      (zeros (part a (8 * k + 5) 2)) (leb (level a (code k)) 15)
+      (parent-same l ∙ p .0) (ap (leb 1) e ∙ p .1) (ap (λ (x : ℕ). leb x 120) e ∙ p .2) (rw (k0, s0, l0, v0)) z (ap (λ (x : ℕ). leb x 15) level-same ∙ p .5)
 
 -- R78: a field of one of the types so far
 pub field-again : (a c : Bytes) (f : ℕ) → ((j : ℕ) → j < 4 → fieldByte a (field f) j ≡ fieldByte c (field f) j) → fieldType c (field f) .0 ≤ types a
     → lengthOf a (fieldType c (field f)) ≡ lengthOf c (fieldType c (field f)) → goodField c f ≡ true → goodField a f ≡ true
-unfolding goodField isType fieldType fieldStart fieldLength
+unfolding goodField isType fieldType fieldStart fieldLength fieldValue
 field-again a c f same l e g =
     let p = three (isType c (fieldType c (field f))) _ _ g in
     let r = type-range c (fieldType c (field f)) (p .0) in

@@ -14,7 +14,7 @@ use Rattle.forest.specs.Forest.{inside, outside, side}
 use Rattle.forest.specs.Numbers.{isIn}
 use Rattle.forest.specs.Types as Types
 use Rattle.rules.specs.Block.{Bytes, byte, part, sameBytes}
-use Rattle.rules.specs.Catalogue.{types, typeByte, parentOf, lengthOf, keyKind, keyStart, keyLength, lineage, goodParent, goodType}
+use Rattle.rules.specs.Catalogue.{types, typeByte, parentOf, lengthOf, keyKind, keyStart, keyLength, keyValue, lineage, goodParent, goodType}
 use Rattle.rules.proofs.Catalogue.{par, good-type, good-parent, lower-to, good-lower}
 use Rattle.rules.proofs.Entries.{header-facts, type-facts}
 use Rattle.statements.specs.Text.{bytesOf}
@@ -195,25 +195,23 @@ module _ (c n : Bytes) where
         ]
 
     block-opened : (k m : ℕ) → k < types c → goodType (catalogueOf (within c n k (opened c n k) m)) (suc k) ≡ true
-    unfolding typeByte lengthOf keyKind keyStart keyLength
+    unfolding typeByte lengthOf keyKind keyStart keyLength keyValue
     block-opened k m l =
         let s = types-size c n facts k l in
         let b : Bytes = catalogueOf (within c n k (opened c n k) m) in
         let at : (j : ℕ) → j < 8 → byte (catalogueOf (within c n k (opened c n k) m)) (8 * suc k + j) ≡ byte (opened c n k) j =
         (λ j h. block-entry c n k (opened c n k) m j (omega arith) h) in
         type-again (catalogueOf (within c n k (opened c n k) m)) c (suc k) (lower-to c (facts .good) (suc k) (omega arith)) (block-parents k m l)
-        (omega arith) (at 1 (omega arith)) (at 2 (omega arith)) (at 3 (omega arith)) (at 4 (omega arith))
-        (zeros-take 3 (drop (8 * suc k + 5) b) (λ j h. getD-drop (8 * suc k + 5) b j 0 ∙ zero-at k m l j h))
+        (omega arith) (at 1 (omega arith)) (at 2 (omega arith)) (at 3 (omega arith)) (at 4 (omega arith)) (at 7 (omega arith))
+        (zeros-take 2 (drop (8 * suc k + 5) b) (λ j h. getD-drop (8 * suc k + 5) b j 0 ∙ zero-at k m l j h))
         (good-type c (facts .good) (suc k) (omega arith) (omega arith))
       where
-        zero-at : (k m : ℕ) → k < types c → (j : ℕ) → j < 3 → byte (catalogueOf (within c n k (opened c n k) m)) (8 * suc k + 5 + j) ≡ 0
+        zero-at : (k m : ℕ) → k < types c → (j : ℕ) → j < 2 → byte (catalogueOf (within c n k (opened c n k) m)) (8 * suc k + 5 + j) ≡ 0
         zero-at k m l zero h = let s = types-size c n facts k l in
             let z : 8 * suc k + 5 + 0 ≡ 8 * suc k + 5 = omega arith in rw z (block-entry c n k (opened c n k) m 5 (omega arith) (omega arith))
         zero-at k m l (suc zero) h = let s = types-size c n facts k l in
             let z : 8 * suc k + 5 + 1 ≡ 8 * suc k + 6 = omega arith in rw z (block-entry c n k (opened c n k) m 6 (omega arith) (omega arith))
-        zero-at k m l (suc (suc zero)) h = let s = types-size c n facts k l in
-            let z : 8 * suc k + 5 + 2 ≡ 8 * suc k + 7 = omega arith in rw z (block-entry c n k (opened c n k) m 7 (omega arith) (omega arith))
-        zero-at k m l (suc (suc (suc j))) h = absurd (omega arith)
+        zero-at k m l (suc (suc j)) h = absurd (omega arith)
 
     with-type : (k m : ℕ) (w : Bytes) (p : ℕ) → w ≡ segmentName n (suc k) → p ≡ par c (suc k)
         → withType (upTo c n k m) w p (lengthOf c (code (suc k))) ≡ within c n k (opened c n k) m

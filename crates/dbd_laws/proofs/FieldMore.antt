@@ -13,14 +13,14 @@ use Rattle.terms.specs.Names.{code}
 use Rattle.forest.specs.Forest.{inside, outside, side}
 use Rattle.forest.specs.Good.{on, off, is}
 use Rattle.rules.specs.Block.{Bytes, byte, part, zeros}
-use Rattle.rules.specs.Catalogue.{typeByte, lengthOf, keyKind, keyStart, keyLength, goodSpan, goodKey, goodType, goodField}
+use Rattle.rules.specs.Catalogue.{typeByte, lengthOf, keyKind, keyStart, keyLength, keyValue, goodSpan, goodKey, goodType, goodField}
 use Rattle.statements.specs.Draft.{Draft, catalogueOf, has, ownNames, withKey, withField}
 use Rattle.statements.specs.Dbd.{goodName, distinct}
 use Rattle.statements.proofs.Joined.{Wide, all-at, all-of, all-snoc, all-mono}
-use Rattle.statements.proofs.Frame.{ending-zeros, lower-each, goodType-keyed}
+use Rattle.statements.proofs.Frame.{spare-zeros, lower-each, goodType-keyed}
 use Rattle.dbd_laws.proofs.Apart.{distinct-snoc, own-snoc-in, own-snoc-out}
 use Rattle.dbd_laws.proofs.Blocks.{T}
-use Rattle.dbd_laws.proofs.Sound.{Fits, Listed, Sound, type-byte-at, goes-on, parents-same, field-fits, listed-more}
+use Rattle.dbd_laws.proofs.Sound.{Fits, Plain, Listed, Sound, type-byte-at, goes-on, parents-same, field-fits, listed-more}
 
 -- the entries when the last one gets its key
 module _ (kind start long : ℕ) where
@@ -126,12 +126,14 @@ module _ (d : Draft) (s : Sound d) (n : Bytes) (start long : ℕ) (us : List Byt
     | off h ↦ rw (own-snoc-out k fs (d .fieldNames) new n (s .each-named) h) (s .apart-fields k)
   ]
 
-  module _ (long-us : length us ≡ T d) (wide : Wide 8 us) (same : (i : ℕ) → i < T d → byte (getD us i []) 1 ≡ byte (getD (d .types) i []) 1) where
+  module _ (long-us : length us ≡ T d) (wide : Wide 8 us) (flat : Plain us)
+      (same : (i : ℕ) → i < T d → byte (getD us i []) 1 ≡ byte (getD (d .types) i []) 1) where
     -- the new field, as the check of the block has it
     pub new-fits : goodField (catalogueOf next) (length (fs ++ (new ∷ []))) ≡ true → Fits us new
     new-fits g =
         let h : goodField (catalogueOf next) (suc (length fs)) ≡ true = rw count at g in
-        let f : Fits us (getD (fs ++ (new ∷ [])) (length fs) []) = field-fits next wide short (length fs) (omega (arith, count)) h in
+        let z : byte (getD (fs ++ (new ∷ [])) (length fs) []) 3 ≡ 0 = ap (λ (x : Bytes). byte x 3) last-is in
+        let f : Fits us (getD (fs ++ (new ∷ [])) (length fs) []) = field-fits next wide short (length fs) (omega (arith, count)) z h in
         rw last-is at f
 
     sound-next : length (fs ++ (new ∷ [])) ≤ 64 → goodField (catalogueOf next) (length (fs ++ (new ∷ []))) ≡ true → goodName n ≡ true
@@ -148,6 +150,7 @@ module _ (d : Draft) (s : Sound d) (n : Bytes) (start long : ℕ) (us : List Byt
       each-named = omega (arith, count, length-append (d .fieldNames) (n ∷ []), s .each-named);
       wide-types = wide;
       wide-fields = short;
+      plain-types = flat;
       good-segments = s .good-segments;
       good-fields = all-snoc (λ x. goodName x ≡ true) (d .fieldNames) n (s .good-fields) named;
       apart-segments = s .apart-segments;
@@ -166,14 +169,14 @@ module _ (d : Draft) (s : Sound d) (n : Bytes) (start long : ℕ) where
   pub sound-plain : length (plain .fields) ≤ 64 → goodField (catalogueOf plain) (length (plain .fields)) ≡ true → goodName n ≡ true
       → has n (ownNames (T d) (d .fields) (d .fieldNames)) ≡ false → Sound plain
   sound-plain few good named fresh =
-      sound-next d s n start long (d .types) refl (s .wide-types) (λ i l. refl) few good named fresh
+      sound-next d s n start long (d .types) refl (s .wide-types) (s .plain-types) (λ i l. refl) few good named fresh
       (λ k a b. goes-on d plain (s .wide-types) (s .wide-types) k b b (λ i m. refl) (λ u o m. s .each-type u o (omega arith)) a)
       (λ i l m. listed-more (d .fields) (T d ∷ start ∷ long ∷ 0 ∷ []) (suc i) _ _ (s .keyed i l m))
 
 key-good : (cat : Bytes) (t : TypeCode) → 0 < keyKind cat t → keyKind cat t ≤ 2 → goodSpan (keyStart cat t) (keyLength cat t) (lengthOf cat t) ≡ true
-    → goodKey cat t ≡ true
+    → keyValue cat t ≡ 0 → goodKey cat t ≡ true
 unfolding goodKey
-key-good cat t a b g = rw (ne-eqb (keyKind cat t) 0 (λ z. omega arith), le-leb (keyKind cat t) 2 b, g)
+key-good cat t a b g v = rw (ne-eqb (keyKind cat t) 0 (λ z. omega arith), le-leb (keyKind cat t) 2 b, g, v)
 
 -- a field that is the key of its type
 module _ (d : Draft) (s : Sound d) (n : Bytes) (kind start long : ℕ) (some : 0 < T d) (keyed : 0 < kind) (most : kind ≤ 2) where
@@ -220,6 +223,12 @@ module _ (d : Draft) (s : Sound d) (n : Bytes) (kind start long : ℕ) (some : 0
     | outside h ↦ (let z : i ≡ top = omega (arith, count-us) in rw z (ap length last-one ∙ facts .sized))
   ])
 
+  flat-us : Plain us
+  flat-us = all-of (λ e. byte e 7 ≡ 0) us [] (λ i l. elim (side i top) [
+    | inside h ↦ ap (λ (x : Bytes). byte x 7) (same-before i h) ∙ all-at (λ e. byte e 7 ≡ 0) (d .types) (s .plain-types) i [] (omega arith)
+    | outside h ↦ (let z : i ≡ top = omega (arith, count-us) in rw z (ap (λ (x : Bytes). byte x 7) last-one ∙ facts .seventh))
+  ])
+
   module _ (fits : Fits us (T d ∷ start ∷ long ∷ 0 ∷ [])) where
     abbrev cat : Bytes
     cat = catalogueOf keyDraft
@@ -228,19 +237,17 @@ module _ (d : Draft) (s : Sound d) (n : Bytes) (kind start long : ℕ) (some : 0
     last-byte j l = type-byte-at keyDraft wide-us (T d) j (omega arith) (omega (arith, count-us)) l ∙ ap (λ (x : Bytes). byte x j) last-one
 
     key-is-good : goodKey cat (code (T d)) ≡ true
-    unfolding keyKind keyStart keyLength lengthOf
+    unfolding keyKind keyStart keyLength keyValue lengthOf
     key-is-good =
         let a : typeByte cat (code (T d)) 2 ≡ kind = last-byte 2 (omega arith) ∙ facts .kind-is in
         let b : typeByte cat (code (T d)) 3 ≡ start = last-byte 3 (omega arith) ∙ facts .start-is in
         let e : typeByte cat (code (T d)) 4 ≡ long = last-byte 4 (omega arith) ∙ facts .long-is in
         let f : typeByte cat (code (T d)) 1 ≡ byte (getD us top []) 1 =
         type-byte-at keyDraft wide-us (T d) 1 (omega arith) (omega (arith, count-us)) (omega arith) in
-        key-good cat (code (T d)) (omega arith) (omega arith) (rw (b, e, f) (fits .span))
+        key-good cat (code (T d)) (omega arith) (omega arith) (rw (b, e, f) (fits .span)) (last-byte 7 (omega arith) ∙ facts .seventh)
 
-    ends : zeros (part cat (8 * T d + 5) 3) ≡ true
-    ends =
-        ending-zeros cat (T d)
-        ∙ rw (last-byte 5 (omega arith) ∙ facts .fifth, last-byte 6 (omega arith) ∙ facts .sixth, last-byte 7 (omega arith) ∙ facts .seventh)
+    ends : zeros (part cat (8 * T d + 5) 2) ≡ true
+    ends = spare-zeros cat (T d) ∙ rw (last-byte 5 (omega arith) ∙ facts .fifth, last-byte 6 (omega arith) ∙ facts .sixth)
 
     length-stays : lengthOf (catalogueOf d) (code (T d)) ≡ lengthOf cat (code (T d))
     unfolding lengthOf
@@ -283,8 +290,8 @@ module _ (d : Draft) (s : Sound d) (n : Bytes) (kind start long : ℕ) (some : 0
   pub sound-keyed : length (keyDraft .fields) ≤ 64 → goodField (catalogueOf keyDraft) (length (keyDraft .fields)) ≡ true → goodName n ≡ true
       → has n (ownNames (T d) (d .fields) (d .fieldNames)) ≡ false → Sound keyDraft
   sound-keyed few good named fresh =
-      sound-next d s n start long us count-us wide-us stay-second few good named fresh
-      (every-type (new-fits d s n start long us count-us wide-us stay-second good)) keys
+      sound-next d s n start long us count-us wide-us flat-us stay-second few good named fresh
+      (every-type (new-fits d s n start long us count-us wide-us flat-us stay-second good)) keys
 
 -- the law, for the draft that a FIELD makes
 field-plain : (d : Draft) (s : Sound d) (n : Bytes) (long start : ℕ) → withField d n 0 long start ≡ next d s n start long (d .types)

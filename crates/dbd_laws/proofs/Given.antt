@@ -15,13 +15,14 @@ use Rattle.rules.specs.Block.{Bytes, byte, word, part, every, zeros, marked}
 use Rattle.rules.specs.Catalogue.{types, fields, typeByte, lengthOf, keyKind, keyStart, keyLength, fieldByte, fieldType, fieldStart, fieldLength, level}
 use Rattle.rules.specs.Catalogue.{goodKey, goodParent, goodType, goodField, goodHeader, goodCatalogue}
 use Rattle.rules.proofs.Every.{every-in}
-use Rattle.rules.proofs.Joined.{six}
+use Rattle.rules.proofs.Joined.{two, six}
 use Rattle.statements.specs.Draft.{Draft, header, catalogueOf, namesOf, rows, ownNames}
 use Rattle.statements.specs.Dbd.{nameAt, goodName, distinct, firstOf, those, ownFields, isKeyOf, keyField}
 use Rattle.statements.specs.Dbd.{isPlain, goodNames, differ, ascending, keysListed, couldGive}
 use Rattle.statements.proofs.Words.{clash}
 use Rattle.statements.proofs.Joined.{All, Wide, all-at, all-append, all-mono}
 use Rattle.statements.proofs.Named.{name-long}
+use Rattle.statements.proofs.Frame.{ending-zeros, spare-zeros}
 use Rattle.dbd_laws.proofs.Blocks.{T, F, types-are, fields-are, catalogue-ends, catalogue-marked, names-marked, names-header, allNames}
 use Rattle.dbd_laws.proofs.Blocks.{field-byte, fields-rows, catalogue-length, name-at, segments-rows, names-rows, names-length}
 use Rattle.dbd_laws.proofs.Sound.{Fits, Listed, Sound, type-byte-at, fits-field}
@@ -139,11 +140,21 @@ module _ (d : Draft) (s : Sound d) (some : 0 < T d) where
   unfolding catalogueOf header
   version-one = refl
 
-  ends-plain : (k : ℕ) → goodType cat k ≡ true → zeros (part cat (8 * k + 5) 3) ≡ true
+  spare-plain : (k : ℕ) → goodType cat k ≡ true → zeros (part cat (8 * k + 5) 2) ≡ true
   unfolding goodType
-  ends-plain k g =
-      six (goodParent cat k) (leb 1 (lengthOf cat (code k))) (leb (lengthOf cat (code k)) 120) (goodKey cat (code k)) (zeros (part cat (8 * k + 5) 3))
+  spare-plain k g =
+      six (goodParent cat k) (leb 1 (lengthOf cat (code k))) (leb (lengthOf cat (code k)) 120) (goodKey cat (code k)) (zeros (part cat (8 * k + 5) 2))
       (leb (level cat (code k)) 15) g .4
+
+  value-plain : (k : ℕ) → 1 ≤ k → k < 1 + types cat → typeByte cat (code k) 7 ≡ 0
+  value-plain k a b =
+      let l : k ≤ T d = omega (arith, types-are d) in
+      type-byte-at d (s .wide-types) k 7 a l (omega arith) ∙ all-at (λ e. byte e 7 ≡ 0) (d .types) (s .plain-types) (k - 1) [] (omega arith)
+
+  ends-plain : (k : ℕ) → 1 ≤ k → k < 1 + types cat → zeros (part cat (8 * k + 5) 3) ≡ true
+  ends-plain k a b =
+      let p = two (eqb (typeByte cat (code k) 5) 0) (eqb (typeByte cat (code k) 6) 0) (sym (spare-zeros cat k) ∙ spare-plain k (type-good k a b)) in
+      ending-zeros cat k ∙ rw (p .0, p .1, value-plain k a b)
 
   field-plain : (f : ℕ) → 1 ≤ f → f < 1 + fields cat → eqb (fieldByte cat (field f) 3) 0 ≡ true
   field-plain zero a b = absurd (omega arith)
@@ -156,7 +167,7 @@ module _ (d : Draft) (s : Sound d) (some : 0 < T d) where
   catalogue-plain =
       three-on (eqb (word cat 3) 1) (every (λ k. zeros (part cat (8 * k + 5) 3)) (range 1 (types cat)))
       (every (λ f. eqb (fieldByte cat (field f) 3) 0) (range 1 (fields cat))) (eq-eqb (word cat 3) 1 version-one)
-      (every-range (λ k. zeros (part cat (8 * k + 5) 3)) 1 (types cat) (λ k a b. ends-plain k (type-good k a b)))
+      (every-range (λ k. zeros (part cat (8 * k + 5) 3)) 1 (types cat) ends-plain)
       (every-range (λ f. eqb (fieldByte cat (field f) 3) 0) 1 (fields cat) field-plain)
 
   -- R82: every name is one

@@ -4,12 +4,13 @@ use mathlib.Core.Bool.{true, _&&_}
 use mathlib.Core.List.{List, [], _∷_, _++_}
 use Prim.Native.Nat.{ℕ, zero, suc, _+_, _-_, _<_, _≤_}
 use native.Mathlib.Omega.{arith}
-use lib.Dec.{leb, eqb}
+use lib.Dec.{leb}
 use lib.ListN.{length, getD, length-append, List·getD-append}
-use borrow.Author.Tests.{leb-true, le-leb, eqb-true}
+use borrow.Author.Tests.{leb-true, le-leb}
 use Rattle.terms.specs.Names.{code}
 use Rattle.rules.specs.Block.{Bytes, byte}
-use Rattle.rules.specs.Catalogue.{types, typeByte, parentOf, lengthOf, fieldType, fieldStart, fieldLength, isType, goodSpan, goodType, goodField}
+use Rattle.rules.specs.Catalogue.{types, typeByte, parentOf, lengthOf, fieldType, fieldStart, fieldLength, fieldValue, isType}
+use Rattle.rules.specs.Catalogue.{goodSpan, goodValue, goodType, goodField}
 use Rattle.rules.proofs.Catalogue.{par}
 use Rattle.rules.proofs.Joined.{two, three}
 use Rattle.statements.specs.Draft.{Draft, blank, catalogueOf, ownNames}
@@ -25,6 +26,10 @@ pub record Fits (ts : List Bytes) (f : Bytes) : Type 0 where
   pub most : byte f 0 ≤ length ts
   pub span : goodSpan (byte f 1) (byte f 2) (byte (getD ts (byte f 0 - 1) []) 1) ≡ true
   pub plain : byte f 3 ≡ 0
+
+-- the entries of types whose value type is 0
+abbrev pub Plain : List Bytes → Type 0
+Plain ts = All (λ e. byte e 7 ≡ 0) ts
 
 -- a field of type k with this start and this length
 pub record Listed (fs : List Bytes) (k start long : ℕ) : Type 0 where
@@ -43,6 +48,7 @@ pub record Sound (d : Draft) : Type 0 where
   pub each-named : length (d .fieldNames) ≡ length (d .fields)
   pub wide-types : Wide 8 (d .types)
   pub wide-fields : Wide 4 (d .fields)
+  pub plain-types : Plain (d .types)
   pub good-segments : All (λ n. goodName n ≡ true) (d .segmentNames)
   pub good-fields : All (λ n. goodName n ≡ true) (d .fieldNames)
   pub apart-segments : distinct (d .segmentNames) ≡ true
@@ -65,6 +71,7 @@ sound-blank = record {
   each-named = refl;
   wide-types = tt;
   wide-fields = tt;
+  plain-types = tt;
   good-segments = tt;
   good-fields = tt;
   apart-segments = distinct-none;
@@ -88,6 +95,7 @@ sound-base d n g l s = record {
   each-named = s .each-named;
   wide-types = s .wide-types;
   wide-fields = s .wide-fields;
+  plain-types = s .plain-types;
   good-segments = s .good-segments;
   good-fields = s .good-fields;
   apart-segments = s .apart-segments;
@@ -131,8 +139,8 @@ module _ (d : Draft) (wide : Wide 8 (d .types)) (short : Wide 4 (d .fields)) (i 
 
   judged : goodField (catalogueOf d) (suc i)
       ≡ ((leb 1 (byte entry 0) && leb (byte entry 0) (T d)) && goodSpan (byte entry 1) (byte entry 2) (typeByte (catalogueOf d) (code (byte entry 0)) 1)
-      && eqb (byte entry 3) 0)
-  unfolding goodField isType fieldType fieldStart fieldLength lengthOf
+      && goodValue (byte entry 3) (byte entry 2))
+  unfolding goodField isType fieldType fieldStart fieldLength fieldValue lengthOf
   judged =
       rw (
         types-are d,
@@ -142,9 +150,10 @@ module _ (d : Draft) (wide : Wide 8 (d .types)) (short : Wide 4 (d .fields)) (i 
         field-byte d wide short i 3 l (omega arith),
       )
 
-  pub field-fits : goodField (catalogueOf d) (suc i) ≡ true → Fits (d .types) entry
-  field-fits g =
-      let p = three _ _ _ (sym judged ∙ g) in
+  pub field-fits : byte entry 3 ≡ 0 → goodField (catalogueOf d) (suc i) ≡ true → Fits (d .types) entry
+  field-fits z g =
+      let p = three (leb 1 (byte entry 0) && leb (byte entry 0) (T d))
+      (goodSpan (byte entry 1) (byte entry 2) (typeByte (catalogueOf d) (code (byte entry 0)) 1)) (goodValue (byte entry 3) (byte entry 2)) (sym judged ∙ g) in
       let q = two _ _ (p .0) in
       let a : 1 ≤ byte entry 0 = leb-true 1 (byte entry 0) (q .0) in
       let b : byte entry 0 ≤ T d = leb-true (byte entry 0) (T d) (q .1) in
@@ -152,7 +161,7 @@ module _ (d : Draft) (wide : Wide 8 (d .types)) (short : Wide 4 (d .fields)) (i 
         least = a;
         most = b;
         span = rw (← type-byte-at d wide (byte entry 0) 1 a b (omega arith)) (p .1);
-        plain = eqb-true (byte entry 3) 0 (p .2);
+        plain = z;
       }
 
   pub fits-field : Fits (d .types) entry → goodField (catalogueOf d) (suc i) ≡ true

@@ -71,6 +71,7 @@ module _ (d : Draft) (n : Bytes) (p l : ℕ) (s : Sound d) where
       each-named = s .each-named;
       wide-types = wide;
       wide-fields = s .wide-fields;
+      plain-types = all-snoc (λ e. byte e 7 ≡ 0) ts new (s .plain-types) refl;
       good-segments = all-snoc (λ x. goodName x ≡ true) (d .segmentNames) n (s .good-segments) named;
       good-fields = s .good-fields;
       apart-segments = distinct-snoc (d .segmentNames) n (s .apart-segments) fresh;

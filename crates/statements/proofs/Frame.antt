@@ -15,7 +15,7 @@ use Rattle.forest.specs.Good.{on, off, is}
 use Rattle.forest.specs.Numbers.{range, isIn}
 use Rattle.forest.specs.Types as Types
 use Rattle.rules.specs.Block.{Bytes, byte, part, every, zeros}
-use Rattle.rules.specs.Catalogue.{typeByte, parentOf, lengthOf, keyKind, keyStart, keyLength, lineage, level, goodKey, goodParent, goodType}
+use Rattle.rules.specs.Catalogue.{typeByte, parentOf, lengthOf, keyKind, keyStart, keyLength, keyValue, lineage, level, goodKey, goodParent, goodType}
 use Rattle.rules.proofs.Catalogue.{par, parent-low}
 use Rattle.rules.proofs.Every.{every-in, every-out, every-at}
 use Rattle.rules.proofs.Joined.{six}
@@ -41,6 +41,11 @@ zeros-first (x ∷ []) = simp (zeros-cons, zeros-nil, and-true)
 zeros-first (x ∷ (y ∷ [])) = simp (zeros-cons, zeros-nil, and-true)
 zeros-first (x ∷ (y ∷ (z ∷ xs))) = simp (zeros-cons, zeros-nil, and-true)
 
+zeros-front : (xs : Bytes) → zeros (take 2 xs) ≡ (eqb (getD xs 0 0) 0 && eqb (getD xs 1 0) 0)
+zeros-front [] = zeros-nil
+zeros-front (x ∷ []) = simp (zeros-cons, zeros-nil, and-true)
+zeros-front (x ∷ (y ∷ xs)) = simp (zeros-cons, zeros-nil, and-true)
+
 -- three bytes of a block, each by itself; past its end there is nothing, which reads as 0
 pub zeros-three : (b : Bytes) (i : ℕ) → zeros (part b i 3) ≡ (eqb (byte b i) 0 && (eqb (byte b (i + 1)) 0 && eqb (byte b (i + 2)) 0))
 zeros-three b i =
@@ -56,6 +61,14 @@ ending-zeros b k =
     let z : 8 * k + 5 + 2 ≡ 8 * k + 7 = omega arith in
     zeros-three b (8 * k + 5) ∙ rw (y, z)
 
+-- and those of them that stand before the value type
+pub spare-zeros : (b : Bytes) (k : ℕ) → zeros (part b (8 * k + 5) 2) ≡ (eqb (typeByte b (code k) 5) 0 && eqb (typeByte b (code k) 6) 0)
+unfolding typeByte
+spare-zeros b k =
+    let y : 8 * k + 5 + 0 ≡ 8 * k + 5 = omega arith in
+    let z : 8 * k + 5 + 1 ≡ 8 * k + 6 = omega arith in
+    zeros-front (drop (8 * k + 5) b) ∙ simp (getD-drop, y, z)
+
 -- no type 0 has a parent
 parent-zero : (cat : Bytes) → goodParent cat 0 ≡ false
 unfolding goodParent lineage Types.lineage Types.lineageFrom
@@ -70,7 +83,7 @@ module _ (cat : Bytes) where
   pub type-parent : (k : ℕ) → goodType cat k ≡ true → goodParent cat k ≡ true
   unfolding goodType
   type-parent k h =
-      six (goodParent cat k) (leb 1 (lengthOf cat (code k))) (leb (lengthOf cat (code k)) 120) (goodKey cat (code k)) (zeros (part cat (8 * k + 5) 3))
+      six (goodParent cat k) (leb 1 (lengthOf cat (code k))) (leb (lengthOf cat (code k)) 120) (goodKey cat (code k)) (zeros (part cat (8 * k + 5) 2))
       (leb (level cat (code k)) 15) h .0
 
   -- so do the types up to k, where those before it do and k has a good parent
@@ -139,19 +152,18 @@ module _ (a b : Bytes) (k : ℕ) (same : (u j : ℕ) → 1 ≤ u → u ≤ k →
   lengthOf-same u o l = same u 1 o l (omega arith)
 
   pub goodKey-same : 1 ≤ k → goodKey a (code k) ≡ goodKey b (code k)
-  unfolding goodKey keyKind keyStart keyLength lengthOf
+  unfolding goodKey keyKind keyStart keyLength keyValue lengthOf
   goodKey-same o =
       simp (
         same k 1 o (omega arith) (omega arith),
         same k 2 o (omega arith) (omega arith),
         same k 3 o (omega arith) (omega arith),
         same k 4 o (omega arith) (omega arith),
+        same k 7 o (omega arith) (omega arith),
       )
 
-  pub zeros-same : 1 ≤ k → zeros (part a (8 * k + 5) 3) ≡ zeros (part b (8 * k + 5) 3)
-  zeros-same o =
-      ending-zeros a k
-      ∙ (rw (same k 5 o (omega arith) (omega arith), same k 6 o (omega arith) (omega arith), same k 7 o (omega arith) (omega arith)) (sym (ending-zeros b k)))
+  pub zeros-same : 1 ≤ k → zeros (part a (8 * k + 5) 2) ≡ zeros (part b (8 * k + 5) 2)
+  zeros-same o = spare-zeros a k ∙ (rw (same k 5 o (omega arith) (omega arith), same k 6 o (omega arith) (omega arith)) (sym (spare-zeros b k)))
 
   module _ (low : Types.lower (par a) (k - 1) ≡ true) where
     whole : 1 ≤ k → goodParent a k ≡ true → goodType a k ≡ goodType b k
@@ -170,12 +182,12 @@ module _ (a b : Bytes) (k : ℕ) (same : (u j : ℕ) → 1 ≤ u → u ≤ k →
 
 -- a good entry that gets another key
 module _ (a b : Bytes) (k : ℕ) (same : (u : ℕ) → 1 ≤ u → u ≤ k → par a u ≡ par b u) (low : Types.lower (par a) (k - 1) ≡ true) where
-  pub goodType-keyed : goodType a k ≡ true → lengthOf a (code k) ≡ lengthOf b (code k) → goodKey b (code k) ≡ true → zeros (part b (8 * k + 5) 3) ≡ true
+  pub goodType-keyed : goodType a k ≡ true → lengthOf a (code k) ≡ lengthOf b (code k) → goodKey b (code k) ≡ true → zeros (part b (8 * k + 5) 2) ≡ true
       → goodType b k ≡ true
   unfolding goodType
   goodType-keyed g l e z =
       let p =
-      six (goodParent a k) (leb 1 (lengthOf a (code k))) (leb (lengthOf a (code k)) 120) (goodKey a (code k)) (zeros (part a (8 * k + 5) 3))
+      six (goodParent a k) (leb 1 (lengthOf a (code k))) (leb (lengthOf a (code k)) 120) (goodKey a (code k)) (zeros (part a (8 * k + 5) 2))
       (leb (level a (code k)) 15) g in
       rw (← goodParent-same a b k same low, ← level-same a b k same low (p .0), ← l, p .0, p .1, p .2, e, z, p .5)
 
