@@ -1,15 +1,14 @@
 -- Cells by their codes, in a good table: a cell's type has as its parent the type of the cell that it lies beneath. Assumes nothing.
 use mathlib.Core.Path.{_≡_, refl, ap, sym, _∙_, subst}
-use mathlib.Core.Bool.{Bool, true, false, _&&_}
+use mathlib.Core.Bool.{true, false}
 use mathlib.Core.List.{List, [], _∷_, _++_}
-use Prim.Native.Nat.{ℕ, zero, suc, _+_, _-_, _*_, _<_, _≤_}
+use Prim.Native.Nat.{ℕ, zero, suc, _+_, _-_, _<_, _≤_}
 use native.Mathlib.Omega.{arith}
-use lib.Dec.{leb, eqb}
-use lib.ListN.{length, drop, getD}
+use lib.Dec.{eqb}
+use lib.ListN.{length, getD}
 use borrow.Author.Tests.{eqb-true}
 use Rattle.terms.specs.declared.TypeCode.{TypeCode}
 use Rattle.terms.specs.declared.CellNumber.{CellNumber}
-use Rattle.terms.specs.declared.Found.{Found}
 use Rattle.terms.specs.declared.Found.the-variants.{At, Nothing}
 use Rattle.terms.specs.Names.{code, cell}
 use Rattle.forest.specs.Forest.{Forest, void, node, inside, outside, side, forestOf}
@@ -17,10 +16,10 @@ use Rattle.forest.specs.Rows.{rows, mapF}
 use Rattle.forest.specs.Good.{on, off, is, both-left, both-right, Wf, formed-wf}
 use Rattle.forest.specs.Runs.{under, under-in, under-out}
 use Rattle.forest.specs.Numbers.{range, isIn, ancestors, row-number, run-ancestor}
-use Rattle.rules.specs.Block.{Bytes, byte, part, every, zeros, marked}
+use Rattle.rules.specs.Block.{Bytes, byte, part}
 use Rattle.rules.specs.Catalogue.{types, parentOf, lengthOf, isType, lineage, level, typeBeneath, goodCatalogue}
 use Rattle.rules.specs.Cells.{Segment, segment, keyed, typeNumber, isChild, siblings, segmentLevel, goodListing, levelAt, runAt, endAt}
-use Rattle.rules.specs.Table.{count, cellSize, cellStart, room, listing, padded, goodRoom, goodTable}
+use Rattle.rules.specs.Table.{count, listing}
 use Rattle.rules.specs.Tree.{dataPart, segments}
 use Rattle.rules.proofs.Table.{table-tests, cell-keyed}
 use Rattle.rules.proofs.Catalogue.{par, good-lower}

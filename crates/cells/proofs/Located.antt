@@ -1,11 +1,11 @@
 -- Cells by number: type and level, the end of a run, the parent; what a good table gives to these. Assumes nothing.
 use mathlib.Core.Path.{_≡_, refl, ap, sym, _∙_}
-use mathlib.Core.Bool.{Bool, true, _&&_}
+use mathlib.Core.Bool.{true, _&&_}
 use mathlib.Core.List.{List}
 use Prim.Native.Nat.{ℕ, zero, suc, _+_, _-_, _*_, _<_, _≤_}
 use native.Mathlib.Omega.{arith}
 use lib.Dec.{leb, eqb}
-use lib.ListN.{length, drop}
+use lib.ListN.{length}
 use borrow.Author.Tests.{lt-ltb, le-ltb, le-leb, lt-leb, leb-true, eqb-true}
 use Rattle.terms.specs.declared.CellNumber.{CellNumber}
 use Rattle.terms.specs.declared.Found.the-variants.{At, Nothing}
@@ -15,10 +15,10 @@ use Rattle.forest.specs.Good.{both-left, both-right}
 use Rattle.forest.specs.Runs.{under, under-in, under-out}
 use Rattle.forest.specs.Rows.{back, back-in, back-out}
 use Rattle.forest.specs.Numbers.{range, downTo}
-use Rattle.rules.specs.Block.{Bytes, byte, every, zeros, marked}
+use Rattle.rules.specs.Block.{Bytes, byte}
 use Rattle.rules.specs.Catalogue.{goodCatalogue}
-use Rattle.rules.specs.Cells.{Segment, segment, segmentOf, levelAt, runAt, endAt, goodListing}
-use Rattle.rules.specs.Table.{count, cellSize, cellStart, room, typeAt, segmentAt, listing, padded, goodRoom, goodTable}
+use Rattle.rules.specs.Cells.{Segment, segment, segmentOf, levelAt, runAt, endAt}
+use Rattle.rules.specs.Table.{count, cellSize, cellStart, room, typeAt, segmentAt, listing, goodRoom, goodTable}
 use Rattle.rules.proofs.Table.{table-tests}
 use Rattle.rules.proofs.Cells.{listing-at}
 use Rattle.cells.specs.Lent.{Sized, Inside, startOf, behind, nearest, endFrom, climbed, parentAt}

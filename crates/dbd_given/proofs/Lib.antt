@@ -1,3 +1,4 @@
+pub mod Endings
 pub mod Rest
 pub mod Fields
 pub mod Apart

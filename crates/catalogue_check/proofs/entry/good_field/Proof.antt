@@ -48,23 +48,30 @@ returns-2 c = let ·args = c .before .before .before .before .before .before .be
     (·field-start .ensures) (·field-length .ensures) (·data-length .ensures)
     (told-no (c .before .good-span .ensures) (c .if2 .taken))
 
--- src/entry.rt: field_byte(cat, f, 3) == 0
-field-byte-requires : tie.Need-field-byte-requires
-field-byte-requires c κs = search needs
+-- src/entry.rt: good_value(field_value(cat, f), long)
+field-value-requires : tie.Need-field-value-requires
+field-value-requires c κs = search needs
+
+-- src/entry.rt: good_value(field_value(cat, f), long)
+good-value-requires : tie.Need-good-value-requires
+good-value-requires c κs = search needs
 
 -- src/entry.rt: pub fn good_field(cat: &[u8], f: FieldNumber) -> bool
 returns-3 : tie.Need-returns-3
-returns-3 c = let ·args = c .before .before .before .before .before .before .before .before .before .before .args in
-    let ·field-type = c .before .before .before .before .before .before .before .before .field-type in
-    let ·is-type = c .before .before .before .before .before .before .before .is-type in
-    let ·if1 = c .before .before .before .before .before .before .if1 in
-    let ·field-start = c .before .before .before .before .before .field-start in
-    let ·field-length = c .before .before .before .before .field-length in
-    let ·data-length = c .before .before .before .data-length in let ·good-span = c .before .before .good-span in
+returns-3 c =
+    let ·args = c .before .before .before .before .before .before .before .before .before .before .before .args in
+    let ·field-type = c .before .before .before .before .before .before .before .before .before .field-type in
+    let ·is-type = c .before .before .before .before .before .before .before .before .is-type in
+    let ·if1 = c .before .before .before .before .before .before .before .if1 in
+    let ·field-start = c .before .before .before .before .before .before .field-start in
+    let ·field-length = c .before .before .before .before .before .field-length in
+    let ·data-length = c .before .before .before .before .data-length in
+    let ·good-span = c .before .before .before .good-span in let ·if2 = c .before .before .if2 in
     field-last (·args .cat .now) (·args .f .0) (·field-type .result) (·field-type .ensures)
     (told-yes (·is-type .ensures) (·if1 .left)) (·field-start .result) (·field-length .result) (·data-length .result)
     (·field-start .ensures) (·field-length .ensures) (·data-length .ensures)
-    (told-yes (·good-span .ensures) (c .before .if2 .left)) (c .field-byte .result) (c .field-byte .ensures)
+    (told-yes (·good-span .ensures) (·if2 .left)) (c .before .field-value .result) (c .before .field-value .ensures)
+    (c .good-value .result) (c .good-value .ensures)
 
 pub good-field-spec : {M : Type 1} → statement M
 good-field-spec =
@@ -78,5 +85,6 @@ good-field-spec =
     data-length-requires
     good-span-requires
     returns-2
-    field-byte-requires
+    field-value-requires
+    good-value-requires
     returns-3)

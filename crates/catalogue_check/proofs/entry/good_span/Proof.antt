@@ -33,7 +33,7 @@ sub-result c = search needs
 wide-requires-3 : tie.Need-wide-requires-3
 wide-requires-3 c κs = search needs
 
--- src/entry.rt: fn good_span(start: u8, long: u8, most: u8) -> bool
+-- src/entry.rt: pub fn good_span(start: u8, long: u8, most: u8) -> bool
 returns-3 : tie.Need-returns-3
 returns-3 c = let ·args = c .before .before .before .before .before .args in
     simp (

@@ -50,9 +50,9 @@ returns-3 c = let ·args = c .before .before .before .before .before .before .be
           absurd (clash e refl),
     )
 
--- src/entry.rt: if !ends_in_zeros(cat, t) {
-ends-in-zeros-requires : tie.Need-ends-in-zeros-requires
-ends-in-zeros-requires c κs = search needs
+-- src/entry.rt: if !has_zeros(cat, t) {
+has-zeros-requires : tie.Need-has-zeros-requires
+has-zeros-requires c κs = search needs
 
 -- src/entry.rt: return false;
 returns-4 : tie.Need-returns-4
@@ -64,7 +64,7 @@ returns-4 c = let ·args = c .before .before .before .before .before .before .be
     let ·if3 = c .before .before .if3 in (
       type-no-zeros (·args .cat .now) (·args .t .0) (told-yes (·good-parent .ensures) (·if1 .left))
           (told-yes (·good-length .ensures) (·if2 .left)) (told-yes (·good-key .ensures) (·if3 .left))
-          (told-no (c .before .ends-in-zeros .ensures) (c .if4 .taken)),
+          (told-no (c .before .has-zeros .ensures) (c .if4 .taken)),
       λ e. absurd (clash e refl),
     )
 
@@ -105,7 +105,7 @@ returns-5 c =
           (c .before .before .before .before .before .before .before .before .if2 .left))
           (told-yes (c .before .before .before .before .before .before .before .good-key .ensures)
           (c .before .before .before .before .before .before .if3 .left))
-          (told-yes (c .before .before .before .before .before .ends-in-zeros .ensures)
+          (told-yes (c .before .before .before .before .before .has-zeros .ensures)
           (c .before .before .before .before .if4 .left)) _
           (ap (byte (c .before .before .add-level .last .1 .0)) (c .before .wide .ensures .0) ∙
           c .before .before .add-level .ensures .each (·args .t .0) (omega arith)),
@@ -129,7 +129,7 @@ good-type-spec =
     returns-2
     good-key-requires
     returns-3
-    ends-in-zeros-requires
+    has-zeros-requires
     returns-4
     add-level-requires
     wide-requires
