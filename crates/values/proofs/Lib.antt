@@ -1,2 +1,6 @@
+pub mod Number
 pub mod Digits
-pub mod Steps
+pub mod Compared
+pub mod Zero
+pub mod Signs
+pub mod Held
