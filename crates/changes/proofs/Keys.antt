@@ -14,7 +14,7 @@ use Rattle.cells.specs.Sound.{Sound}
 use Rattle.cells.proofs.Entries.{key-in, length-in}
 use Rattle.cells.proofs.Ancestry.{sound-known}
 use Rattle.twins.specs.Among.{New}
-use Rattle.twins.proofs.Passing.{key-area, key-cell, new-key, old-key}
+use Rattle.twins.proofs.Keys.{new-brought, key-area, key-cell, new-key, old-key}
 
 -- the area has the bytes of each type
 pub area-long : {cat tab : Bytes} {size : ℕ} → Sound cat tab size → (t : TypeCode) (area : Bytes) → isType cat t ≡ true → size ≤ suc (length area) → lengthOf cat t ≤ length area
@@ -39,7 +39,7 @@ module _ {cat tab : Bytes} {size i : ℕ} {t : TypeCode} (s : Sound cat tab size
 
     module _ (start : ℕ) (g : start ≡ keyStart cat t) (ne : long ≡ 0 → ⊥) where
       pub key-bounds : (1 ≤ start) × (start - 1 + long ≤ length area)
-      key-bounds = (first start (λ z. ne (f ∙ key-in cat (s .catalogue) t known .1 (sym g ∙ z))), omega (arith, key-area as-new, f, g))
+      key-bounds = (first start (λ z. ne (f ∙ key-in cat (s .catalogue) t known .1 (sym g ∙ z))), omega (arith, key-area (new-brought as-new), f, g))
         where
           first : (n : ℕ) → (n ≡ 0 → ⊥) → 1 ≤ n
           first zero k = absurd (k refl)
@@ -52,4 +52,4 @@ module _ {cat tab : Bytes} {size i : ℕ} {t : TypeCode} (s : Sound cat tab size
       pub key-same : {x : Bytes} → x ≡ part (segment (listing cat tab) i .bytes) (start - 1) long
           → sameBytes x (part area (start - 1) (start - 1 + long - (start - 1)))
           ≡ sameBytes (key cat (segment (listing cat tab) i)) (key cat (arriving cat t area))
-      key-same h = ap₂ sameBytes (h ∙ old-key as-new l (sym e) g f) (new-key as-new g f (key-bounds .0))
+      key-same h = ap₂ sameBytes (h ∙ old-key as-new l (sym e) g f) (new-key (new-brought as-new) g f (key-bounds .0))

@@ -13,7 +13,7 @@ use Rattle.terms.specs.declared.Parentage.{Parentage}
 use Rattle.terms.specs.declared.Parentage.the-variants.{Absent, Of}
 use Rattle.terms.specs.declared.Position.{Position}
 use Rattle.terms.specs.declared.Status.{Status}
-use Rattle.terms.specs.declared.Status.the-variants.{Blank, II, FX}
+use Rattle.terms.specs.declared.Status.the-variants.{Blank, II, FX, PD}
 use Rattle.terms.specs.declared.Found.{Found}
 use Rattle.terms.specs.declared.Found.the-variants.{At, Nothing}
 use Rattle.terms.specs.Statuses.{number}
@@ -22,7 +22,7 @@ use Rattle.forest.specs.Forest.{cellsOf}
 use Rattle.forest.specs.Good.{on, off, is}
 use Rattle.rules.specs.Block.{Bytes}
 use Rattle.rules.specs.Catalogue.{keyKind}
-use Rattle.rules.specs.Cells.{Segment, segmentOf, arriving, long, segmentLevel, endAt, runAt, rowAt}
+use Rattle.rules.specs.Cells.{Segment, segmentOf, arriving, keyed, long, segmentLevel, endAt, runAt, rowAt}
 use Rattle.rules.specs.Table.{count, room, listing}
 use Rattle.rules.specs.Arguments.{Level}
 use Rattle.rules.specs.Matching.{along}
@@ -32,7 +32,7 @@ use Rattle.rules.proofs.Cells.{listing-length, row-run}
 use Rattle.cells.specs.Sound.{Sound}
 use Rattle.cells.proofs.Located.{good-housed}
 use Rattle.twins.specs.declared.Spot.{Spot}
-use Rattle.twins.specs.Among.{New, Beneath, passed, spotAmong}
+use Rattle.twins.specs.Among.{New, Keyed, Beneath, passed, spotAmong}
 use Rattle.twins.proofs.Rows.{spot-within}
 use Rattle.twins.proofs.Listing.{Row, row-new}
 use Rattle.update.specs.Edits.{withCell, Insertable}
@@ -77,6 +77,12 @@ pub put-done : (cat tab : Bytes) (pos : Position) (area : Bytes) (t : TypeCode) 
 unfolding putIn changed answerOf long told withCell arriving segmentOf
 put-done cat tab pos area t r beneath = refl
 
+-- R91: a key that is no value is refused before its spot is sought
+pub among-unkeyed : (cat tab : Bytes) (pos : Position) (area : Bytes) (t : TypeCode) (from to : ℕ) (beneath : Bool) → keyed cat (arriving cat t area) ≡ false
+    → made (bare PD pos) tab area ≡ landed cat tab (insertedAmong cat (listing cat tab) pos area (room cat tab) (arriving cat t area) from to beneath)
+unfolding insertedAmong
+among-unkeyed cat tab pos area t from to beneath k = rw k
+
 -- the spot and its refusal, as the code has them
 module _ {cat tab area : Bytes} {size : ℕ} {t : TypeCode} (n : New cat tab size t area) {from to : ℕ} (b : Beneath cat tab t from to)
     {s : Spot} (e : s ≡ spotAmong cat (listing cat tab) (arriving cat t area) from to)
@@ -95,18 +101,18 @@ module _ {cat tab area : Bytes} {size : ℕ} {t : TypeCode} (n : New cat tab siz
       sym (f ∙ ap (λ (p : Spot). insertStatus (p .taken) (count tab) (room cat tab)) e
       ∙ ap (λ (k : ℕ). insertStatus (own .taken) k (room cat tab)) (sym (listing-length cat tab)))
 
-  module _ (pos : Position) (beneath : Bool) where
+  module _ (k : Keyed cat t area) (pos : Position) (beneath : Bool) where
     abbrev after : After
     after = insertedAmong cat cs pos area (room cat tab) x from to beneath
 
     pub among-refused : (number w ≡ 0 → ⊥) → made (bare w pos) tab area ≡ landed cat tab after
     unfolding insertedAmong
-    among-refused h = ap (landed cat tab) (sym (let y : after ≡ refused w pos area = rw (refusal-is, ne-eqb (number w) 0 h) in y))
+    among-refused h = ap (landed cat tab) (sym (let y : after ≡ refused w pos area = rw (k, refusal-is, ne-eqb (number w) 0 h) in y))
 
     pub among-done : number w ≡ 0 → landed cat tab (putIn cat cs pos area (s .at) x beneath) ≡ landed cat tab after
     unfolding insertedAmong
     among-done h =
-        let y : after ≡ putIn cat cs pos area (own .at) x beneath = rw (refusal-is, eq-eqb (number w) 0 h) in
+        let y : after ≡ putIn cat cs pos area (own .at) x beneath = rw (k, refusal-is, eq-eqb (number w) 0 h) in
         ap (λ (p : Spot). landed cat tab (putIn cat cs pos area (p .at) x beneath)) e ∙ ap (landed cat tab) (sym y)
 
   not-room : number w ≡ 0 → count tab ≡ room cat tab → ⊥
@@ -144,11 +150,14 @@ module _ (cat : Bytes) (cs : List Segment) (pos : Position) (area : Bytes) (m : 
   among-is : (above : List ℕ) (i to k : ℕ) → k ≡ to - i
       → insertAmong cat cs pos area m x above i k ≡ insertedAmong cat cs pos area m x i to (isOneOf above (pos .parentage))
   unfolding insertAmong inserted insertedAmong insertStatus spotAmong passed putIn
-  among-is above i to k e = elim (is (eqb (keyKind cat (x .code)) 1 && keyTaken cat cs x i (to - i))) [
-    | on t ↦ rw (e, t)
-    | off t ↦ elim (is (eqb (length cs) m)) [
-      | on f ↦ rw (e, t, f)
-      | off f ↦ rw (e, t, f)
+  among-is above i to k e = elim (is (keyed cat x)) [
+    | off v ↦ rw v
+    | on v ↦ elim (is (eqb (keyKind cat (x .code)) 1 && keyTaken cat cs x i (to - i))) [
+      | on t ↦ rw (v, e, t)
+      | off t ↦ elim (is (eqb (length cs) m)) [
+        | on f ↦ rw (v, e, t, f)
+        | off f ↦ rw (v, e, t, f)
+      ]
     ]
   ]
 

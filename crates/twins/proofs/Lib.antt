@@ -1,4 +1,5 @@
 pub mod Rows
 pub mod Twins
+pub mod Keys
 pub mod Listing
 pub mod Passing

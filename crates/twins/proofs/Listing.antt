@@ -1,10 +1,9 @@
 -- The cells beneath a parent in a good listing: a row of siblings with all beneath them, and behind it what is less deep. Assumes nothing.
 use mathlib.Core.Path.{_≡_, refl, ap, sym, _∙_, subst}
-use mathlib.Core.Bool.{Bool, true, false, _&&_, _||_}
+use mathlib.Core.Bool.{Bool, true, false, _||_}
 use mathlib.Core.List.{List, [], _++_, append-nil}
 use Prim.Native.Nat.{ℕ, zero, suc, _+_, _-_, _<_, _≤_}
 use native.Mathlib.Omega.{arith}
-use lib.Dec.{leb, eqb}
 use lib.ListN.{length, drop, getD, length-drop, List·getD-append}
 use lib.Seq.{drop-cons, drop-drop, drop-length, drop-append-seam, getD-drop}
 use Rattle.terms.specs.declared.TypeCode.{TypeCode}
@@ -15,13 +14,13 @@ use Rattle.forest.specs.Edit.{size, kids}
 use Rattle.forest.specs.Runs.{under, under-in, under-out, runLen, run-length, tail-split, levelled-kids}
 use Rattle.forest.specs.Keep.{wf-kids}
 use Rattle.forest.specs.Insert.{Low}
-use Rattle.forest.specs.Good.{both-right, Wf, formed-wf, levelled}
+use Rattle.forest.specs.Good.{Wf, formed-wf, levelled}
 use Rattle.forest.specs.Numbers.{range}
 use Rattle.forest.specs.Types as Types
-use Rattle.rules.specs.Block.{Bytes, byte, every, zeros, marked, anyOf}
+use Rattle.rules.specs.Block.{Bytes, anyOf}
 use Rattle.rules.specs.Catalogue.{types, parentOf, keyKind, lineage, level, isType, goodCatalogue}
 use Rattle.rules.specs.Cells.{Segment, segment, segmentOf, arriving, blank, typeNumber, isChild, siblings, sameKey, goesBefore, segmentLevel, goodListing, levelAt, runAt, endAt}
-use Rattle.rules.specs.Table.{count, cellSize, cellStart, room, listing, padded, goodRoom, goodTable}
+use Rattle.rules.specs.Table.{count, listing}
 use Rattle.rules.specs.Calls.{keyTaken}
 use Rattle.rules.proofs.Catalogue.{par, good-lower}
 use Rattle.rules.proofs.Cells.{listing-length}

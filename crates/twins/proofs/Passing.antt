@@ -1,72 +1,29 @@
--- What each branch of the code shows: the keys in the area and in the table, and what is left of a row to pass. Assumes nothing.
-use mathlib.Core.Path.{_≡_, refl, ap, ap₂, sym, _∙_}
+-- What each branch of the code shows of the row: what is left of it to pass. Assumes nothing.
+use mathlib.Core.Path.{_≡_, refl, ap, sym, _∙_}
 use mathlib.Core.Bool.{Bool, true, false, _||_, not}
-use mathlib.Core.List.{List, [], _∷_}
-use Prim.Native.Nat.{ℕ, zero, suc, _+_, _-_, _<_, _≤_}
+use mathlib.Core.List.{List, _∷_}
+use Prim.Native.Nat.{ℕ, suc, _+_, _<_, _≤_}
 use native.Mathlib.Omega.{arith}
 use borrow.Author.Tests.{eq-eqb, ne-eqb}
-use lib.ListN.{length, drop}
+use lib.ListN.{drop}
 use lib.Seq.{drop-cons}
 use Rattle.terms.specs.declared.TypeCode.{TypeCode}
 use Rattle.terms.specs.declared.Order.{Order}
-use Rattle.terms.specs.declared.Order.the-variants.{Smaller, Equal, Greater}
+use Rattle.terms.specs.declared.Order.the-variants.{Smaller, Greater}
 use Rattle.terms.specs.Names.{code}
 use Rattle.terms.specs.Operators.{isSmaller, isEqual}
 use Rattle.forest.specs.Insert.{passes, spot}
-use Rattle.rules.specs.Block.{Bytes, part}
-use Rattle.rules.specs.Order.{order, valueOrder}
-use Rattle.rules.specs.Catalogue.{lengthOf, keyStart, keyLength, keyKind, level}
-use Rattle.rules.specs.Cells.{Segment, segment, segmentOf, arriving, blank, key, keyOrder, sameKey, goesBefore, segmentLevel}
-use Rattle.rules.specs.Table.{count, listing}
+use Rattle.rules.specs.Block.{Bytes}
+use Rattle.rules.specs.Catalogue.{keyKind, level}
+use Rattle.rules.specs.Cells.{Segment, segment, segmentOf, arriving, blank, keyOrder, sameKey, goesBefore, segmentLevel}
+use Rattle.rules.specs.Table.{listing}
 use Rattle.rules.specs.Calls.{keyTaken}
 use Rattle.rules.proofs.Cells.{listing-length}
-use Rattle.cells.specs.Lent.{InData}
-use Rattle.cells.proofs.Entries.{key-in}
-use Rattle.cells.proofs.Data.{part-front, key-data, key-part}
 use Rattle.twins.specs.declared.Spot.{Spot}
 use Rattle.twins.specs.Among.{New, Beneath, standsTo, passed, placed, spotAmong}
 use Rattle.twins.proofs.Rows.{spot-pass, spot-stop}
 use Rattle.twins.proofs.Twins.{stands-deep, stands-less, stands-more, stands-twin, passes-stands, key-stands}
 use Rattle.twins.proofs.Listing.{Row, row-new, row-level, row-end, row-taken, taken-none, taken-next}
-
-module _ {cat tab : Bytes} {size : ℕ} {t : TypeCode} {area : Bytes} (n : New cat tab size t area) where
-  -- the key of the new segment lies within its L bytes, and so within the area; that of cell i within its data
-  pub key-area : keyStart cat t - 1 + keyLength cat t ≤ length area
-  key-area = let k = key-in cat (n .sound .catalogue) t (n .known) in elim-start (keyStart cat t) (k .0) (k .1)
-    where
-      elim-start : (s : ℕ) → s + keyLength cat t ≤ suc (lengthOf cat t) → (s ≡ 0 → keyLength cat t ≡ 0) → s - 1 + keyLength cat t ≤ length area
-      elim-start zero a b = omega (arith, n .enough, b refl)
-      elim-start (suc s) a b = omega (arith, n .enough)
-
-  pub key-cell : {i start long : ℕ} → i < count tab → segment (listing cat tab) i .code ≡ t → start ≡ keyStart cat t → long ≡ keyLength cat t
-      → InData cat tab size i start long
-  key-cell l e p q = key-data (n .sound .sized) (n .sound .catalogue) l (sym e) (n .known) p q
-
-  -- without a key nothing is compared
-  pub order-unkeyed : (s : Segment) (start : ℕ) → start ≡ keyStart cat t → start ≡ 0 → Equal ≡ keyOrder cat (arriving cat t area) s
-  unfolding keyOrder valueOrder key arriving segmentOf order
-  order-unkeyed s start e z =
-      let k : keyLength cat t ≡ 0 = key-in cat (n .sound .catalogue) t (n .known) .1 (sym e ∙ z) in
-      rw k
-
-  -- the keys that the code compares
-  pub new-key : {start long : ℕ} → start ≡ keyStart cat t → long ≡ keyLength cat t → 1 ≤ start
-      → part area (start - 1) (start - 1 + long - (start - 1)) ≡ key cat (arriving cat t area)
-  unfolding key arriving segmentOf
-  new-key {start} {long} p q h =
-      let x : start - 1 + long - (start - 1) ≡ long = omega arith in
-      rw (x, p, q)
-      (sym (part-front (keyLength cat t) (keyStart cat t - 1) (lengthOf cat t) area (omega (arith, key-in cat (n .sound .catalogue) t (n .known) .0))))
-
-  pub old-key : {i start long : ℕ} → i < count tab → segment (listing cat tab) i .code ≡ t → start ≡ keyStart cat t → long ≡ keyLength cat t
-      → part (segment (listing cat tab) i .bytes) (start - 1) long ≡ key cat (segment (listing cat tab) i)
-  old-key l e p q = key-part (n .sound .sized) (n .sound .catalogue) l (sym e) (n .known) p q
-
-  pub order-keyed : {i start long : ℕ} {x : Bytes} → i < count tab → segment (listing cat tab) i .code ≡ t → start ≡ keyStart cat t → long ≡ keyLength cat t
-      → (start ≡ 0 → ⊥) → x ≡ part (segment (listing cat tab) i .bytes) (start - 1) long
-      → order (part area (start - 1) (start - 1 + long - (start - 1))) x ≡ keyOrder cat (arriving cat t area) (segment (listing cat tab) i)
-  unfolding keyOrder valueOrder
-  order-keyed l e p q ne h = ap₂ order (new-key p q (omega arith)) (h ∙ old-key l e p q)
 
 or-true : (b : Bool) → (b || true) ≡ true
 or-true true = refl

@@ -1,7 +1,6 @@
 -- How a new segment x stands to one cell: it goes before it, has its key, or passes it. Assumes nothing.
 use mathlib.Core.Path.{_≡_, refl, ap, sym, _∙_}
 use mathlib.Core.Bool.{true, false, not}
-use mathlib.Core.List.{[]}
 use Prim.Native.Nat.{ℕ, _<_, _≤_}
 use native.Mathlib.Omega.{arith}
 use borrow.Author.Tests.{lt-ltb, le-ltb, eq-eqb, ne-eqb}
@@ -31,7 +30,7 @@ against n m = elim (side n m) [
   | outside l ↦ elim (side m n) [ inside k ↦ more k | outside k ↦ same (omega arith) ]
 ]
 
-smaller-is : (o : Order) → isSmaller o ≡ true → o ≡ Smaller
+pub smaller-is : (o : Order) → isSmaller o ≡ true → o ≡ Smaller
 smaller-is Smaller e = refl
 smaller-is Equal e = let z : _≡_ {A = ℕ} 0 1 = cc in absurd (omega arith)
 smaller-is Greater e = let z : _≡_ {A = ℕ} 0 1 = cc in absurd (omega arith)

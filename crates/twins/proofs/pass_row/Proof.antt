@@ -33,7 +33,7 @@ loop-holds c = (
   omega (
     arith,
     row-new (c .before .before .before .before .before .pre .0)
-        (c .before .before .before .before .before .pre .1) .many,
+        (c .before .before .before .before .before .pre .2) .many,
   ),
   onward-start _ _ _ _,
 )
@@ -42,10 +42,11 @@ loop-holds c = (
 stands-to-requires : tie.Need-stands-to-requires Inv-loop μ-loop
 stands-to-requires c κs = (
   c .before .before .before .before .before .before .before .before .pre .0,
+  c .before .before .before .before .before .before .before .before .pre .1,
   omega (
     arith,
     row-new (c .before .before .before .before .before .before .before .before .pre .0)
-        (c .before .before .before .before .before .before .before .before .pre .1) .within,
+        (c .before .before .before .before .before .before .before .before .pre .2) .within,
   ),
   c .before .before .before .levels .ensures,
 )
@@ -60,7 +61,7 @@ returns c =
     let ·pre = c .before .before .before .before .before .before .before .before .before .before .before .pre in
     let ·loop = c .before .before .before .before .before .loop in
     let ·loop-test = c .before .before .before .before .loop-test in let ·stands-to = c .before .before .stands-to in
-    onward-stop (row-new (·pre .0) (·pre .1)) _ _ (·loop .inv .0) (·loop-test .taken) (·stands-to .ensures)
+    onward-stop (row-new (·pre .0) (·pre .2)) _ _ (·loop .inv .0) (·loop-test .taken) (·stands-to .ensures)
     (sym (c .before .is-smaller .ensures) ∙ c .if1 .taken) ∙ ·loop .inv .2
 
 -- src/lib.rt: if is_equal(o) {
@@ -83,7 +84,7 @@ loop-again c = (
   ⊎-elim
       (λ w. onward-twin (row-new (c .before .before .before .before .before .before .before .before .before .before
       .before .before .before .pre .0) (c .before .before .before .before .before .before .before .before .before .before
-      .before .before .before .pre .1)) _ _ (c .before .before .before .before .before .before .before .loop .inv .0)
+      .before .before .before .pre .2)) _ _ (c .before .before .before .before .before .before .before .loop .inv .0)
       (c .before .before .before .before .before .before .loop-test .taken)
       (c .before .before .before .before .stands-to .ensures)
       (sym (c .before .before .before .is-smaller .ensures) ∙ c .before .before .if1 .left)
@@ -91,7 +92,7 @@ loop-again c = (
       c .before .before .before .before .before .before .before .loop .inv .2)
       (λ w. onward-other (row-new (c .before .before .before .before .before .before .before .before .before .before
       .before .before .before .pre .0) (c .before .before .before .before .before .before .before .before .before .before
-      .before .before .before .pre .1)) _ _ (c .before .before .before .before .before .before .before .loop .inv .0)
+      .before .before .before .pre .2)) _ _ (c .before .before .before .before .before .before .before .loop .inv .0)
       (c .before .before .before .before .before .before .loop-test .taken)
       (c .before .before .before .before .stands-to .ensures)
       (sym (c .before .before .before .is-smaller .ensures) ∙ c .before .before .if1 .left)
@@ -102,7 +103,7 @@ loop-again c = (
 -- src/lib.rt: fn pass_row(
 returns-2 : tie.Need-returns-2 Inv-loop μ-loop
 returns-2 c = let ·pre = c .before .before .before .before .before .before .before .pre in
-    onward-end (row-new (·pre .0) (·pre .1)) _ _ (c .before .loop .inv .0) (c .before .loop .inv .1)
+    onward-end (row-new (·pre .0) (·pre .2)) _ _ (c .before .loop .inv .0) (c .before .loop .inv .1)
     (c .loop-test .left) ∙ c .before .loop .inv .2
 
 pub pass-row-spec : {M : Type 1} → statement M

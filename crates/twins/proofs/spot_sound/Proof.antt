@@ -15,13 +15,13 @@ key-kind-requires c κs = search needs
 returns : tie.Need-returns
 returns c = let ·pre = c .before .before .before .before .before .before .pre in
     let ·pass-row = c .before .before .pass-row in
-    spot-unique (·pre .0) (·pre .1) (·pass-row .ensures) (c .before .key-kind .ensures) (c .if1 .taken)
+    spot-unique (·pre .0) (·pre .2) (·pass-row .ensures) (c .before .key-kind .ensures) (c .if1 .taken)
 
 -- src/lib.rt: pub fn spot_sound(
 returns-2 : tie.Need-returns-2
 returns-2 c = let ·pre = c .before .before .before .before .before .before .pre in
     let ·pass-row = c .before .before .pass-row in
-    spot-other (·pre .0) (·pre .1) (·pass-row .ensures) (c .before .key-kind .ensures) (c .if1 .left)
+    spot-other (·pre .0) (·pre .2) (·pass-row .ensures) (c .before .key-kind .ensures) (c .if1 .left)
 
 pub spot-sound-spec : {M : Type 1} → statement M
 spot-sound-spec =

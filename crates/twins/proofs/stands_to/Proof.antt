@@ -19,7 +19,7 @@ key-order-with-requires : tie.Need-key-order-with-requires
 key-order-with-requires c κs =
     let ·pre = c .before .before .before .before .before .before .before .before .before .before .pre in
     let ·code-at = c .before .before .before .before .before .before .code-at in
-    (·pre .0, ·pre .1, type-same (·code-at .ensures) (c .if2 .taken))
+    (·pre .0, ·pre .1, ·pre .2, type-same (·code-at .ensures) (c .if2 .taken))
 
 -- src/lib.rt: return key_order_with(cat, tab, size, t, area, c);
 returns-2 : tie.Need-returns-2
@@ -30,7 +30,7 @@ returns-2 c = let ·code-at = c .before .before .before .before .before .before 
 level-by-requires : tie.Need-level-by-requires
 level-by-requires c κs =
     let ·pre = c .before .before .before .before .before .before .before .before .before .before .pre in
-    (·pre .0 .sound .catalogue, ·pre .0 .known, ·pre .2)
+    (·pre .0 .sound .catalogue, ·pre .0 .known, ·pre .3)
 
 -- src/lib.rt: if level_by(row, cat, t) < level_by(row, cat, u) {
 level-by-requires-2 : tie.Need-level-by-requires-2
@@ -38,7 +38,7 @@ level-by-requires-2 c κs =
     let ·pre = c .before .before .before .before .before .before .before .before .before .before .before .pre in
     let ·code-at = c .before .before .before .before .before .before .before .code-at in
     let ·args = c .before .before .before .before .before .before .before .before .before .before .before .args in
-    (·pre .0 .sound .catalogue, rw (·code-at .ensures) (sound-known (·pre .0 .sound) (·args .c .0) (·pre .1)), ·pre .2)
+    (·pre .0 .sound .catalogue, rw (·code-at .ensures) (sound-known (·pre .0 .sound) (·args .c .0) (·pre .2)), ·pre .3)
 
 -- src/lib.rt: return Order::Greater;
 returns-3 : tie.Need-returns-3
