@@ -21,10 +21,11 @@ use Rattle.terms.specs.Choice.{pick}
 use Rattle.terms.specs.Names.{code, field}
 use Rattle.forest.specs.Forest.{inside, outside, side}
 use Rattle.forest.specs.Good.{on, off, is}
-use Rattle.rules.specs.Block.{Bytes, byte}
+use Rattle.rules.specs.Block.{Bytes, byte, part}
 use Rattle.rules.specs.Catalogue.{fieldLength}
 use Rattle.rules.specs.Arguments.{ListRead, operatorOf, goodNext, isFieldOf, argumentAt, listRead, meant}
 use Rattle.arguments.specs.Sound.{GoodQualification, rest, qualificationAt, nextAt, untested}
+use Rattle.arguments.proofs.Branches.{valueAt}
 use Rattle.arguments.proofs.Rest.{added, Sound, sound, faulty, read, rest-whole, rest-end, rest-fault, step, step-rest, step-fault, got-rest}
 use Rattle.arguments.proofs.Above.{next-type}
 
@@ -40,17 +41,18 @@ abbrev movedRead : ℕ → ArgumentRead → ArgumentRead
 movedRead k (Got a) = Got (moved k a)
 movedRead k (Fault s) = Fault s
 
-through : {A : Type 0} (f : A → A) (a b c d e g h : Bool) (p q r s t u v w : A)
-    → f (pick a p (pick b q (pick c r (pick d s (pick e t (pick g u (pick h v w)))))))
-    ≡ pick a (f p) (pick b (f q) (pick c (f r) (pick d (f s) (pick e (f t) (pick g (f u) (pick h (f v) (f w)))))))
-through f true b c d e g h p q r s t u v w = refl
-through f false true c d e g h p q r s t u v w = refl
-through f false false true d e g h p q r s t u v w = refl
-through f false false false true e g h p q r s t u v w = refl
-through f false false false false true g h p q r s t u v w = refl
-through f false false false false false true h p q r s t u v w = refl
-through f false false false false false false true p q r s t u v w = refl
-through f false false false false false false false p q r s t u v w = refl
+through : {A : Type 0} (f : A → A) (a b c d e g h k : Bool) (p q r s t u v w x : A)
+    → f (pick a p (pick b q (pick c r (pick d s (pick e t (pick g u (pick h v (pick k w x))))))))
+    ≡ pick a (f p) (pick b (f q) (pick c (f r) (pick d (f s) (pick e (f t) (pick g (f u) (pick h (f v) (pick k (f w) (f x))))))))
+through f true b c d e g h k p q r s t u v w x = refl
+through f false true c d e g h k p q r s t u v w x = refl
+through f false false true d e g h k p q r s t u v w x = refl
+through f false false false true e g h k p q r s t u v w x = refl
+through f false false false false true g h k p q r s t u v w x = refl
+through f false false false false false true h k p q r s t u v w x = refl
+through f false false false false false false true k p q r s t u v w x = refl
+through f false false false false false false false true p q r s t u v w x = refl
+through f false false false false false false false false p q r s t u v w x = refl
 
 leb-add : (k x y : ℕ) → leb (k + x) (k + y) ≡ leb x y
 leb-add k x y = elim (side y x) [
@@ -63,6 +65,10 @@ ltb-add k x y = elim (side x y) [
   | inside l ↦ lt-ltb (k + x) (k + y) (omega arith) ∙ sym (lt-ltb x y l)
   | outside l ↦ le-ltb (k + x) (k + y) (omega arith) ∙ sym (le-ltb x y l)
 ]
+
+-- a value that lies in the first part is the same bytes in the whole list
+same-part : (one two : Bytes) (v w : ℕ) → v + w ≤ length one → part (one ++ two) v w ≡ part one v w
+same-part one two v w l = rw (drop-append-le v one two (omega arith), take-append-le w (drop v one) two (rw length-drop (omega arith)))
 
 module _ (cat one two : Bytes) (before : TypeCode) (at : ℕ) where
   -- an argument of the second part, read in the whole list
@@ -88,10 +94,12 @@ module _ (cat one two : Bytes) (before : TypeCode) (at : ℕ) where
         leb-add k (length two) (at + 1),
         leb-add k (length two) (at + 2),
         ltb-add k (length two) (at + 3 + w),
+        drop-append-add one two (at + 3),
       )
       (sym (through (movedRead k) (not (goodNext cat two before (code (byte two at)))) (leb (length two) (at + 1)) (eqb (byte two (at + 1)) 0) (ltb 6 (byte two (at + 1)))
-      (leb (length two) (at + 2)) (not (isFieldOf cat two (code (byte two at)) f)) (ltb (length two) (at + 3 + w))
-      (Fault AC) (Fault AJ) (Got (record { code = code (byte two at); qualification = None; next = at + 2 })) (Fault AJ) (Fault AJ) (Fault AK) (Fault AJ)
+      (leb (length two) (at + 2)) (not (isFieldOf cat two (code (byte two at)) f)) (ltb (length two) (at + 3 + w)) (not (valueAt cat two at))
+      (Fault AC) (Fault AJ) (Got (record { code = code (byte two at); qualification = None; next = at + 2 }))
+      (Fault AJ) (Fault AJ) (Fault AK) (Fault AJ) (Fault AJ)
       (Got (record { code = code (byte two at); qualification = Test (operatorOf (byte two (at + 1))) f (at + 3); next = at + 3 + w }))))
 
   -- and found sound there
@@ -220,7 +228,20 @@ module _ (cat one two : Bytes) where
             let b₂ : byte (one ++ two) (at + 2) ≡ byte one (at + 2) = List·getD-append one two 0 (at + 2) r in
             let w : ℕ = fieldLength cat (field (byte one (at + 2))) in
             let v : at + 3 + w ≤ length one = (rw e at (s .test)) .within in
-            rw (n, b₀, b₁, b₂, l₁, m₁, e, lt-leb (length one + length two) (at + 2) (omega arith), lt-leb (length one) (at + 2) r, le-ltb (length one + length two) (at + 3 + w) (omega arith), le-ltb (length one) (at + 3 + w) v)
+            rw (
+              n,
+              b₀,
+              b₁,
+              b₂,
+              l₁,
+              m₁,
+              e,
+              lt-leb (length one + length two) (at + 2) (omega arith),
+              lt-leb (length one) (at + 2) r,
+              le-ltb (length one + length two) (at + 3 + w) (omega arith),
+              le-ltb (length one) (at + 3 + w) v,
+              same-part one two (at + 3) w v,
+            )
       ]
 
   front-fault : (n : ℕ) (before : TypeCode) (at : ℕ) → length one ≤ at + n → at ≤ length one → rest cat one before at .fault ≡ Blank
@@ -267,10 +288,7 @@ module _ (cat one two : Bytes) where
 module _ (cat one two : Bytes) where
   pub same-meant : (t : TypeCode) (q : Qualification) → GoodQualification cat one t q → meant cat (one ++ two) q ≡ meant cat one q
   same-meant t None h = refl
-  same-meant t (Test o f v) h =
-      let w : ℕ = fieldLength cat f in
-      let l : v + w ≤ length one = h .within in
-      rw (drop-append-le v one two (omega arith), take-append-le w (drop v one) two (rw length-drop (omega arith)))
+  same-meant t (Test o f v) h = rw (same-part one two v (fieldLength cat f) (h .within))
 
   pub moved-meant : (q : Qualification) → meant cat (one ++ two) (movedTest (length one) q) ≡ meant cat two q
   moved-meant None = refl

@@ -21,8 +21,8 @@ use Rattle.rules.specs.Block.{Bytes, byte}
 use Rattle.rules.specs.Catalogue.{fields, fieldType, fieldLength}
 use Rattle.rules.specs.Arguments.{ListRead, operatorOf, goodNext, isFieldOf, argumentAt, argumentsFrom, listRead}
 use Rattle.arguments.specs.Sound.{statusOf, GoodTest, GoodQualification, rest, qualificationAt, nextAt, untested, Room}
-use Rattle.arguments.proofs.Branches.{type-bad, operator-missing, operator-none, operator-bad, field-missing, field-bad, value-short, value-whole}
-use Rattle.arguments.proofs.Branches.{room-none, room-test, next-test}
+use Rattle.arguments.proofs.Branches.{type-bad, operator-missing, operator-none, operator-bad, field-missing, field-bad}
+use Rattle.arguments.proofs.Branches.{valueAt, value-short, value-bad, value-whole, room-none, room-test, next-test}
 
 -- an argument that was read, and the list that was read behind it
 abbrev pub added : Argument → ListRead → ListRead
@@ -53,9 +53,9 @@ ak-fault : AK ≡ Blank → ⊥
 ak-fault e = let z : _≡_ {A = ℕ} 0 1 = cc in omega arith
 
 good-test : (cat list : Bytes) (t : TypeCode) (at : ℕ) → isFieldOf cat list t (field (byte list (at + 2))) ≡ true → at + 3 + fieldLength cat (field (byte list (at + 2))) ≤ length list
-    → GoodTest cat list t (operatorOf (byte list (at + 1))) (field (byte list (at + 2))) (at + 3)
+    → valueAt cat list at ≡ true → GoodTest cat list t (operatorOf (byte list (at + 1))) (field (byte list (at + 2))) (at + 3)
 unfolding isFieldOf
-good-test cat list t at f l =
+good-test cat list t at f l v =
     let u : FieldNumber = field (byte list (at + 2)) in
     let g : (leb 1 (u .0) && leb (u .0) (fields cat)) ≡ true = both-left (leb 1 (u .0) && leb (u .0) (fields cat)) (sameType (fieldType cat u) t) f in
     record {
@@ -63,6 +63,7 @@ good-test cat list t at f l =
       last = leb-true (u .0) (fields cat) (both-right (leb 1 (u .0)) (leb (u .0) (fields cat)) g);
       own = ap code (eqb-true (fieldType cat u .0) (t .0) (both-right (leb 1 (u .0) && leb (u .0) (fields cat)) (sameType (fieldType cat u) t) f));
       within = l;
+      value = v;
     }
 
 module _ (cat list : Bytes) (before : TypeCode) (at : ℕ) (n : goodNext cat list before (code (byte list at)) ≡ true) (h : at + 1 < length list) where
@@ -78,17 +79,21 @@ module _ (cat list : Bytes) (before : TypeCode) (at : ℕ) (n : goodNext cat lis
         test = rw e tt;
       }
 
+  -- the value takes what is left of the argument behind the field number
+  value-long : (byte list (at + 1) ≡ 0 → ⊥) → nextAt cat list at - (at + 3) ≡ fieldLength cat (field (byte list (at + 2)))
+  value-long z = omega (arith, next-test cat list at z)
+
   test-sound : (byte list (at + 1) ≡ 0 → ⊥) → byte list (at + 1) ≤ 6 → at + 2 < length list → isFieldOf cat list (code (byte list at)) (field (byte list (at + 2))) ≡ true
-      → at + 3 + fieldLength cat (field (byte list (at + 2))) ≤ length list → Sound cat list before at
+      → at + 3 + fieldLength cat (field (byte list (at + 2))) ≤ length list → valueAt cat list at ≡ true → Sound cat list before at
   unfolding qualificationAt nextAt
-  test-sound z o k f l =
+  test-sound z o k f l v =
       let e = ne-eqb (byte list (at + 1)) 0 z in
       record {
-        answer = sym (value-whole cat list before at n h z o k f refl (omega (arith, next-test cat list at z)));
+        answer = sym (value-whole cat list before at n h z o k f refl (omega (arith, next-test cat list at z)) refl (rw (value-long z) v));
         type = n;
         room = room-test list at h k;
         onward = rw e (omega arith);
-        test = rw e (good-test cat list (code (byte list at)) at f l);
+        test = rw e (good-test cat list (code (byte list at)) at f l v);
       }
 
   read-operator : Read cat list before at
@@ -102,7 +107,12 @@ module _ (cat list : Bytes) (before : TypeCode) (at : ℕ) (n : goodNext cat lis
           | off f ↦ faulty AK ak-fault (sym (field-bad cat list before at n h nz o k f))
           | on f ↦ (let w : ℕ = fieldLength cat (field (byte list (at + 2))) in elim (side (length list) (at + 3 + w)) [
             | inside l ↦ faulty AJ aj-fault (sym (value-short cat list before at n h nz o k f refl (omega (arith, next-test cat list at nz))))
-            | outside l ↦ sound (test-sound nz o k f l)
+            | outside l ↦ elim (is (valueAt cat list at)) [
+              | off v ↦
+                  let b = value-bad cat list before at n h nz o k f refl (omega (arith, next-test cat list at nz)) refl (rw (value-long nz) v) in
+                  faulty AJ aj-fault (sym b)
+              | on v ↦ sound (test-sound nz o k f l v)
+            ]
           ])
         ]
       ]

@@ -22,12 +22,11 @@ use Rattle.terms.specs.Choice.{pick}
 use Rattle.terms.specs.Names.{cell, sameType}
 use Rattle.terms.specs.Statuses.{number}
 use Rattle.terms.specs.Moves.{afterPlace, movedOnto}
-use Rattle.forest.specs.Good.{both-left, both-right}
-use Rattle.forest.specs.Numbers.{range}
-use Rattle.rules.specs.Block.{Bytes, byte, every, zeros, marked}
+use Rattle.forest.specs.Good.{both-left}
+use Rattle.rules.specs.Block.{Bytes}
 use Rattle.rules.specs.Catalogue.{goodCatalogue}
 use Rattle.rules.specs.Cells.{Segment, segment, shownBytes, long, levelAt, endAt, goodListing}
-use Rattle.rules.specs.Table.{count, cellSize, cellStart, room, listing, goodRoom, padded, goodTable}
+use Rattle.rules.specs.Table.{cellSize, listing, goodTable}
 use Rattle.rules.specs.Position.{goodPlace, goodParentage, goodHold, goodPosition}
 use Rattle.rules.specs.Arguments.{Level, listRead, getLevels}
 use Rattle.rules.specs.Matching.{matches, seek, firstMatch}
