@@ -11,8 +11,9 @@ use Rattle.terms.specs.declared.Status.{Status}
 use Rattle.terms.specs.declared.Status.the-variants.{Blank, AC, AJ, AK}
 use Rattle.terms.specs.Names.{code, field}
 use Rattle.forest.specs.Good.{on, off, is}
-use Rattle.rules.specs.Block.{Bytes, byte}
-use Rattle.rules.specs.Catalogue.{fieldLength}
+use Rattle.rules.specs.Block.{Bytes, byte, part}
+use Rattle.rules.specs.Order.{isValue}
+use Rattle.rules.specs.Catalogue.{fieldLength, fieldValue}
 use Rattle.rules.specs.Arguments.{goodNext, isFieldOf, argumentAt, argumentsFrom, listRead}
 use Rattle.rules.proofs.Choice.{pick-of}
 
@@ -36,7 +37,9 @@ module _ (cat list : Bytes) where
       (pick-of Faulty (ltb 6 (byte list (at + 1))) (Fault AJ) _ list-fault
       (pick-of Faulty (leb (length list) (at + 2)) (Fault AJ) _ list-fault
       (pick-of Faulty (not (isFieldOf cat list (code (byte list at)) (field (byte list (at + 2))))) (Fault AK) _ field-fault
-      (pick-of Faulty (ltb (length list) (at + 3 + fieldLength cat (field (byte list (at + 2))))) (Fault AJ) (Got _) list-fault tt))))))
+      (pick-of Faulty (ltb (length list) (at + 3 + fieldLength cat (field (byte list (at + 2))))) (Fault AJ) _ list-fault
+      (pick-of Faulty (not (isValue (fieldValue cat (field (byte list (at + 2)))) (part list (at + 3) (fieldLength cat (field (byte list (at + 2)))))))
+      (Fault AJ) (Got _) list-fault tt)))))))
 
   fault-from : (n : ℕ) (before : TypeCode) (at : ℕ) → FaultOf (argumentsFrom cat list n before at .fault)
   unfolding argumentsFrom

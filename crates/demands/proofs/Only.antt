@@ -51,6 +51,7 @@ only-own cat tab pos c list area =
     (also (both-left (repl c) _)
     (also (both-left (isrt c) _)
     (also (both-left (isrt c) _)
+    (also (both-left (isrt c) _)
     (also (stepped-of ((next c || within c) && isNil list) (isOn (pos .place)) _ _)
     (also (stepped-of ((next c || within c) && isNil list) (isOn (pos .place)) _ _)
-    (blank refl))))))))))))))))))))
+    (blank refl)))))))))))))))))))))

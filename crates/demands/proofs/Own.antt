@@ -14,7 +14,7 @@ use Rattle.terms.specs.declared.Parentage.{Parentage}
 use Rattle.terms.specs.declared.Position.{Position}
 use Rattle.terms.specs.declared.Argument.{Argument}
 use Rattle.terms.specs.declared.Status.{Status}
-use Rattle.terms.specs.declared.Status.the-variants.{Blank, GA, GK, GB, GE, DA, II, FX}
+use Rattle.terms.specs.declared.Status.the-variants.{Blank, GA, GK, GB, GE, DA, II, FX, PD}
 use Rattle.terms.specs.declared.Found.{Found}
 use Rattle.terms.specs.declared.Found.the-variants.{At, Nothing}
 use Rattle.terms.specs.Choice.{pick}
@@ -24,7 +24,7 @@ use Rattle.forest.specs.Forest.{inside, outside, side}
 use Rattle.forest.specs.Good.{isNil, nil-of, on, off, is}
 use Rattle.rules.specs.Block.{Bytes, sameBytes}
 use Rattle.rules.specs.Catalogue.{keyKind}
-use Rattle.rules.specs.Cells.{Segment, segment, segmentOf, arriving, key, levelAt, runAt, rowAt}
+use Rattle.rules.specs.Cells.{Segment, segment, segmentOf, arriving, key, keyed, levelAt, runAt, rowAt}
 use Rattle.rules.specs.Table.{count, room, listing}
 use Rattle.rules.specs.Arguments.{ListRead, Level, listRead, lastArgument, getLevels, parentLevels, complete}
 use Rattle.rules.specs.Matching.{matches, firstMatch, along}
@@ -100,11 +100,15 @@ module _ (cat : Bytes) (cs : List Segment) (pos : Position) (area : Bytes) where
   within-status ls parentage hold (At c) = steps-status ls (pos .place) (c .0)
 
   inserted-status : (m : ℕ) (x : Segment) (above : List ℕ) (b : Bool) (r : ℕ) (new : List Segment)
-      → inserted cat cs pos area m x above b r new .answer .status ≡ pick (eqb (keyKind cat (x .code)) 1 && b) II (pick (eqb (length cs) m) FX Blank)
+      → inserted cat cs pos area m x above b r new .answer .status
+      ≡ pick (not (keyed cat x)) PD (pick (eqb (keyKind cat (x .code)) 1 && b) II (pick (eqb (length cs) m) FX Blank))
   unfolding inserted changed answerOf
-  inserted-status m x above b r new = elim (is (eqb (keyKind cat (x .code)) 1 && b)) [
-    | on e ↦ rw e
-    | off e ↦ elim (is (eqb (length cs) m)) [ on f ↦ rw (e, f) | off f ↦ rw (e, f) ]
+  inserted-status m x above b r new = elim (is (keyed cat x)) [
+    | off k ↦ rw k
+    | on k ↦ elim (is (eqb (keyKind cat (x .code)) 1 && b)) [
+      | on e ↦ rw (k, e)
+      | off e ↦ elim (is (eqb (length cs) m)) [ on f ↦ rw (k, e, f) | off f ↦ rw (k, e, f) ]
+    ]
   ]
 
   replaced-status : (i : ℕ) (x : Segment) (new : List Segment)
@@ -154,14 +158,16 @@ module _ (cat tab : Bytes) (pos : Position) (list area : Bytes) (s : SoundList c
 
   told-among : (above : List ℕ) (i n : ℕ)
       → insertAmong cat cs pos area (room cat tab) x above i n .answer .status
-      ≡ pick (eqb (keyKind cat t) 1 && keyTaken cat cs x i n) II (pick (eqb (count tab) (room cat tab)) FX Blank)
+      ≡ pick (not (keyed cat x)) PD (pick (eqb (keyKind cat t) 1 && keyTaken cat cs x i n) II (pick (eqb (count tab) (room cat tab)) FX Blank))
   unfolding insertAmong arriving segmentOf
   told-among above i n =
       rw (sym (listing-length cat tab)) (inserted-status cat cs pos area (room cat tab) x above (keyTaken cat cs x i n) _ _)
 
   told-beneath : (f : Found)
       → insertUnder cat cs pos area (room cat tab) x f .answer .status
-      ≡ pick (isNothing f) GE (pick (eqb (keyKind cat t) 1 && takenBeneath cat tab pos 7 list area f) II (pick (eqb (count tab) (room cat tab)) FX Blank))
+      ≡ pick (isNothing f) GE
+      (pick (not (keyed cat x)) PD
+      (pick (eqb (keyKind cat t) 1 && takenBeneath cat tab pos 7 list area f) II (pick (eqb (count tab) (room cat tab)) FX Blank)))
   told-beneath Nothing = refl
   told-beneath (At p) = told-among (rowAt cat cs (p .0)) (suc (p .0)) (runAt cat cs (p .0) - 1)
 
@@ -169,8 +175,9 @@ module _ (cat tab : Bytes) (pos : Position) (list area : Bytes) (s : SoundList c
       → pick b (insertAmong cat cs pos area (room cat tab) x [] 0 (length cs))
       (insertUnder cat cs pos area (room cat tab) x f) .answer .status
       ≡ pick (not b && isNothing f) GE
+      (pick (not (keyed cat x)) PD
       (pick (eqb (keyKind cat t) 1 && pick b (keyTaken cat cs x 0 (length cs)) (takenBeneath cat tab pos 7 list area f)) II
-      (pick (eqb (count tab) (room cat tab)) FX Blank))
+      (pick (eqb (count tab) (room cat tab)) FX Blank)))
   told-insert true f = told-among [] 0 (length cs)
   told-insert false f = told-beneath f
 

@@ -24,7 +24,7 @@ use Rattle.forest.specs.Numbers.{isIn}
 use Rattle.forest.specs.Good.{isNil}
 use Rattle.rules.specs.Block.{Bytes, sameBytes}
 use Rattle.rules.specs.Catalogue.{keyKind, level, goodCatalogue}
-use Rattle.rules.specs.Cells.{Segment, segment, segmentOf, arriving, shownBytes, long, key, levelAt, runAt}
+use Rattle.rules.specs.Cells.{Segment, segment, segmentOf, arriving, shownBytes, long, key, keyed, levelAt, runAt}
 use Rattle.rules.specs.Table.{cellSize, room, listing, goodTable}
 use Rattle.rules.specs.Position.{goodPosition}
 use Rattle.rules.specs.Arguments.{Level, listRead, lastArgument, isQualified, getLevels}
@@ -194,8 +194,10 @@ module _ (cat tab : Bytes) (pos : Position) (list area : Bytes) where
   says-inserted : (m : ℕ) (above : List ℕ) (b : Bool) (r : ℕ) (ds : List Segment) → Says 7 (inserted cat cs pos area m (new cat tab pos 7 list area) above b r ds)
   unfolding inserted arriving segmentOf
   says-inserted m above b r ds =
-      pick-by (Says 7) (eqb (keyKind cat (lastArgument (listRead cat list .arguments) .code)) 1 && b) _ _ (λ e. says-refused 7 II (omega arith))
-      (λ e. pick-by (Says 7) (eqb (length cs) m) _ _ (λ f. says-refused 7 FX (omega arith)) (λ f. says-changed 7 refl _ (new cat tab pos 7 list area) refl 0 refl _ ds))
+      pick-by (Says 7) (not (keyed cat (new cat tab pos 7 list area))) _ _ (λ k. says-refused 7 PD (omega arith))
+      (λ k. pick-by (Says 7) (eqb (keyKind cat (lastArgument (listRead cat list .arguments) .code)) 1 && b) _ _ (λ e. says-refused 7 II (omega arith))
+      (λ e. pick-by (Says 7) (eqb (length cs) m) _ _ (λ f. says-refused 7 FX (omega arith))
+      (λ f. says-changed 7 refl _ (new cat tab pos 7 list area) refl 0 refl _ ds)))
 
   says-among : (m : ℕ) (above : List ℕ) (i n : ℕ) → Says 7 (insertAmong cat cs pos area m (new cat tab pos 7 list area) above i n)
   unfolding insertAmong

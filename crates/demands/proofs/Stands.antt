@@ -26,7 +26,7 @@ use Rattle.forest.specs.Insert.{spot}
 use Rattle.forest.specs.Numbers.{isIn}
 use Rattle.rules.specs.Block.{Bytes, sameBytes}
 use Rattle.rules.specs.Catalogue.{parentOf, keyKind, level, isType, goodCatalogue}
-use Rattle.rules.specs.Cells.{Segment, segment, segmentOf, arriving, key, segmentLevel, goesBefore, goodListing, levelAt, runAt, endAt, rowAt}
+use Rattle.rules.specs.Cells.{Segment, segment, segmentOf, arriving, key, keyed, segmentLevel, goesBefore, goodListing, levelAt, runAt, endAt, rowAt}
 use Rattle.rules.specs.Table.{room, listing}
 use Rattle.rules.specs.Position.{goodPlace}
 use Rattle.rules.specs.Arguments.{Level, listRead, lastArgument, getLevels, parentLevels}
@@ -181,10 +181,11 @@ module _ (cat tab : Bytes) (pos : Position) (list area : Bytes) where
       → Stood 7 (insertAmong cat cs pos area (room cat tab) x above i n)
   unfolding insertAmong inserted changed answerOf
   stood-among above i n test same h =
-      pick-by (Stood 7) (eqb (keyKind cat (x .code)) 1 && keyTaken cat cs x i n) _ _ (λ e. stood-refused 7 II (omega arith))
+      pick-by (Stood 7) (not (keyed cat x)) _ _ (λ k. stood-refused 7 PD (omega arith))
+      (λ k. pick-by (Stood 7) (eqb (keyKind cat (x .code)) 1 && keyTaken cat cs x i n) _ _ (λ e. stood-refused 7 II (omega arith))
       (λ e. pick-by (Stood 7) (eqb (length cs) (room cat tab)) _ _ (λ f. stood-refused 7 FX (omega arith))
       (λ f. ap (λ (m : Parentage). record { place = On (cell (i + spot (segmentLevel cat) x (goesBefore cat x) (drop i cs))); parentage = m; hold = false })
-      (kept-same above test (pos .parentage) same) ∙ h))
+      (kept-same above test (pos .parentage) same) ∙ h)))
 
   -- the row of ISRT: for a root or not, under the parent found
   abbrev row7 : Bool → Found → Position

@@ -1,6 +1,6 @@
 use Rattle.parts.proofs.Letters.{letters-of, letters-none}
 use Rattle.terms.specs.Paper.{printedStatuses}
-use Rattle.terms.specs.declared.Status.the-variants.{Blank, GA, GK, GB, GE, GP, CX, TX, PX, AD, AC, AJ, AK, AH, AB, DJ, DA, II, FX}
+use Rattle.terms.specs.declared.Status.the-variants.{Blank, GA, GK, GB, GE, GP, CX, TX, PX, AD, AC, AJ, AK, AH, AB, DJ, DA, II, FX, PD}
 use borrow.Author.Needs.{needs}
 use Rattle.parts.proofs.results.letters_of.Statement.{statement}
 use Rattle.parts.proofs.results.letters_of.Tie as tie
@@ -81,6 +81,10 @@ letters-requires-18 c κs = search needs
 letters-requires-19 : tie.Need-letters-requires-19
 letters-requires-19 c κs = search needs
 
+-- src/results.rt: 33 => letters(Status::PD),
+letters-requires-20 : tie.Need-letters-requires-20
+letters-requires-20 c κs = search needs
+
 -- src/results.rt: pub(crate) fn letters_of(status: u8) -> [u8; 2]
 returns : tie.Need-returns
 returns c = letters-of Blank (c .before .match .keys1) (c .letters .ensures)
@@ -159,8 +163,12 @@ returns-19 c = letters-of FX (c .before .match .keys19) (c .letters19 .ensures)
 
 -- src/results.rt: pub(crate) fn letters_of(status: u8) -> [u8; 2]
 returns-20 : tie.Need-returns-20
+returns-20 c = letters-of PD (c .before .match .keys20) (c .letters20 .ensures)
+
+-- src/results.rt: pub(crate) fn letters_of(status: u8) -> [u8; 2]
+returns-21 : tie.Need-returns-21
 unfolding printedStatuses
-returns-20 c = letters-none (c .before .args .status) (c .match .rest)
+returns-21 c = letters-none (c .before .args .status) (c .match .rest)
 
 pub letters-of-spec : {M : Type 1} → statement M
 letters-of-spec =
@@ -185,6 +193,7 @@ letters-of-spec =
     letters-requires-17
     letters-requires-18
     letters-requires-19
+    letters-requires-20
     returns
     returns-2
     returns-3
@@ -204,4 +213,5 @@ letters-of-spec =
     returns-17
     returns-18
     returns-19
-    returns-20)
+    returns-20
+    returns-21)
