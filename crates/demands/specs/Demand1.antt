@@ -61,7 +61,7 @@ pub record Answers (cat tab : Bytes) (pos : Position) (c : ℕ) (list area : Byt
   pub known : isIn (number (o .answer .status)) numbers ≡ true
   -- and it is that of the first row, in the order of R61, that is given
   pub order : o .answer .status ≡ firstGiven (statusTable cat tab pos c list area)
-  -- so GB and GE, GA and GK, GP, and 27 to 32 are each given to their own calls only
+  -- so GB and GE, GA and GK, GP, and 27 to 33 are each given to their own calls only
   pub only : isGivenTo c list (o .answer .status) ≡ true
   -- 20 and above
   pub refusal : 20 ≤ number (o .answer .status) → Untouched tab area pos o
