@@ -1,6 +1,6 @@
 -- Cells by number: type and level, the end of a run, the parent; what a good table gives to these. Assumes nothing.
 use mathlib.Core.Path.{_≡_, refl, ap, sym, _∙_}
-use mathlib.Core.Bool.{true, _&&_}
+use mathlib.Core.Bool.{true}
 use mathlib.Core.List.{List}
 use Prim.Native.Nat.{ℕ, zero, suc, _+_, _-_, _*_, _<_, _≤_}
 use native.Mathlib.Omega.{arith}
@@ -11,7 +11,6 @@ use Rattle.terms.specs.declared.CellNumber.{CellNumber}
 use Rattle.terms.specs.declared.Found.the-variants.{At, Nothing}
 use Rattle.terms.specs.Names.{cell}
 use Rattle.forest.specs.Forest.{inside, outside, side}
-use Rattle.forest.specs.Good.{both-left, both-right}
 use Rattle.forest.specs.Runs.{under, under-in, under-out}
 use Rattle.forest.specs.Rows.{back, back-in, back-out}
 use Rattle.forest.specs.Numbers.{range, downTo}
@@ -19,6 +18,7 @@ use Rattle.rules.specs.Block.{Bytes, byte}
 use Rattle.rules.specs.Catalogue.{goodCatalogue}
 use Rattle.rules.specs.Cells.{Segment, segment, segmentOf, levelAt, runAt, endAt}
 use Rattle.rules.specs.Table.{count, cellSize, cellStart, room, typeAt, segmentAt, listing, goodRoom, goodTable}
+use Rattle.rules.proofs.Joined.{three}
 use Rattle.rules.proofs.Table.{table-tests}
 use Rattle.rules.proofs.Cells.{listing-at}
 use Rattle.cells.specs.Lent.{Sized, Inside, startOf, behind, nearest, endFrom, climbed, parentAt}
@@ -178,18 +178,17 @@ pub record Housed (cat tab : Bytes) : Type 0 where
   pub told : byte tab 5 ≡ cellSize cat
   pub few : count tab ≤ room cat tab
 
-module _ (cat tab : Bytes) (h : goodTable cat tab ≡ true) where
-  pub good-housed : Housed cat tab
-  unfolding goodRoom cellStart
-  good-housed =
-      let p = table-tests cat tab h in
-      let q = both-left (leb 8 (length tab) && eqb (length tab) (cellStart cat (room cat tab))) (leb (room cat tab) 4096) (p .roomy) in
-      record {
-        whole = eqb-true (length tab) (cellStart cat (room cat tab)) (both-right (leb 8 (length tab)) (eqb (length tab) (cellStart cat (room cat tab))) q);
-        most = leb-true (room cat tab) 4096 (both-right (leb 8 (length tab) && eqb (length tab) (cellStart cat (room cat tab))) (leb (room cat tab) 4096) (p .roomy));
-        told = eqb-true (byte tab 5) (cellSize cat) (p .size);
-        few = leb-true (count tab) (room cat tab) (p .few);
-      }
+pub good-housed : (cat tab : Bytes) → goodTable cat tab ≡ true → Housed cat tab
+unfolding goodRoom cellStart
+good-housed cat tab h =
+    let p = table-tests cat tab h in
+    let q = three (leb 8 (length tab)) (eqb (length tab) (cellStart cat (room cat tab))) (leb (room cat tab) 4096) (p .roomy) in
+    record {
+      whole = eqb-true (length tab) (cellStart cat (room cat tab)) (q .1);
+      most = leb-true (room cat tab) 4096 (q .2);
+      told = eqb-true (byte tab 5) (cellSize cat) (p .size);
+      few = leb-true (count tab) (room cat tab) (p .few);
+    }
 
 pub good-sized : (cat tab : Bytes) → goodCatalogue cat ≡ true → goodTable cat tab ≡ true → Sized cat tab (cellSize cat)
 good-sized cat tab g h = room-sized cat tab refl g (table-tests cat tab h .roomy) (good-housed cat tab h .few)
