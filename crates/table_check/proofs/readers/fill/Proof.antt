@@ -26,8 +26,11 @@ element-write-facts c = omega arith
 
 -- src/readers.rt: while v < wide(types(cat)) {
 loop-holds : tie.Need-loop-holds Inv-loop μ-loop
-loop-holds c = (omega arith, row-sized (c .before .args .cat .now) (c .before .args .facts .now)
-    (c .before .args .size) (c .before .pre .2))
+loop-holds c = (
+  omega arith,
+  row-sized (c .before .args .cat .now) (c .before .args .facts .now)
+      (c .before .args .size) (c .before .pre .2),
+)
 
 -- src/readers.rt: while v < wide(types(cat)) {
 types-requires : tie.Need-types-requires Inv-loop μ-loop
@@ -48,8 +51,12 @@ mul-facts c = omega (arith, c .before .wide .ensures .1)
 -- src/readers.rt: facts[4 * v] = cat[8 * v];
 shared-slice-read-facts : tie.Need-shared-slice-read-facts Inv-loop μ-loop
 shared-slice-read-facts c = let ·args = c .before .before .before .before .before .before .args in
-    omega (arith, header-facts (·args .cat .now) (c .before .before .before .before .before .before .pre .0) .size,
-    c .before .before .before .types .ensures, c .before .before .wide .ensures .0)
+    omega (
+      arith,
+      header-facts (·args .cat .now) (c .before .before .before .before .before .before .pre .0) .size,
+      c .before .before .before .types .ensures,
+      c .before .before .wide .ensures .0,
+    )
 
 -- src/readers.rt: facts[4 * v] = cat[8 * v];
 mul-facts-2 : tie.Need-mul-facts-2 Inv-loop μ-loop
@@ -58,71 +65,108 @@ mul-facts-2 c = omega (arith, c .before .before .wide .ensures .1)
 -- src/readers.rt: facts[4 * v] = cat[8 * v];
 element-write-facts-2 : tie.Need-element-write-facts-2 Inv-loop μ-loop
 element-write-facts-2 c = let ·args = c .before .before .before .before .before .before .args in
-    omega (arith, header-facts (·args .cat .now)
-    (c .before .before .before .before .before .before .pre .0) .types-most, c .before .before .before .types .ensures,
-    c .before .before .wide .ensures .0)
+    omega (
+      arith,
+      header-facts (·args .cat .now)
+          (c .before .before .before .before .before .before .pre .0) .types-most,
+      c .before .before .before .types .ensures,
+      c .before .before .wide .ensures .0,
+    )
 
--- src/readers.rt: facts[4 * v + 1] = cat[8 * v + 2];
+-- src/readers.rt: facts[4 * v + 1] = cat[8 * v + 2] + 4 * cat[8 * v + 7];
 mul-facts-3 : tie.Need-mul-facts-3 Inv-loop μ-loop
 mul-facts-3 c = omega (arith, c .before .before .wide .ensures .1)
 
--- src/readers.rt: facts[4 * v + 1] = cat[8 * v + 2];
+-- src/readers.rt: facts[4 * v + 1] = cat[8 * v + 2] + 4 * cat[8 * v + 7];
 add-facts : tie.Need-add-facts Inv-loop μ-loop
 add-facts c = omega (arith, c .before .before .wide .ensures .1)
 
--- src/readers.rt: facts[4 * v + 1] = cat[8 * v + 2];
+-- src/readers.rt: facts[4 * v + 1] = cat[8 * v + 2] + 4 * cat[8 * v + 7];
 shared-slice-read-facts-2 : tie.Need-shared-slice-read-facts-2 Inv-loop μ-loop
 shared-slice-read-facts-2 c = let ·args = c .before .before .before .before .before .before .before .args in
-    omega (arith, header-facts (·args .cat .now)
-    (c .before .before .before .before .before .before .before .pre .0) .size,
-    c .before .before .before .before .types .ensures, c .before .before .before .wide .ensures .0)
+    omega (
+      arith,
+      header-facts (·args .cat .now)
+          (c .before .before .before .before .before .before .before .pre .0) .size,
+      c .before .before .before .before .types .ensures,
+      c .before .before .before .wide .ensures .0,
+    )
 
+-- src/readers.rt: facts[4 * v + 1] = cat[8 * v + 2] + 4 * cat[8 * v + 7];
 mul-facts-4 : tie.Need-mul-facts-4 Inv-loop μ-loop
 mul-facts-4 c = omega (arith, c .before .before .before .wide .ensures .1)
 
+-- src/readers.rt: facts[4 * v + 1] = cat[8 * v + 2] + 4 * cat[8 * v + 7];
 add-facts-2 : tie.Need-add-facts-2 Inv-loop μ-loop
 add-facts-2 c = omega (arith, c .before .before .before .wide .ensures .1)
 
+-- src/readers.rt: facts[4 * v + 1] = cat[8 * v + 2] + 4 * cat[8 * v + 7];
 shared-slice-read-facts-3 : tie.Need-shared-slice-read-facts-3 Inv-loop μ-loop
 shared-slice-read-facts-3 c = let ·args = c .before .before .before .before .before .before .before .before .args in
-    omega (arith, header-facts (·args .cat .now)
-    (c .before .before .before .before .before .before .before .before .pre .0) .size,
-    c .before .before .before .before .before .types .ensures, c .before .before .before .before .wide .ensures .0)
+    omega (
+      arith,
+      header-facts (·args .cat .now)
+          (c .before .before .before .before .before .before .before .before .pre .0) .size,
+      c .before .before .before .before .before .types .ensures,
+      c .before .before .before .before .wide .ensures .0,
+    )
 
+-- src/readers.rt: facts[4 * v + 1] = cat[8 * v + 2] + 4 * cat[8 * v + 7];
 mul-facts-5 : tie.Need-mul-facts-5 Inv-loop μ-loop
 mul-facts-5 c = let ·args = c .before .before .before .before .before .before .before .before .args in
-    omega (arith, kind-bytes (·args .cat .now)
-    (c .before .before .before .before .before .before .before .before .pre .0)
-    (c .before .before .before .before .before .before .loop .v + 1) (omega arith)
-    (omega (arith, c .before .before .before .before .before .types .ensures,
-    c .before .before .before .before .wide .ensures .0)) .1)
+    omega (
+      arith,
+      kind-bytes (·args .cat .now)
+          (c .before .before .before .before .before .before .before .before .pre .0)
+          (c .before .before .before .before .before .before .loop .v + 1) (omega arith)
+          (omega (
+            arith,
+            c .before .before .before .before .before .types .ensures,
+            c .before .before .before .before .wide .ensures .0,
+          )) .1,
+    )
 
+-- src/readers.rt: facts[4 * v + 1] = cat[8 * v + 2] + 4 * cat[8 * v + 7];
 add-facts-3 : tie.Need-add-facts-3 Inv-loop μ-loop
 add-facts-3 c = let ·args = c .before .before .before .before .before .before .before .before .args in
-    omega (arith, kind-bytes (·args .cat .now)
-    (c .before .before .before .before .before .before .before .before .pre .0)
-    (c .before .before .before .before .before .before .loop .v + 1) (omega arith)
-    (omega (arith, c .before .before .before .before .before .types .ensures,
-    c .before .before .before .before .wide .ensures .0)) .0, kind-bytes (·args .cat .now)
-    (c .before .before .before .before .before .before .before .before .pre .0)
-    (c .before .before .before .before .before .before .loop .v + 1) (omega arith)
-    (omega (arith, c .before .before .before .before .before .types .ensures,
-    c .before .before .before .before .wide .ensures .0)) .1)
+    omega (
+      arith,
+      kind-bytes (·args .cat .now)
+          (c .before .before .before .before .before .before .before .before .pre .0)
+          (c .before .before .before .before .before .before .loop .v + 1) (omega arith)
+          (omega (
+            arith,
+            c .before .before .before .before .before .types .ensures,
+            c .before .before .before .before .wide .ensures .0,
+          )) .0,
+      kind-bytes (·args .cat .now)
+          (c .before .before .before .before .before .before .before .before .pre .0)
+          (c .before .before .before .before .before .before .loop .v + 1) (omega arith)
+          (omega (
+            arith,
+            c .before .before .before .before .before .types .ensures,
+            c .before .before .before .before .wide .ensures .0,
+          )) .1,
+    )
 
--- src/readers.rt: facts[4 * v + 1] = cat[8 * v + 2];
+-- src/readers.rt: facts[4 * v + 1] = cat[8 * v + 2] + 4 * cat[8 * v + 7];
 mul-facts-6 : tie.Need-mul-facts-6 Inv-loop μ-loop
 mul-facts-6 c = omega (arith, c .before .before .before .before .wide .ensures .1)
 
--- src/readers.rt: facts[4 * v + 1] = cat[8 * v + 2];
+-- src/readers.rt: facts[4 * v + 1] = cat[8 * v + 2] + 4 * cat[8 * v + 7];
 add-facts-4 : tie.Need-add-facts-4 Inv-loop μ-loop
 add-facts-4 c = omega (arith, c .before .before .before .before .wide .ensures .1)
 
--- src/readers.rt: facts[4 * v + 1] = cat[8 * v + 2];
+-- src/readers.rt: facts[4 * v + 1] = cat[8 * v + 2] + 4 * cat[8 * v + 7];
 element-write-facts-3 : tie.Need-element-write-facts-3 Inv-loop μ-loop
 element-write-facts-3 c = let ·args = c .before .before .before .before .before .before .before .before .args in
-    omega (arith, header-facts (·args .cat .now)
-    (c .before .before .before .before .before .before .before .before .pre .0) .types-most,
-    c .before .before .before .before .before .types .ensures, c .before .before .before .before .wide .ensures .0)
+    omega (
+      arith,
+      header-facts (·args .cat .now)
+          (c .before .before .before .before .before .before .before .before .pre .0) .types-most,
+      c .before .before .before .before .before .types .ensures,
+      c .before .before .before .before .wide .ensures .0,
+    )
 
 -- src/readers.rt: facts[4 * v + 2] = cat[8 * v + 3];
 mul-facts-7 : tie.Need-mul-facts-7 Inv-loop μ-loop
@@ -136,10 +180,13 @@ add-facts-5 c = omega (arith, c .before .before .before .before .wide .ensures .
 shared-slice-read-facts-4 : tie.Need-shared-slice-read-facts-4 Inv-loop μ-loop
 shared-slice-read-facts-4 c =
     let ·args = c .before .before .before .before .before .before .before .before .before .args in
-    omega (arith, header-facts (·args .cat .now)
-    (c .before .before .before .before .before .before .before .before .before .pre .0) .size,
-    c .before .before .before .before .before .before .types .ensures,
-    c .before .before .before .before .before .wide .ensures .0)
+    omega (
+      arith,
+      header-facts (·args .cat .now)
+          (c .before .before .before .before .before .before .before .before .before .pre .0) .size,
+      c .before .before .before .before .before .before .types .ensures,
+      c .before .before .before .before .before .wide .ensures .0,
+    )
 
 -- src/readers.rt: facts[4 * v + 2] = cat[8 * v + 3];
 mul-facts-8 : tie.Need-mul-facts-8 Inv-loop μ-loop
@@ -153,10 +200,13 @@ add-facts-6 c = omega (arith, c .before .before .before .before .before .wide .e
 element-write-facts-4 : tie.Need-element-write-facts-4 Inv-loop μ-loop
 element-write-facts-4 c =
     let ·args = c .before .before .before .before .before .before .before .before .before .args in
-    omega (arith, header-facts (·args .cat .now)
-    (c .before .before .before .before .before .before .before .before .before .pre .0) .types-most,
-    c .before .before .before .before .before .before .types .ensures,
-    c .before .before .before .before .before .wide .ensures .0)
+    omega (
+      arith,
+      header-facts (·args .cat .now)
+          (c .before .before .before .before .before .before .before .before .before .pre .0) .types-most,
+      c .before .before .before .before .before .before .types .ensures,
+      c .before .before .before .before .before .wide .ensures .0,
+    )
 
 -- src/readers.rt: facts[4 * v + 3] = cat[8 * v + 4];
 mul-facts-9 : tie.Need-mul-facts-9 Inv-loop μ-loop
@@ -170,10 +220,13 @@ add-facts-7 c = omega (arith, c .before .before .before .before .before .wide .e
 shared-slice-read-facts-5 : tie.Need-shared-slice-read-facts-5 Inv-loop μ-loop
 shared-slice-read-facts-5 c =
     let ·args = c .before .before .before .before .before .before .before .before .before .before .args in
-    omega (arith, header-facts (·args .cat .now)
-    (c .before .before .before .before .before .before .before .before .before .before .pre .0) .size,
-    c .before .before .before .before .before .before .before .types .ensures,
-    c .before .before .before .before .before .before .wide .ensures .0)
+    omega (
+      arith,
+      header-facts (·args .cat .now)
+          (c .before .before .before .before .before .before .before .before .before .before .pre .0) .size,
+      c .before .before .before .before .before .before .before .types .ensures,
+      c .before .before .before .before .before .before .wide .ensures .0,
+    )
 
 -- src/readers.rt: facts[4 * v + 3] = cat[8 * v + 4];
 mul-facts-10 : tie.Need-mul-facts-10 Inv-loop μ-loop
@@ -187,29 +240,43 @@ add-facts-8 c = omega (arith, c .before .before .before .before .before .before 
 element-write-facts-5 : tie.Need-element-write-facts-5 Inv-loop μ-loop
 element-write-facts-5 c =
     let ·args = c .before .before .before .before .before .before .before .before .before .before .args in
-    omega (arith, header-facts (·args .cat .now)
-    (c .before .before .before .before .before .before .before .before .before .before .pre .0) .types-most,
-    c .before .before .before .before .before .before .before .types .ensures,
-    c .before .before .before .before .before .before .wide .ensures .0)
+    omega (
+      arith,
+      header-facts (·args .cat .now)
+          (c .before .before .before .before .before .before .before .before .before .before .pre .0) .types-most,
+      c .before .before .before .before .before .before .before .types .ensures,
+      c .before .before .before .before .before .before .wide .ensures .0,
+    )
 
 -- src/readers.rt: while v < wide(types(cat)) {
 loop-less : tie.Need-loop-less Inv-loop μ-loop
-loop-less c = omega (arith, c .before .before .before .before .before .before .before .types .ensures,
-    c .before .before .before .before .before .before .wide .ensures .0)
+loop-less c = omega (
+  arith,
+  c .before .before .before .before .before .before .before .types .ensures,
+  c .before .before .before .before .before .before .wide .ensures .0,
+)
 
 -- src/readers.rt: while v < wide(types(cat)) {
 loop-again : tie.Need-loop-again Inv-loop μ-loop
 loop-again c =
-    let ·args = c .before .before .before .before .before .before .before .before .before .before .args in
-    (omega (arith, c .before .before .before .before .before .before .before .types .ensures,
-    c .before .before .before .before .before .before .wide .ensures .0), row-next (·args .cat .now)
-    (c .before .before .before .before .before .before .before .before .loop .facts) (·args .size)
-    (c .before .before .before .before .before .before .before .before .loop .v)
-    (c .before .before .before .before .before .before .before .before .loop .inv .1)
-    (omega (arith, header-facts (·args .cat .now)
-    (c .before .before .before .before .before .before .before .before .before .before .pre .0) .types-most,
-    c .before .before .before .before .before .before .before .types .ensures,
-    c .before .before .before .before .before .before .wide .ensures .0)))
+    let ·args = c .before .before .before .before .before .before .before .before .before .before .args in (
+      omega (
+        arith,
+        c .before .before .before .before .before .before .before .types .ensures,
+        c .before .before .before .before .before .before .wide .ensures .0,
+      ),
+      row-next (·args .cat .now)
+          (c .before .before .before .before .before .before .before .before .loop .facts) (·args .size)
+          (c .before .before .before .before .before .before .before .before .loop .v)
+          (c .before .before .before .before .before .before .before .before .loop .inv .1)
+          (omega (
+            arith,
+            header-facts (·args .cat .now)
+                (c .before .before .before .before .before .before .before .before .before .before .pre .0) .types-most,
+            c .before .before .before .before .before .before .before .types .ensures,
+            c .before .before .before .before .before .before .wide .ensures .0,
+          )),
+    )
 
 -- src/readers.rt: fn fill(cat: &[u8], size: usize, facts: &mut [u8; 132])
 returns : tie.Need-returns Inv-loop μ-loop

@@ -19,17 +19,19 @@ returns c = let ·pre = c .before .before .before .before .before .pre in
 fact-requires : tie.Need-fact-requires
 fact-requires c κs = search needs
 
+-- src/readers.rt: return true;
 returns-2 : tie.Need-returns-2
 returns-2 c = let ·pre = c .before .before .before .before .before .before .before .pre in
     let ·code-before = c .before .before .before .before .before .code-before in let ·if1 = c .before .before .if1 in
     no-key (·pre) (·code-before .ensures) (·if1 .left) (c .before .fact .result) (c .before .fact .ensures .0)
     (c .if2 .taken)
 
+-- src/readers.rt: return packed_twin(cells, facts, t, last, left);
 packed-twin-requires : tie.Need-packed-twin-requires
 packed-twin-requires c κs = let ·pre = c .before .before .before .before .before .before .before .before .pre in
     ·pre
 
--- src/readers.rt: return true;
+-- src/readers.rt: return packed_twin(cells, facts, t, last, left);
 returns-3 : tie.Need-returns-3
 returns-3 c = let ·pre = c .before .before .before .before .before .before .before .before .before .pre in
     let ·code-before = c .before .before .before .before .before .before .before .code-before in
