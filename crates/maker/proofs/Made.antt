@@ -1,6 +1,6 @@
 -- What the maker writes, and that it is a good table with no cells. Assumes nothing.
 use mathlib.Core.Path.{_≡_, refl, ap, sym, _∙_}
-use mathlib.Core.Bool.{true, false}
+use mathlib.Core.Bool.{true, false, or-true}
 use mathlib.Core.List.{[], _∷_, _++_, flatMap}
 use Prim.Native.Nat.{ℕ, _+_, _-_, _*_, _/_, _≤_}
 use native.Mathlib.Omega.{arith}
@@ -17,6 +17,7 @@ use Rattle.rules.specs.Cells.{goodListing}
 use Rattle.rules.specs.Table.{count, cellSize, cellStart, room, listing, goodRoom, goodTable, tableBytes}
 use Rattle.rules.specs.Outcome.{makeStatus, madeTable}
 use Rattle.rules.proofs.Every.{zeros-row}
+use Rattle.table_check.specs.Keys.{plainKeys, hasKeys}
 use Rattle.table_check.specs.Frame.{goodFrame, emptied}
 use Rattle.table_check.proofs.Space.{room-is}
 use Rattle.table_check.proofs.Frame.{table-frame}
@@ -113,7 +114,12 @@ module _ (cat tab : Bytes) (e : makeStatus cat tab ≡ Blank) where
   unfolding goodListing listing forestOf formed
   none = rw made-count
 
+  -- no cell, and so no key that is no value
+  keys : hasKeys cat (madeTable cat tab) ≡ true
+  unfolding hasKeys listing every
+  keys = rw made-count (or-true (plainKeys cat))
+
   -- .. and is good
   pub made-good : goodTable cat (madeTable cat tab) ≡ true
   unfolding every
-  made-good = table-frame cat (madeTable cat tab) ∙ rw (frame, none, made-count, free)
+  made-good = table-frame cat (madeTable cat tab) (made-from cat tab e .0) ∙ rw (frame, keys, none, made-count, free)

@@ -34,9 +34,13 @@ module _ {cells facts : Bytes} {left : ℕ} (f : Fits cells facts left) where
   key-in v l = omega (arith, cell-in l, f .keys v)
 
   -- the key, where the code has found the cell to begin and read the key's place
+  pub key-at : (v : ℕ) {at start long : ℕ} → at ≡ startBefore cells facts left → start ≡ fact facts v 2 → long ≡ fact facts v 3
+      → part cells (at + start) long ≡ keyBefore cells facts v left
+  unfolding keyBefore
+  key-at v e p q = rw (e, p, q)
+
   pub key-worked : (v : ℕ) {at start long : ℕ} → at ≡ startBefore cells facts left → start ≡ fact facts v 2 → long ≡ fact facts v 3
       → part cells (at + start) (at + start + long - (at + start)) ≡ keyBefore cells facts v left
-  unfolding keyBefore
   key-worked v {at} {start} {long} e p q =
       let n : at + start + long - (at + start) ≡ long = omega arith in
-      rw (n, e, p, q)
+      rw n (key-at v e p q)

@@ -3,18 +3,20 @@ use mathlib.Core.Path.{_≡_, ap, sym, _∙_}
 use mathlib.Core.Bool.{true, false, not}
 use mathlib.Core.Option.{Option, none, some}
 use mathlib.Core.List.{List}
-use Prim.Native.Nat.{ℕ, suc, _-_, _≤_}
+use Prim.Native.Nat.{ℕ, suc, _+_, _-_, _≤_}
 use native.Mathlib.Omega.{arith}
 use lib.Dec.{eqb}
-use borrow.Author.Tests.{le-ltb, eq-eqb, ne-eqb, eqb-true}
+use borrow.Author.Tests.{le-ltb, eq-eqb, ne-eqb, eqb-true, eqb-false}
 use Rattle.terms.specs.declared.Order.the-variants.{Smaller, Equal, Greater}
 use Rattle.terms.specs.Names.{code}
 use Rattle.forest.specs.Good.{on, off, is, after, both-left}
 use Rattle.forest.specs.Numbers.{range}
 use Rattle.forest.specs.Groups as Groups
 use Rattle.rules.specs.Block.{Bytes}
-use Rattle.rules.specs.Catalogue.{keyKind}
-use Rattle.rules.specs.Cells.{Segment, segment, twinOrder, keyOrder}
+use Rattle.rules.specs.Catalogue.{keyKind, keyValue}
+use Rattle.rules.specs.Cells.{Segment, segment, key, twinOrder, keyOrder}
+use Rattle.rules.proofs.Values.{value-packed}
+use Rattle.table_check.specs.Keys.{packedFollows}
 use Rattle.table_check.specs.Groups.{typ, fit, keyOk, isTwin, afterGroup, afterTwin, afterRow}
 
 -- a twin behind one of smaller, equal, greater key
@@ -43,6 +45,17 @@ module _ (cat : Bytes) (c d : Segment) where
     | off k ↦ rw (e, ne-eqb kind 0 n, k, o)
   ]
 
+  -- a twin behind one of a packed key, whose kind the row has with 4 added
+  packed-stands : (kind : ℕ) → kind ≡ keyKind cat (c .code) + 4 → (keyKind cat (c .code) ≡ 0 → ⊥) → keyValue cat (c .code) ≡ 1
+      → packedFollows kind (key cat c) (key cat d) ≡ twinOrder cat c d
+  unfolding packedFollows twinOrder keyOrder
+  packed-stands kind e n w =
+      let o = value-packed (keyValue cat (c .code)) (key cat c) (key cat d) (eq-eqb _ 1 w) in
+      elim (is (eqb (keyKind cat (c .code)) 1)) [
+        | on k ↦ rw (ne-eqb (keyKind cat (c .code)) 0 n, k, o, eq-eqb kind 5 (omega (arith, eqb-true (keyKind cat (c .code)) 1 k)))
+        | off k ↦ rw (ne-eqb (keyKind cat (c .code)) 0 n, k, o, ne-eqb kind 5 (λ z. eqb-false (keyKind cat (c .code)) 1 k (omega arith)))
+      ]
+
 module _ (cat : Bytes) (cs : List Segment) (v : ℕ) where
   -- behind the twin `last`, cell i: of another type, and by its key
   module _ (last i : ℕ) where
@@ -54,6 +67,13 @@ module _ (cat : Bytes) (cs : List Segment) (v : ℕ) where
       twin-keys : twinOrder cat (segment cs last) (segment cs i) ≡ isTwin cat cs v (some last) i
       unfolding isTwin
       twin-keys = rw (eq-eqb (typ cat cs i) v e, le-ltb (typ cat cs last) (typ cat cs i) (omega arith), eq-eqb (typ cat cs last) (typ cat cs i) (s ∙ sym e))
+
+      -- by packed keys
+      pub twin-packed : (kind : ℕ) → kind ≡ keyKind cat (code v) + 4 → (keyKind cat (code v) ≡ 0 → ⊥) → keyValue cat (code v) ≡ 1
+          → packedFollows kind (key cat (segment cs last)) (key cat (segment cs i)) ≡ isTwin cat cs v (some last) i
+      twin-packed kind h n w =
+          let k : keyKind cat (code v) ≡ keyKind cat (segment cs last .code) = ap (λ (u : ℕ). keyKind cat (code u)) (sym s) in
+          packed-stands cat (segment cs last) (segment cs i) kind (omega arith) (λ z. n (k ∙ z)) (ap (λ (u : ℕ). keyValue cat (code u)) s ∙ w) ∙ twin-keys
 
       -- any order, smaller, equal, greater
       module _ (kind : ℕ) (h : kind ≡ keyKind cat (code v)) where

@@ -2,6 +2,7 @@ pub mod Unused
 pub mod Types
 pub mod Row
 pub mod Before
+pub mod Stored
 pub mod Told
 pub mod Groups
 pub mod Rows

@@ -6,7 +6,7 @@ use lib.ListN.{length, set, replicate, length-set, length-replicate}
 use lib.Seq.{getD-set-same, getD-set-other}
 use Rattle.forest.specs.Forest.{inside, outside, side}
 use Rattle.rules.specs.Block.{Bytes, byte}
-use Rattle.rules.specs.Catalogue.{typeByte, parentOf, keyKind, keyStart, keyLength}
+use Rattle.rules.specs.Catalogue.{typeByte, parentOf, keyKind, keyStart, keyLength, keyValue}
 use Rattle.table_check.specs.Readers.{fact, Entry, Filled}
 
 -- a block of zeros
@@ -78,10 +78,11 @@ module _ (facts : Bytes) (i a b c d : ℕ) where
 module _ (cat facts : Bytes) (size v : ℕ) (f : Filled cat size v facts) (l : v < 32) where
   abbrev next : Bytes
   next =
-      four facts (4 * (v + 1)) (byte cat (8 * (v + 1))) (byte cat (8 * (v + 1) + 2)) (byte cat (8 * (v + 1) + 3)) (byte cat (8 * (v + 1) + 4))
+      four facts (4 * (v + 1)) (byte cat (8 * (v + 1))) (byte cat (8 * (v + 1) + 2) + 4 * byte cat (8 * (v + 1) + 7)) (byte cat (8 * (v + 1) + 3))
+      (byte cat (8 * (v + 1) + 4))
 
   entry-next : Entry cat next (v + 1)
-  unfolding parentOf keyKind keyStart keyLength typeByte
+  unfolding parentOf keyKind keyStart keyLength keyValue typeByte
   entry-next =
       let z : 8 * (v + 1) + 0 ≡ 8 * (v + 1) = omega arith in
       let h : 4 * (v + 1) + 4 ≤ length facts = omega (arith, f .whole) in

@@ -6,28 +6,32 @@ use native.Mathlib.Nat.{mul-le-mul-right, add-mul}
 use native.Mathlib.Omega.{arith}
 use lib.ListN.{length, take}
 use lib.Seq.{getD-take, length-take-le}
+use borrow.Author.Tests.{eq-eqb}
 use Rattle.terms.specs.declared.TypeCode.{TypeCode}
 use Rattle.terms.specs.Names.{code}
 use Rattle.forest.specs.Forest.{inside, outside, side}
 use Rattle.forest.specs.Good.{on, off, is}
 use Rattle.rules.specs.Block.{Bytes, byte, part}
-use Rattle.rules.specs.Catalogue.{types, isType, goodCatalogue}
-use Rattle.rules.specs.Cells.{segment, key}
+use Rattle.rules.specs.Packed.{isNumber}
+use Rattle.rules.specs.Catalogue.{types, keyValue, isType, goodCatalogue}
+use Rattle.rules.specs.Cells.{segment, key, keyed}
 use Rattle.rules.specs.Table.{count, listing}
+use Rattle.rules.proofs.Values.{is-packed}
 use Rattle.rules.proofs.Catalogue.{par}
 use Rattle.catalogue.proofs.Hierarchy.{header-facts, range-type, type-facts, cell-holds}
 use Rattle.cells.specs.Lent.{Sized, startOf}
 use Rattle.cells.proofs.Start.{start-made}
 use Rattle.cells.proofs.Data.{part-front, code-of, key-data, key-part, data-of}
+use Rattle.table_check.specs.Keys.{Valued}
 use Rattle.table_check.specs.Groups.{typ, fit}
 use Rattle.table_check.specs.Readers.{fact, startBefore, codeBefore, keyBefore, Filled, Fits, Told}
 use Rattle.table_check.proofs.Before.{code-in, key-in}
 use Rattle.table_check.proofs.Types.{child-is}
 
 -- what the check lends to the readers
-pub told-by : {cat tab facts : Bytes} {size n end : ℕ} → goodCatalogue cat ≡ true → Sized cat tab size → Filled cat size (types cat) facts
+pub told-by : {cat tab facts : Bytes} {size n end : ℕ} → goodCatalogue cat ≡ true → Sized cat tab size → Valued cat tab → Filled cat size (types cat) facts
     → n ≡ count tab → end ≡ startOf tab size n → Told cat tab (take end tab) facts
-told-by g s f e z = record { good = g; sized = rw (f .wide) s; cut = rw (z, e, f .wide); row = rw (f .wide) f }
+told-by g s v f e z = record { good = g; sized = rw (f .wide) s; cut = rw (z, e, f .wide); row = rw (f .wide) f; valued = v }
 
 module _ {cat tab cells facts : Bytes} (t : Told cat tab cells facts) where
   told-length : length cells ≡ startOf tab (byte facts 0) (count tab)
@@ -116,6 +120,16 @@ module _ {cat tab cells facts : Bytes} (t : Told cat tab cells facts) where
           ∙ ap (part tab k) (sym n)
           ∙ data-of (key-data (t .sized) (t .good) at-in c h (y .start) (y .long)) (startBefore cells facts left) told-start
           ∙ key-part (t .sized) (t .good) at-in c h (y .start) (y .long)
+
+      -- which is a number where it is packed
+      pub told-number : (v : ℕ) → 1 ≤ v → v ≤ types cat → typ cat (listing cat tab) at ≡ v → keyValue cat (code v) ≡ 1
+          → isNumber (keyBefore cells facts v left) ≡ true
+      unfolding keyed
+      told-number v a b e w =
+          let z : keyValue cat (segment (listing cat tab) at .code) ≡ 1 = ap (λ (u : ℕ). keyValue cat (code u)) e ∙ w in
+          ap isNumber (told-key v a b e)
+          ∙ sym (is-packed (keyValue cat (segment (listing cat tab) at .code)) (key cat (segment (listing cat tab) at)) (eq-eqb _ 1 z))
+          ∙ t .valued at at-in (range-type cat (segment (listing cat tab) at .code) (omega arith) (omega arith))
 
   -- a code that the row gives the parent p is a type beneath p; one that it gives another, or that it has no place for, is none
   pub told-child : (p u : ℕ) → 1 ≤ p → 1 ≤ u → fact facts u 0 ≡ p → (u ≤ types cat) × (par cat u ≡ p)

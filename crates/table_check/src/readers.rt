@@ -88,10 +88,10 @@ fn key_order(cells: &[u8], facts: &[u8; 132], t: TypeIndex, last: usize, left: u
 // greater.
 fn packed_twin(cells: &[u8], facts: &[u8; 132], t: TypeIndex, last: usize, left: usize) -> bool
     requires { ⌜ Follows (now cells) (now facts) (t .0) last left ⌝ }
-    ensures { λ r. ⌜ isNumber (keyBefore (now (cells .entry)) (now (facts .entry)) (t .0) last) ≡ true
+    ensures { λ r. ⌜ (isNumber (keyBefore (now (cells .entry)) (now (facts .entry)) (t .0) last) ≡ true
         → isNumber (keyBefore (now (cells .entry)) (now (facts .entry)) (t .0) left) ≡ true
         → r ≡ packedFollows (fact (now (facts .entry)) (t .0) 1) (keyBefore (now (cells .entry)) (now (facts .entry)) (t .0) last)
-        (keyBefore (now (cells .entry)) (now (facts .entry)) (t .0) left) ⌝ }
+        (keyBefore (now (cells .entry)) (now (facts .entry)) (t .0) left)) ⌝ }
 {
     let from = fact(facts, t, 2);
     let long = fact(facts, t, 3);

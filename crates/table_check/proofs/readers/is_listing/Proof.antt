@@ -59,8 +59,8 @@ group-requires c κs =
     let ·code-at = c .before .before .before .before .before .before .before .code-at in
     let ·if2 = c .before .before .before .before .before .if2 in
     listing-headed (·args .cat .now) (·args .tab .now) (·pre .0) (·count .result) (·count .ensures .0) (·if1 .left)
-    (told-by (·pre .0) (·pre .1) (·fill .ensures) (·count .ensures .0) (·start-of .ensures .0)) (·code-at .result)
-    (·code-at .ensures) (·if2 .left)
+    (told-by (·pre .0) (·pre .1) (·pre .2) (·fill .ensures) (·count .ensures .0) (·start-of .ensures .0))
+    (·code-at .result) (·code-at .ensures) (·if2 .left)
 
 -- src/readers.rt: pub(crate) fn is_listing(cat: &[u8], tab: &[u8], size: usize) -> bool
 returns-3 : tie.Need-returns-3
@@ -72,7 +72,8 @@ returns-3 c =
     let ·if1 = c .before .before .before .before .before .before .before .before .before .if1 in
     let ·fill = c .before .before .before .before .fill in let ·start-of = c .before .before .before .start-of in
     listing-read (·args .cat .now) (·args .tab .now) (·pre .0) (·count .result) (·count .ensures .0) (·if1 .left)
-    (told-by (·pre .0) (·pre .1) (·fill .ensures) (·count .ensures .0) (·start-of .ensures .0)) (c .group .ensures .1)
+    (told-by (·pre .0) (·pre .1) (·pre .2) (·fill .ensures) (·count .ensures .0) (·start-of .ensures .0))
+    (c .group .ensures .1)
 
 pub is-listing-spec : {M : Type 1} → statement M
 is-listing-spec =
