@@ -55,8 +55,8 @@ pub fn is_keyed(cat: &[u8], t: TypeCode, area: &[u8]) -> bool
 // How the packed key in the area, from byte i on, stands to the one in the table from byte j on.
 fn packed_order_with(area: &[u8], i: usize, tab: &[u8], j: usize, long: usize) -> Order
     requires { ⌜ (i + long ≤ length (now area)) × (j + long ≤ length (now tab)) ⌝ }
-    ensures { λ r. ⌜ isNumber (part (now (area .entry)) i long) ≡ true → isNumber (part (now (tab .entry)) j long) ≡ true
-        → r ≡ packedOrder (part (now (area .entry)) i long) (part (now (tab .entry)) j long) ⌝ }
+    ensures { λ r. ⌜ (isNumber (part (now (area .entry)) i long) ≡ true → isNumber (part (now (tab .entry)) j long) ≡ true
+        → r ≡ packedOrder (part (now (area .entry)) i long) (part (now (tab .entry)) j long)) ⌝ }
 {
     if holds_at(Operator::Lt, area, i, tab, j, long) {
         return Order::Smaller;

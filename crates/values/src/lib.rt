@@ -94,7 +94,7 @@ fn digit_order(n: u8, m: u8) -> Order
 // How the digits of a stand to those of b: the bytes before the last decide, then the digit in the last.
 fn digits_order(a: &[u8], b: &[u8]) -> Order
     requires { ⌜ length (now a) ≡ length (now b) ⌝ }
-    ensures { λ r. ⌜ Numbers (now (a .entry)) (now (b .entry)) → r ≡ numberOrder (magnitude (now (a .entry))) (magnitude (now (b .entry))) ⌝ }
+    ensures { λ r. ⌜ (Numbers (now (a .entry)) (now (b .entry)) → r ≡ numberOrder (magnitude (now (a .entry))) (magnitude (now (b .entry)))) ⌝ }
 {
     if a.len() == 0 {
         return Order::Equal;
@@ -123,7 +123,7 @@ fn unless_zeros(a: &[u8], b: &[u8], o: Order) -> Order
 // R88: below zero the greater digits are the smaller value, and both zeros are one.
 fn packed_order(a: &[u8], b: &[u8]) -> Order
     requires { ⌜ length (now a) ≡ length (now b) ⌝ }
-    ensures { λ r. ⌜ Numbers (now (a .entry)) (now (b .entry)) → r ≡ packedOrder (now (a .entry)) (now (b .entry)) ⌝ }
+    ensures { λ r. ⌜ (Numbers (now (a .entry)) (now (b .entry)) → r ≡ packedOrder (now (a .entry)) (now (b .entry))) ⌝ }
 {
     if is_minus(a) {
         if is_minus(b) {
@@ -141,8 +141,8 @@ fn packed_order(a: &[u8], b: &[u8]) -> Order
 // over and not parts of the slices: then a caller that meets no packed value keeps nothing for this call.
 pub fn holds_at(o: Operator, a: &[u8], i: usize, b: &[u8], j: usize, long: usize) -> bool
     requires { ⌜ (i + long ≤ length (now a)) × (j + long ≤ length (now b)) ⌝ }
-    ensures { λ r. ⌜ isNumber (part (now (b .entry)) j long) ≡ true
-        → r ≡ tested 1 o (part (now (a .entry)) i long) (part (now (b .entry)) j long) ⌝ }
+    ensures { λ r. ⌜ (isNumber (part (now (b .entry)) j long) ≡ true
+        → r ≡ tested 1 o (part (now (a .entry)) i long) (part (now (b .entry)) j long)) ⌝ }
 {
     let x = i + long;
     let y = j + long;
