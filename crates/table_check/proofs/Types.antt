@@ -10,7 +10,8 @@ use Rattle.terms.specs.Choice.{pick}
 use Rattle.terms.specs.Names.{code}
 use Rattle.forest.specs.Good.{on, off, is, both-left, both-right}
 use Rattle.rules.specs.Block.{Bytes, byte, part, zeros}
-use Rattle.rules.specs.Catalogue.{types, typeByte, lengthOf, keyKind, keyStart, keyLength, keyValue, isType, goodSpan, goodValue, goodKey, goodParent, goodType, goodCatalogue}
+use Rattle.rules.specs.Catalogue.{types, typeByte, lengthOf, keyKind, keyStart, keyLength, keyValue, isType}
+use Rattle.rules.specs.Catalogue.{goodSpan, goodValue, goodKey, goodParent, goodType, goodCatalogue}
 use Rattle.rules.specs.Cells.{Segment, typeNumber, isChild}
 use Rattle.rules.proofs.Catalogue.{par, good-type}
 use Rattle.rules.proofs.Joined.{three, six}
