@@ -43,7 +43,8 @@ enum umbristal_statuses {
     UMBRISTAL_DJ = 29,   /* REPL or DLET without hold */
     UMBRISTAL_DA = 30,   /* REPL changes a key byte */
     UMBRISTAL_II = 31,   /* ISRT: a twin has this unique key */
-    UMBRISTAL_FX = 32    /* ISRT: no cell is free */
+    UMBRISTAL_FX = 32,   /* ISRT: no cell is free */
+    UMBRISTAL_PD = 33    /* ISRT: a packed key that is no number */
 };
 
 /* The faults of DBD statements, by number (R78); beside them umbristal_dbd_read answers UMBRISTAL_CX and UMBRISTAL_AB. */

@@ -100,6 +100,7 @@
        78  UM-DA                    VALUE 30.
        78  UM-II                    VALUE 31.
        78  UM-FX                    VALUE 32.
+       78  UM-PD                    VALUE 33.
       *> The operators of an argument (R25).
        78  UM-OP-NONE               VALUE 0.
        78  UM-OP-EQ                 VALUE 1.

@@ -11,7 +11,7 @@ mod changes;
 
 use changes::{Change, CHANGES};
 
-const MODULES: [&str; 11] = [
+const MODULES: [&str; 12] = [
     "lib",
     "arguments",
     "calls",
@@ -23,6 +23,7 @@ const MODULES: [&str; 11] = [
     "position",
     "reports",
     "status",
+    "values",
 ];
 
 fn main() {

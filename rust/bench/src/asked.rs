@@ -2,7 +2,7 @@
 
 use crate::calls::Measured;
 use crate::sample::{serial, LENGTH};
-use crate::shapes::{data, Blocks};
+use crate::shapes::Blocks;
 use crate::work::{cell_numbers, Contender, Done};
 use face::number::{DLET, GN, GNP, GU, ISRT};
 use face::status::{AD, GB};
@@ -122,7 +122,7 @@ impl<'b, F: Measured> Session<'b, F> {
     }
 
     fn insert_delete(&mut self, list: &[u8], cell: usize) -> Done {
-        let mut area = data(cell);
+        let mut area = self.blocks.data(cell);
         if self.sound(ISRT, black_box(list), &mut area) as u8 >= GB {
             return Done { count: 0, sum: 0 };
         }

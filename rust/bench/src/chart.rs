@@ -16,7 +16,7 @@ const HEAD: f64 = 60.0;
 const LEGEND: f64 = 44.0;
 
 /// The rows of the worst tables that share a panel.
-const TOGETHER: [(&str, &[Row]); 4] = [
+const TOGETHER: [(&str, &[Row]); 5] = [
     (
         "one root with n − 1 children, a step",
         &[Row::ChildrenNext, Row::ChildrenWithin, Row::ChildrenTested],
@@ -35,14 +35,15 @@ const TOGETHER: [(&str, &[Row]); 4] = [
         &[Row::PathsUnique, Row::DeepWithin, Row::DeepTested],
     ),
     (
-        "twins, a pair or a step; checks, whole",
+        "twins, a pair or a step",
         &[
             Row::TwinsInsert,
             Row::TwinsNext,
-            Row::PathsCheck,
-            Row::TypesCheck,
+            Row::PackedInsert,
+            Row::PackedNext,
         ],
     ),
+    ("checks, whole", &[Row::PathsCheck, Row::TypesCheck]),
 ];
 
 /// benchmark.svg.

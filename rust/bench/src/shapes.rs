@@ -29,17 +29,20 @@ pub enum Shape {
     Deep,
     /// Roots alone, and one cell free: a new one is held against all the others.
     Twins,
+    /// The same with packed keys of the longest length.
+    Packed,
     /// Groups of all the types that a catalogue can have.
     Types,
 }
 
 impl Shape {
-    pub const ALL: [Shape; 6] = [
+    pub const ALL: [Shape; 7] = [
         Shape::Children,
         Shape::Parents,
         Shape::Paths,
         Shape::Deep,
         Shape::Twins,
+        Shape::Packed,
         Shape::Types,
     ];
 
@@ -52,7 +55,7 @@ impl Shape {
             Shape::Parents => (vec![0, ROOT, PARENT], 1 + (size - 1) / 2 * 2),
             Shape::Paths => (chain.collect(), size / deep * deep),
             Shape::Deep => (chain.collect(), size),
-            Shape::Twins => (vec![0], size - 1),
+            Shape::Twins | Shape::Packed => (vec![0], size - 1),
             Shape::Types => (chain.chain([LEVELS - 1; BESIDE]).collect(), size),
         };
         let code = |cell: usize| match self {
@@ -61,10 +64,34 @@ impl Shape {
             Shape::Parents => 3 - cell % 2,
             Shape::Paths => 1 + cell % deep,
             Shape::Deep => 1 + cell.min(deep - 1),
-            Shape::Twins => 1,
+            Shape::Twins | Shape::Packed => 1,
             Shape::Types => 1 + cell % TYPES,
         };
-        Blocks::new(&parents, size, (0..used).map(|cell| code(cell) as u8))
+        let key = match self {
+            Shape::Packed => Key::Packed,
+            _ => Key::Bytes,
+        };
+        Blocks::new(&parents, key, size, (0..used).map(|cell| code(cell) as u8))
+    }
+}
+
+/// How a cell has its number as key.
+#[derive(Clone, Copy, PartialEq, Eq, Debug)]
+enum Key {
+    Bytes,
+    Packed,
+}
+
+/// The bytes of a packed key.
+const PACKED: usize = 16;
+
+impl Key {
+    /// Length and value type, as an entry has them.
+    fn entry(self) -> (u8, u8) {
+        match self {
+            Key::Bytes => (2, 0),
+            Key::Packed => (PACKED as u8, 1),
+        }
     }
 }
 
@@ -74,20 +101,22 @@ pub struct Blocks {
     pub table: Vec<u8>,
     /// The type of each cell that is in use.
     pub codes: Vec<u8>,
+    key: Key,
 }
 
 impl Blocks {
-    /// Types of these parents, each with its first two bytes as key and as field. A cell has its number there, and at
+    /// Types of these parents, each with its first bytes as key and as field. A cell has its number there, and at
     /// its end as in the sample.
-    fn new(parents: &[u8], size: usize, codes: impl Iterator<Item = u8>) -> Blocks {
+    fn new(parents: &[u8], key: Key, size: usize, codes: impl Iterator<Item = u8>) -> Blocks {
+        let (long, value) = key.entry();
         let types = parents.len() as u8;
         let mut catalogue = b"HDC\x00\x01".to_vec();
         catalogue.extend([types, types, 0]);
         for &parent in parents {
-            catalogue.extend([parent, LENGTH as u8, MULTIPLE, 1, 2, 0, 0, 0]);
+            catalogue.extend([parent, LENGTH as u8, MULTIPLE, 1, long, 0, 0, value]);
         }
         for code in 1..=types {
-            catalogue.extend([code, 1, 2, 0]);
+            catalogue.extend([code, 1, long, value]);
         }
         let codes: Vec<u8> = codes.collect();
         let mut table = b"HDT\x00\x01".to_vec();
@@ -95,14 +124,20 @@ impl Blocks {
         table.extend((codes.len() as u16).to_be_bytes());
         for (cell, &code) in codes.iter().enumerate() {
             table.push(code);
-            table.extend(data(cell));
+            table.extend(data(key, cell));
         }
         table.resize(8 + size * CELL, 0);
         Blocks {
             catalogue,
             table,
             codes,
+            key,
         }
+    }
+
+    /// The data of a cell.
+    pub fn data(&self, cell: usize) -> [u8; LENGTH] {
+        data(self.key, cell)
     }
 
     /// The last cell of a type.
@@ -117,7 +152,7 @@ impl Blocks {
         let found = cells.filter(|(_, &other)| other == code);
         found.fold(Done { count: 0, sum: 0 }, |done, (cell, _)| Done {
             count: done.count + 1,
-            sum: done.sum + serial(&data(cell)),
+            sum: done.sum + serial(&self.data(cell)),
         })
     }
 }
@@ -125,13 +160,32 @@ impl Blocks {
 /// The key kind in which twins may have the same key.
 const MULTIPLE: u8 = 2;
 
-/// The data of a cell.
-pub fn data(cell: usize) -> [u8; LENGTH] {
+fn data(key: Key, cell: usize) -> [u8; LENGTH] {
     let mut data = [b'.'; LENGTH];
     let number = (cell as u16).to_be_bytes();
-    data[..2].copy_from_slice(&number);
+    match key {
+        Key::Bytes => data[..2].copy_from_slice(&number),
+        Key::Packed => data[..PACKED].copy_from_slice(&packed(cell)),
+    }
     data[LENGTH - 2..].copy_from_slice(&number);
     data
+}
+
+/// A number in packed decimal, with a plus.
+fn packed(number: usize) -> [u8; PACKED] {
+    let mut bytes = [0; PACKED];
+    let mut left = number;
+    let mut digit = || {
+        let last = left % 10;
+        left /= 10;
+        last as u8
+    };
+    let (last, front) = bytes.split_last_mut().expect("there are some");
+    *last = digit() << 4 | 0xC;
+    for byte in front.iter_mut().rev() {
+        *byte = digit() | digit() << 4;
+    }
+    bytes
 }
 
 /// An argument that asks for a type alone.
@@ -142,6 +196,11 @@ pub fn any(code: u8) -> Vec<u8> {
 /// An argument with a test that every segment of the type passes.
 pub fn tested(code: u8) -> Vec<u8> {
     vec![code, 6, code, 0, 0]
+}
+
+/// The same on a packed field.
+pub fn tested_packed(code: u8) -> Vec<u8> {
+    [&[code, 6, code], &packed(0)[..]].concat()
 }
 
 /// An argument with a test that the segment in this cell passes, and no other.

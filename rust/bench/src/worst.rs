@@ -1,7 +1,8 @@
 //! What is asked of the worst tables, and what must come out by their shape.
 
 use crate::asked::{Asked, Way};
-use crate::shapes::{any, exactly, tested, Blocks, Shape, CHILD, GRANDCHILD, LEVELS, PARENT, ROOT};
+use crate::shapes::{any, exactly, tested, tested_packed, Blocks, Shape};
+use crate::shapes::{CHILD, GRANDCHILD, LEVELS, PARENT, ROOT};
 use crate::work::Done;
 
 /// One row of the worst tables.
@@ -20,11 +21,13 @@ pub enum Row {
     DeepJoined,
     TwinsInsert,
     TwinsNext,
+    PackedInsert,
+    PackedNext,
     TypesCheck,
 }
 
 impl Row {
-    pub const ALL: [Row; 14] = [
+    pub const ALL: [Row; 16] = [
         Row::ChildrenNext,
         Row::ChildrenWithin,
         Row::ChildrenTested,
@@ -38,6 +41,8 @@ impl Row {
         Row::DeepJoined,
         Row::TwinsInsert,
         Row::TwinsNext,
+        Row::PackedInsert,
+        Row::PackedNext,
         Row::TypesCheck,
     ];
 
@@ -57,6 +62,8 @@ impl Row {
             Row::DeepJoined => "level 15: joined report, 14 + 1 arguments",
             Row::TwinsInsert => "twins: ISRT + DLET at the end",
             Row::TwinsNext => "twins: GN [root tested]",
+            Row::PackedInsert => "packed twins: ISRT + DLET at the end",
+            Row::PackedNext => "packed twins: GN [root tested]",
             Row::TypesCheck => "32 types: table check",
         }
     }
@@ -65,7 +72,7 @@ impl Row {
     pub fn counted(self) -> &'static str {
         match self {
             Row::PathsUnique => "a call",
-            Row::TwinsInsert => "a pair",
+            Row::TwinsInsert | Row::PackedInsert => "a pair",
             _ if self.is_whole() => "whole",
             _ => "a step",
         }
@@ -79,6 +86,7 @@ impl Row {
             Row::ChildrenNext | Row::ChildrenWithin | Row::ChildrenTested => false,
             Row::PathsUnique | Row::DeepWithin | Row::DeepTested => false,
             Row::TwinsInsert | Row::TwinsNext => false,
+            Row::PackedInsert | Row::PackedNext => false,
         }
     }
 
@@ -90,6 +98,7 @@ impl Row {
             Row::PathsUnique | Row::PathsPlain | Row::PathsCheck => Shape::Paths,
             Row::DeepWithin | Row::DeepTested | Row::DeepJoined => Shape::Deep,
             Row::TwinsInsert | Row::TwinsNext => Shape::Twins,
+            Row::PackedInsert | Row::PackedNext => Shape::Packed,
             Row::TypesCheck => Shape::Types,
         }
     }
@@ -111,8 +120,9 @@ impl Row {
             Row::DeepWithin => Asked::Within(any(ROOT), any(LEVELS)),
             Row::DeepTested => Asked::Within(any(ROOT), all_tested(2..LEVELS + 1)),
             Row::DeepJoined => Asked::Report(Way::Joined, all_tested(1..LEVELS), tested(LEVELS)),
-            Row::TwinsInsert => Asked::Insert(any(ROOT), blocks.codes.len()),
+            Row::TwinsInsert | Row::PackedInsert => Asked::Insert(any(ROOT), blocks.codes.len()),
             Row::TwinsNext => Asked::Next(tested(ROOT)),
+            Row::PackedNext => Asked::Next(tested_packed(ROOT)),
         }
     }
 
@@ -126,8 +136,8 @@ impl Row {
             Row::PathsPlain | Row::DeepWithin => blocks.every(LEVELS),
             Row::DeepTested | Row::DeepJoined => blocks.every(LEVELS),
             Row::PathsCheck | Row::TypesCheck => one(0),
-            Row::TwinsInsert => one(blocks.codes.len()),
-            Row::TwinsNext => blocks.every(ROOT),
+            Row::TwinsInsert | Row::PackedInsert => one(blocks.codes.len()),
+            Row::TwinsNext | Row::PackedNext => blocks.every(ROOT),
         }
     }
 }

@@ -1,12 +1,13 @@
 //! Damage to blocks: most of it makes them bad, some of it leaves them sound.
 
 use crate::dice::Dice;
+use crate::packed;
 use crate::table::Base;
 
 /// A catalogue with something done to it.
 pub fn catalogue(dice: &mut Dice, base: &Base) -> Vec<u8> {
     let mut block = base.catalogue.clone();
-    match dice.below(9) {
+    match dice.below(12) {
         0 => flip(dice, &mut block),
         1 => cut(dice, &mut block),
         2 => extend(dice, &mut block),
@@ -25,6 +26,25 @@ pub fn catalogue(dice: &mut Dice, base: &Base) -> Vec<u8> {
             // A byte of an entry set to a telling value.
             let byte = dice.between(8, block.len() - 1);
             block[byte] = *dice.pick(&[0, 1, 2, 3, 14, 15, 120, 121, 255]);
+        }
+        9 => {
+            // The value type of a key, or a zero before it.
+            let entry = 8 + 8 * dice.below(base.plan.types.len());
+            let byte = *dice.pick(&[5, 6, 7, 7, 7]);
+            block[entry + byte] = *dice.pick(&[0, 1, 1, 2, 255]);
+        }
+        10 if !base.plan.fields.is_empty() => {
+            let fields = 8 + 8 * base.plan.types.len();
+            let entry = fields + 4 * dice.below(base.plan.fields.len());
+            block[entry + 3] = *dice.pick(&[0, 1, 1, 2, 255]);
+        }
+        11 => {
+            // A packed key of about the longest length.
+            let entry = 8 + 8 * dice.below(base.plan.types.len());
+            let length = dice.between(15, 17) as u8;
+            block[entry + 1] = 20;
+            block[entry + 2..entry + 5].copy_from_slice(&[1, 1, length]);
+            block[entry + 7] = 1;
         }
         5 => swap_rows(dice, &mut block[8..8 + 8 * base.plan.types.len()], 8),
         6 if !base.plan.fields.is_empty() => {
@@ -45,7 +65,7 @@ pub fn table(dice: &mut Dice, base: &Base) -> Vec<u8> {
     let mut block = base.table.clone();
     let size = base.plan.cell_size();
     let (count, capacity) = (base.count(), base.capacity());
-    match dice.below(13) {
+    match dice.below(16) {
         0 => flip(dice, &mut block),
         1 => cut(dice, &mut block),
         2 => extend(dice, &mut block),
@@ -86,6 +106,7 @@ pub fn table(dice: &mut Dice, base: &Base) -> Vec<u8> {
             let byte = dice.between(8 + count * size, block.len() - 1);
             block[byte] = 1;
         }
+        13..=15 if has_packed_key(base) => retouch_cell(dice, base, &mut block),
         11 => {
             // Whole cells more or less.
             let cells = dice.between(1, 2) * size;
@@ -105,6 +126,35 @@ pub fn table(dice: &mut Dice, base: &Base) -> Vec<u8> {
         }
     }
     block
+}
+
+fn packed_cells(base: &Base) -> Vec<usize> {
+    let is_packed = |&cell: &usize| base.plan.of(base.type_at(cell)).key_packed;
+    (0..base.count()).filter(is_packed).collect()
+}
+
+fn has_packed_key(base: &Base) -> bool {
+    !packed_cells(base).is_empty()
+}
+
+/// A packed key put in other bytes, spoilt, or made one of another cell's value.
+fn retouch_cell(dice: &mut Dice, base: &Base, block: &mut [u8]) {
+    let cells = packed_cells(base);
+    let cell = *dice.pick(&cells);
+    let type_code = base.type_at(cell);
+    let span = base.plan.of(type_code).key();
+    let other = *dice.pick(&cells);
+    let start = 8 + cell * base.plan.cell_size() + 1;
+    let key = &mut block[start..][span.clone()];
+    match dice.below(4) {
+        0 => packed::disguise(dice, key),
+        1 => packed::spoil(dice, key),
+        _ if base.type_at(other) == type_code => {
+            key.copy_from_slice(&base.data_at(other)[span]);
+            packed::disguise(dice, key);
+        }
+        _ => key.copy_from_slice(&packed::draw(dice, span.len(), false)),
+    }
 }
 
 fn flip(dice: &mut Dice, block: &mut [u8]) {

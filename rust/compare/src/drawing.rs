@@ -1,6 +1,8 @@
 //! Positions, lists, areas and call numbers, good and bad.
 
 use crate::dice::Dice;
+use crate::packed;
+use crate::plan::Plan;
 use crate::table::Base;
 use face::number::{DLET, GU, ISRT, REPL};
 
@@ -164,14 +166,19 @@ fn word(dice: &mut Dice, base: &Base, type_code: u8, data: Option<&[u8]>) -> Wor
     }
     let number = *dice.pick(&fields);
     let field = base.plan.field(number);
-    let first = usize::from(field.start) - 1;
-    let length = usize::from(field.length);
-    let (operator, value) = match data {
-        Some(data) if dice.percent(75) => {
+    let found = data
+        .map(|data| &data[field.span()])
+        .filter(|found| !field.packed || packed::is_number(found));
+    let (operator, value) = match found {
+        Some(found) if dice.percent(75) => {
             let operator = *dice.pick(&[1, 1, 1, 4, 6, 2, 3, 5]);
-            (operator, data[first..first + length].to_vec())
+            let mut value = found.to_vec();
+            if field.packed {
+                packed::disguise(dice, &mut value);
+            }
+            (operator, value)
         }
-        _ => (dice.between(1, 6) as u8, base.draw_data(dice, length)),
+        _ => (dice.between(1, 6) as u8, base.draw_value(dice, field)),
     };
     Word {
         type_code,
@@ -224,9 +231,13 @@ pub fn loosen_last(dice: &mut Dice, base: &Base, words: &mut Vec<Word>) {
     }
 }
 
-/// A list with a fault at some place, or cut, or made of chance.
+/// A list with a fault at some place, or cut, or made of chance. A packed value that is no number is a fault too, and
+/// often comes with another one, before it or behind it.
 pub fn faulty_list(dice: &mut Dice, base: &Base) -> Vec<u8> {
     let mut words = words(dice, base);
+    if dice.percent(40) && spoil_value(dice, &base.plan, &mut words) && dice.percent(50) {
+        return list_of(&words);
+    }
     let place = dice.below(words.len());
     let types = base.plan.types.len();
     let fields = base.plan.fields.len();
@@ -261,6 +272,38 @@ pub fn faulty_list(dice: &mut Dice, base: &Base) -> Vec<u8> {
     list_of(&words)
 }
 
+/// Makes one of the packed values no number, if there is one.
+fn spoil_value(dice: &mut Dice, plan: &Plan, words: &mut [Word]) -> bool {
+    let mut packed: Vec<&mut Word> = words
+        .iter_mut()
+        .filter(|word| word.operator != 0 && plan.field(word.field).packed)
+        .collect();
+    let place = dice.below(packed.len());
+    let Some(word) = packed.get_mut(place) else {
+        return false;
+    };
+    packed::spoil(dice, &mut word.value);
+    true
+}
+
+/// The type of the last argument of a list, unless one before it cannot be read.
+pub fn last_type(plan: &Plan, list: &[u8]) -> Option<u8> {
+    let (&[type_code, operator], rest) = list.split_first_chunk()?;
+    plan.types.get(usize::from(type_code).checked_sub(1)?)?;
+    let behind = match operator {
+        0 => rest,
+        _ => {
+            let (&number, value) = rest.split_first()?;
+            let field = plan.fields.get(usize::from(number).checked_sub(1)?)?;
+            value.get(field.span().len()..)?
+        }
+    };
+    match behind {
+        [] => Some(type_code),
+        _ => last_type(plan, behind),
+    }
+}
+
 /// A list for a call: mostly sound.
 pub fn list(dice: &mut Dice, base: &Base, number: u8) -> Vec<u8> {
     if dice.percent(12) {
@@ -271,8 +314,8 @@ pub fn list(dice: &mut Dice, base: &Base, number: u8) -> Vec<u8> {
 }
 
 /// An area: exact, long or too short. What stands in it is data of the table at times, so that REPL finds its
-/// key and ISRT its twin.
-pub fn area(dice: &mut Dice, base: &Base, position: &[u8]) -> Vec<u8> {
+/// key and ISRT its twin, and at times data for the type that the list ends with.
+pub fn area(dice: &mut Dice, base: &Base, position: &[u8], list: &[u8]) -> Vec<u8> {
     let exact = base.plan.cell_size() - 1;
     let length = match dice.weighted(&[45, 43, 6, 3, 3]) {
         0 => exact,
@@ -282,19 +325,44 @@ pub fn area(dice: &mut Dice, base: &Base, position: &[u8]) -> Vec<u8> {
         _ => dice.below(exact),
     };
     let mut area = base.draw_data(dice, length);
+    let named = last_type(&base.plan, list);
+    if let Some(type_code) = named {
+        overlay(&mut area, &base.draw_segment(dice, type_code));
+    }
     if base.count() > 0 && dice.percent(60) {
         let cell = match placed_on(position) {
             Some(cell) if cell < base.count() && dice.percent(80) => cell,
             _ => dice.below(base.count()),
         };
-        let data = base.data_at(cell);
-        let shared = data.len().min(length);
-        area[..shared].copy_from_slice(&data[..shared]);
+        let shared = overlay(&mut area, base.data_at(cell));
         if shared > 0 && dice.percent(50) {
             area[dice.below(shared)] = *dice.pick(&base.alphabet);
         }
     }
+    let held = placed_on(position).filter(|&cell| cell < base.count());
+    if let Some(type_code) = named.or(held.map(|cell| base.type_at(cell))) {
+        retouch_key(dice, &base.plan, type_code, &mut area);
+    }
     area
+}
+
+/// Lays data over the front of an area, as much of it as there is room for, and tells how much.
+pub fn overlay(area: &mut [u8], data: &[u8]) -> usize {
+    let shared = data.len().min(area.len());
+    area[..shared].copy_from_slice(&data[..shared]);
+    shared
+}
+
+/// Does something to a packed key at times: other bytes of the same value, or no number.
+pub fn retouch_key(dice: &mut Dice, plan: &Plan, type_code: u8, area: &mut [u8]) {
+    let plan = plan.of(type_code);
+    if let (true, Some(key)) = (plan.key_packed, area.get_mut(plan.key())) {
+        match dice.weighted(&[55, 25, 20]) {
+            0 => {}
+            1 => packed::disguise(dice, key),
+            _ => packed::spoil(dice, key),
+        }
+    }
 }
 
 /// The cell a position block says it is on.

@@ -10,6 +10,7 @@ pub mod damage;
 pub mod dbd;
 pub mod dice;
 pub mod drawing;
+pub mod packed;
 pub mod plan;
 pub mod scenarios;
 pub mod table;

@@ -1,6 +1,9 @@
 //! Catalogues: how they are drawn, and what the drawing of tables and lists needs to know of them.
 
 use crate::dice::Dice;
+use crate::packed;
+use judge::values::ValueType;
+use std::ops::Range;
 
 #[derive(Clone, Copy, Debug)]
 pub struct TypePlan {
@@ -9,6 +12,18 @@ pub struct TypePlan {
     pub kind: u8,
     pub key_start: u8,
     pub key_length: u8,
+    pub key_packed: bool,
+}
+
+impl TypePlan {
+    /// Where the key stands in the data; without a key, nowhere.
+    pub fn key(&self) -> Range<usize> {
+        span(self.key_start, self.key_length)
+    }
+
+    pub fn key_value(&self) -> ValueType {
+        value_type(self.key_packed)
+    }
 }
 
 #[derive(Clone, Copy, Debug)]
@@ -16,6 +31,26 @@ pub struct FieldPlan {
     pub type_code: u8,
     pub start: u8,
     pub length: u8,
+    pub packed: bool,
+}
+
+impl FieldPlan {
+    /// Where it stands in the data.
+    pub fn span(&self) -> Range<usize> {
+        span(self.start, self.length)
+    }
+}
+
+fn span(start: u8, length: u8) -> Range<usize> {
+    let first = usize::from(start.max(1)) - 1;
+    first..first + usize::from(length)
+}
+
+fn value_type(packed: bool) -> ValueType {
+    match packed {
+        true => ValueType::Packed,
+        false => ValueType::Bytes,
+    }
 }
 
 #[derive(Clone, Debug)]
@@ -40,11 +75,13 @@ impl Plan {
             kind,
             key_start,
             key_length,
+            key_packed: false,
         };
         let field_plan = |(type_code, start, length)| FieldPlan {
             type_code,
             start,
             length,
+            packed: false,
         };
         Plan {
             types: types.map(type_plan).to_vec(),
@@ -63,8 +100,17 @@ impl Plan {
         plan
     }
 
-    /// A sound catalogue, small or large.
+    /// A sound catalogue, small or large; somewhat less than half of them have packed values.
     pub fn draw(dice: &mut Dice) -> Plan {
+        let mut plan = Plan::of_bytes(dice);
+        if dice.percent(45) {
+            plan.pack(dice);
+        }
+        plan
+    }
+
+    /// A sound catalogue without packed values.
+    pub fn of_bytes(dice: &mut Dice) -> Plan {
         let count = match dice.weighted(&[50, 25, 15, 10]) {
             0 => dice.between(1, 5),
             1 => dice.between(3, 10),
@@ -103,6 +149,35 @@ impl Plan {
         self.fields = (0..count).map(|_| self.draw_field(dice)).collect();
     }
 
+    /// Makes some keys and fields packed, each for itself: of a key and a field over it often both, and at times one.
+    /// Some types are first made long enough for the longest numbers.
+    fn pack(&mut self, dice: &mut Dice) {
+        for each in &mut self.types {
+            if dice.percent(12) {
+                each.length = each.length.max(dice.between(15, 20) as u8);
+                if each.kind != 0 {
+                    each.key_length = (each.length + 1 - each.key_start).min(17);
+                }
+            }
+            each.key_packed =
+                each.kind != 0 && each.key().len() <= packed::LONGEST && dice.percent(65);
+        }
+        for field in &mut self.fields {
+            let owner = self.types[usize::from(field.type_code) - 1];
+            let over_key = owner.kind != 0 && field.start == owner.key_start;
+            if over_key && dice.percent(60) {
+                field.length = owner.key_length;
+            } else if owner.length > 14 && dice.percent(50) {
+                field.length = (owner.length + 1 - field.start).min(17);
+            }
+            let likely = match over_key && owner.key_packed {
+                true => 75,
+                false => 40,
+            };
+            field.packed = field.span().len() <= packed::LONGEST && dice.percent(likely);
+        }
+    }
+
     /// A field: often just the key, so that keys are asked for, else any stretch.
     fn draw_field(&self, dice: &mut Dice) -> FieldPlan {
         let type_code = dice.between(1, self.types.len()) as u8;
@@ -116,6 +191,7 @@ impl Plan {
             type_code,
             start,
             length,
+            packed: false,
         }
     }
 
@@ -173,10 +249,11 @@ impl Plan {
             let key = [each.kind, each.key_start, each.key_length];
             block.extend([each.parent, each.length]);
             block.extend(key);
-            block.extend([0, 0, 0]);
+            block.extend([0, 0, u8::from(each.key_packed)]);
         }
         for each in &self.fields {
-            block.extend([each.type_code, each.start, each.length, 0]);
+            let packed = u8::from(each.packed);
+            block.extend([each.type_code, each.start, each.length, packed]);
         }
         block
     }
@@ -199,6 +276,7 @@ fn draw_type(dice: &mut Dice, parent: u8) -> TypePlan {
         kind,
         key_start,
         key_length,
+        key_packed: false,
     }
 }
 

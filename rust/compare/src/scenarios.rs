@@ -4,7 +4,7 @@ use crate::comparison::{Comparison, Difference, Left, Lent};
 use crate::damage;
 use crate::dice::Dice;
 use crate::drawing::{self, Word};
-use crate::plan::Plan;
+use crate::plan::{FieldPlan, Plan, TypePlan};
 use crate::table::{Base, Size};
 use face::number::{DLET, GHN, GHNP, GHU, GN, GNP, GU, ISRT, REPL};
 use face::status;
@@ -55,7 +55,7 @@ fn single(dice: &mut Dice, comparison: &mut Comparison, base: &Base) -> Played {
     let number = drawing::number(dice);
     let position = drawing::position(dice, base);
     let list = drawing::list(dice, base, number);
-    let area = drawing::area(dice, base, &position);
+    let area = drawing::area(dice, base, &position, &list);
     comparison.call(Lent {
         catalogue: &base.catalogue,
         table: &base.table,
@@ -122,24 +122,41 @@ impl Session {
         Ok(left)
     }
 
-    /// An area that is long enough.
-    fn area(&self, dice: &mut Dice) -> Vec<u8> {
+    /// An area that is long enough, with data for the type that the list ends with.
+    fn area(&self, dice: &mut Dice, list: &[u8]) -> Vec<u8> {
         let length = self.base.plan.cell_size() - 1 + dice.below(3);
-        self.base.draw_data(dice, length)
+        let mut area = self.base.draw_data(dice, length);
+        if let Some(type_code) = drawing::last_type(&self.base.plan, list) {
+            let data = self.base.draw_segment(dice, type_code);
+            drawing::overlay(&mut area, &data);
+        }
+        area
+    }
+
+    /// An area for ISRT, with something done to a packed key at times.
+    fn addition(&self, dice: &mut Dice, list: &[u8]) -> Vec<u8> {
+        let mut area = self.area(dice, list);
+        let named = drawing::last_type(&self.base.plan, list);
+        if let Some(type_code) = named.filter(|_| dice.percent(25)) {
+            drawing::retouch_key(dice, &self.base.plan, type_code, &mut area);
+        }
+        area
     }
 
     /// An area for REPL: the held data, changed outside the key, and rarely within.
     fn replacement(&self, dice: &mut Dice, cell: usize) -> Vec<u8> {
-        let mut area = self.area(dice);
         let data = self.base.data_at(cell);
-        let plan = self.base.plan.of(self.base.type_at(cell));
+        let type_code = self.base.type_at(cell);
+        let mut area = self.area(dice, &[type_code, 0]);
+        let key = self.base.plan.of(type_code).key();
         let strict = !dice.percent(15);
         for (index, &byte) in data.iter().enumerate() {
-            let first = usize::from(plan.key_start);
-            let in_key = (first..first + usize::from(plan.key_length)).contains(&(index + 1));
-            if (in_key && strict) || dice.percent(20) {
+            if (key.contains(&index) && strict) || dice.percent(20) {
                 area[index] = byte;
             }
+        }
+        if dice.percent(15) {
+            drawing::retouch_key(dice, &self.base.plan, type_code, &mut area);
         }
         area
     }
@@ -172,7 +189,7 @@ impl Session {
         };
         let area = match held {
             Some(cell) if number == REPL => self.replacement(dice, cell),
-            _ => self.area(dice),
+            _ => self.addition(dice, &list),
         };
         self.call(comparison, number, &list, &area)?;
         Ok(())
@@ -186,7 +203,7 @@ impl Session {
         }
         let number = drawing::number(dice);
         let list = drawing::list(dice, &self.base, number);
-        let area = drawing::area(dice, &self.base, &self.position);
+        let area = drawing::area(dice, &self.base, &self.position, &list);
         self.call(comparison, number, &list, &area)?;
         Ok(())
     }
@@ -236,7 +253,7 @@ fn damaged(dice: &mut Dice, comparison: &mut Comparison) -> Played {
         let number = drawing::number(dice);
         let position = drawing::position(dice, &base);
         let list = drawing::list(dice, &base, number);
-        let area = drawing::area(dice, &base, &position);
+        let area = drawing::area(dice, &base, &position, &list);
         comparison.call(Lent {
             catalogue: &catalogue,
             table: &table,
@@ -274,7 +291,28 @@ fn makers(dice: &mut Dice, comparison: &mut Comparison) -> Played {
         comparison.catalogue_check(&deep)?;
         comparison.table_make(&deep, &[0; 12])?;
     }
-    too_many(comparison)
+    too_many(comparison)?;
+    value_types(comparison)
+}
+
+/// Value types of a key and of a field, with lengths about the longest packed one, and the zeros beside them.
+fn value_types(comparison: &mut Comparison) -> Played {
+    for length in [1, 16, 17] {
+        for value in [0, 1, 2] {
+            for key in [[0, 0, 0], [0, 1, length], [1, 1, length], [2, 3, length]] {
+                for zeros in [[0, 0], [0, 1], [1, 0]] {
+                    let entry = [&[0, 20], &key[..], &zeros, &[value]].concat();
+                    let block = [b"HDC\x00\x01\x01\x00\x00", &entry[..]].concat();
+                    comparison.catalogue_check(&block)?;
+                }
+            }
+            let entry = [0, 20, 1, 1, 2, 0, 0, 0];
+            let field = [1, 2, length, value];
+            let block = [b"HDC\x00\x01\x01\x01\x00", &entry[..], &field].concat();
+            comparison.catalogue_check(&block)?;
+        }
+    }
+    Ok(())
 }
 
 /// T and F at their limits and one beyond, in blocks of the right length.
@@ -299,7 +337,7 @@ fn cuts(dice: &mut Dice, comparison: &mut Comparison) -> Played {
     let words = drawing::words(dice, &base);
     let list = drawing::list_of(&words);
     let position = drawing::good_position(dice, &base);
-    let area = drawing::area(dice, &base, &position);
+    let area = drawing::area(dice, &base, &position, &list);
     for end in 0..=list.len() {
         let number = drawing::number(dice);
         comparison.call(Lent {
@@ -377,7 +415,7 @@ fn loops(dice: &mut Dice, comparison: &mut Comparison) -> Played {
         session.position = drawing::good_position(dice, &session.base);
         let number = *dice.pick(&[GN, GHN, GNP, GHNP]);
         let list = drawing::sound_list(dice, &session.base, number);
-        let area = session.area(dice);
+        let area = session.area(dice, &list);
         let mut calls = 1;
         let last = loop {
             let status = session.call(comparison, number, &list, &area)?.status();
@@ -414,6 +452,7 @@ fn run_also(dice: &mut Dice, comparison: &mut Comparison) -> Played {
     bench(comparison)?;
     no_cells(comparison)?;
     full_delete_insert(comparison)?;
+    every_packed_byte(comparison)?;
     deepest(dice, comparison)?;
     most_cells(dice, comparison)
 }
@@ -447,6 +486,39 @@ fn full_delete_insert(comparison: &mut Comparison) -> Played {
     comparison.insist(done.status() == status::BLANK, "the freed cell is used")
 }
 
+/// Every byte there is as a packed key: those that are numbers go in, one of each value; then every byte as the value of
+/// a test, with each operator.
+fn every_packed_byte(comparison: &mut Comparison) -> Played {
+    let plan = Plan {
+        types: vec![TypePlan {
+            parent: 0,
+            length: 1,
+            kind: 1,
+            key_start: 1,
+            key_length: 1,
+            key_packed: true,
+        }],
+        fields: vec![FieldPlan {
+            type_code: 1,
+            start: 1,
+            length: 1,
+            packed: true,
+        }],
+    };
+    let table = comparison.table_make(&plan.block(), &[0; 8 + 2 * 19])?;
+    let mut session = Session::new(Base::new(plan, table, vec![0x0C]));
+    for byte in 0..=255 {
+        session.call(comparison, ISRT, &[1, 0], &[byte])?;
+    }
+    comparison.insist(session.base.count() == 19, "the numbers from -9 to 9")?;
+    for byte in 0..=255 {
+        for operator in 1..=6 {
+            session.call(comparison, GU, &[1, operator, 1, byte], &[0])?;
+        }
+    }
+    Ok(())
+}
+
 /// Level 15, filled from the top down, and level 16.
 fn deepest(dice: &mut Dice, comparison: &mut Comparison) -> Played {
     let plan = Plan::chain(dice, 15);
@@ -454,12 +526,12 @@ fn deepest(dice: &mut Dice, comparison: &mut Comparison) -> Played {
     let table = comparison.table_make(&plan.block(), &slice)?;
     let mut session = Session::new(Base::new(plan, table, vec![1, 2]));
     for level in 1..=15 {
-        let area = session.area(dice);
+        let area = session.area(dice, &[level, 0]);
         session.call(comparison, ISRT, &[level, 0], &area)?;
     }
     comparison.insist(session.base.count() == 15, "fifteen levels")?;
     for _ in 0..16 {
-        let area = session.area(dice);
+        let area = session.area(dice, &[]);
         session.call(comparison, GN, &[], &area)?;
     }
     let deeper = Plan::chain(dice, 16).block();

@@ -1,7 +1,9 @@
 //! Tables: how sound ones are drawn, and what the drawing of positions and lists reads off them.
 
 use crate::dice::Dice;
-use crate::plan::Plan;
+use crate::packed;
+use crate::plan::{FieldPlan, Plan};
+use std::ops::Range;
 
 /// A catalogue and a table, with the bytes data is drawn from. Few different bytes make equal keys, matches
 /// and refusals frequent.
@@ -133,7 +135,20 @@ impl Base {
     }
 
     pub fn draw_data(&self, dice: &mut Dice, length: usize) -> Vec<u8> {
-        (0..length).map(|_| *dice.pick(&self.alphabet)).collect()
+        draw_bytes(dice, &self.alphabet, length)
+    }
+
+    /// Data for a segment of a type.
+    pub fn draw_segment(&self, dice: &mut Dice, type_code: u8) -> Vec<u8> {
+        draw_segment(dice, &self.plan, &self.alphabet, type_code)
+    }
+
+    /// A value for a field.
+    pub fn draw_value(&self, dice: &mut Dice, field: &FieldPlan) -> Vec<u8> {
+        match field.packed {
+            true => packed::draw(dice, field.span().len(), is_wide(&self.alphabet)),
+            false => self.draw_data(dice, field.span().len()),
+        }
     }
 }
 
@@ -160,6 +175,35 @@ fn draw_alphabet(dice: &mut Dice, size: Size) -> Vec<u8> {
     (0..dice.between(2, 5))
         .map(|_| *dice.pick(&telling))
         .collect()
+}
+
+/// Whether data has many different bytes.
+fn is_wide(alphabet: &[u8]) -> bool {
+    alphabet.len() > 16
+}
+
+fn draw_bytes(dice: &mut Dice, alphabet: &[u8], length: usize) -> Vec<u8> {
+    (0..length).map(|_| *dice.pick(alphabet)).collect()
+}
+
+/// Data for a segment of a type, in most of its packed fields a number. The packed key comes last, so that it is one
+/// whatever lies over it.
+fn draw_segment(dice: &mut Dice, plan: &Plan, alphabet: &[u8], type_code: u8) -> Vec<u8> {
+    let owner = plan.of(type_code);
+    let mut data = draw_bytes(dice, alphabet, owner.length.into());
+    let mut lay = |dice: &mut Dice, span: Range<usize>| {
+        let number = packed::draw(dice, span.len(), is_wide(alphabet));
+        data[span].copy_from_slice(&number);
+    };
+    for field in &plan.fields {
+        if field.packed && field.type_code == type_code && dice.percent(80) {
+            lay(dice, field.span());
+        }
+    }
+    if owner.key_packed {
+        lay(dice, owner.key());
+    }
+    data
 }
 
 /// Grows a forest, parent first, until the budget is spent.
@@ -194,18 +238,17 @@ impl Growth<'_> {
     fn twins(&mut self, type_code: u8, count: usize) -> Vec<Vec<u8>> {
         let plan = *self.plan.of(type_code);
         let mut rows: Vec<Vec<u8>> = (0..count)
-            .map(|_| {
-                (0..plan.length)
-                    .map(|_| *self.dice.pick(self.alphabet))
-                    .collect()
-            })
+            .map(|_| draw_segment(self.dice, self.plan, self.alphabet, type_code))
             .collect();
+        let order = |one: &[u8], other: &[u8]| {
+            let value = plan.key_value();
+            let (one, other) = (&one[plan.key()], &other[plan.key()]);
+            value.value_of(one).cmp(&value.value_of(other))
+        };
         if plan.kind != 0 {
-            let first = usize::from(plan.key_start) - 1;
-            let key = first..first + usize::from(plan.key_length);
-            rows.sort_by(|one, other| one[key.clone()].cmp(&other[key.clone()]));
+            rows.sort_by(|one, other| order(one, other));
             if plan.kind == 1 {
-                rows.dedup_by(|one, other| one[key.clone()] == other[key.clone()]);
+                rows.dedup_by(|one, other| order(one, other).is_eq());
             }
         }
         rows

@@ -14,7 +14,7 @@ fn own(number: u8) -> Vec<Status> {
         number::GU | number::GHU => vec![Blank, GE, AB],
         number::GN | number::GHN => vec![Blank, GA, GK, GB, GE, AB],
         number::GNP | number::GHNP => vec![Blank, GA, GK, GE, GP, AB],
-        number::ISRT => vec![Blank, GE, AH, AB, II, FX],
+        number::ISRT => vec![Blank, GE, AH, AB, II, FX, PD],
         number::REPL => vec![Blank, AB, DJ, DA],
         _ => vec![Blank, DJ],
     }

@@ -27,7 +27,7 @@ pub mod status {
         BLANK = 0, GA = 1, GK = 2,
         GB = 10, GE = 11, GP = 12,
         CX = 20, TX = 21, PX = 22, AD = 23, AC = 24, AJ = 25, AK = 26, AH = 27, AB = 28, DJ = 29, DA = 30, II = 31,
-        FX = 32,
+        FX = 32, PD = 33,
     }
 }
 

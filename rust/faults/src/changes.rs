@@ -185,15 +185,15 @@ pub const CHANGES: &[Change] = &[
     change("catalogue", "byte 7 not tested", "&& header[7] == 0", ""),
     change(
         "catalogue",
-        "three zero bytes not tested",
-        "|| entry[5..] != [0, 0, 0]",
+        "two zero bytes not tested",
+        "|| entry[5..7] != [0, 0]",
         "",
     ),
     change(
         "catalogue",
-        "a field's zero byte not tested",
-        "(entry[3] == 0).then_some(Field",
-        "true.then_some(Field",
+        "a field's value type above 1 accepted",
+        "value: value_type(entry[3], &bytes)?",
+        "value: value_type(entry[3] & 1, &bytes)?",
     ),
     change(
         "catalogue",
@@ -235,8 +235,8 @@ pub const CHANGES: &[Change] = &[
     change(
         "forest",
         "padding not tested",
-        "all_zero(padding).then(||",
-        "true.then(||",
+        "all_zero(padding).then_some(segment)",
+        "Some(segment)",
     ),
     change(
         "forest",
@@ -316,15 +316,18 @@ pub const CHANGES: &[Change] = &[
     change(
         "arguments",
         "bytes compared with their sign",
-        "test.operator.accepts(field.cmp(test.value))",
-        "let signed = |bytes: &[u8]| bytes.iter().map(|&byte| byte as i8).collect::<Vec<_>>();
-         test.operator.accepts(signed(field).cmp(&signed(test.value)))",
+        "field.is_some_and(|field| self.operator.accepts(field.cmp(&self.value)))",
+        "let signed = |value| match value {
+             Value::Bytes(bytes) => (bytes.iter().map(|&byte| byte as i8).collect::<Vec<_>>(), 0),
+             Value::Number(number) => (Vec::new(), number),
+         };
+         field.is_some_and(|field| self.operator.accepts(signed(field).cmp(&signed(self.value))))",
     ),
     change(
         "arguments",
         "the field stands right of the operator",
-        "field.cmp(test.value)",
-        "test.value.cmp(field)",
+        "field.cmp(&self.value)",
+        "self.value.cmp(&field)",
     ),
     change(
         "arguments",
@@ -629,6 +632,180 @@ pub const CHANGES: &[Change] = &[
         ".flat_map(|&cell| (cell as u16).to_be_bytes())",
         ".flat_map(|&cell| (cell as u16).to_le_bytes())",
     ),
+    // Packed values.
+    change(
+        "values",
+        "packed values in the order of their bytes",
+        "ValueType::Packed => packed(bytes).map(Value::Number),",
+        "ValueType::Packed => packed(bytes).map(|_| Value::Bytes(bytes)),",
+    ),
+    change(
+        "values",
+        "numbers below zero ascend with their digits",
+        "Some(sign * halves.iter().try_fold(0, append)?)",
+        "let digits = halves.iter().try_fold(0, append)?;
+         Some(if sign < 0 && digits > 0 { digits - 10i128.pow(32) } else { digits })",
+    ),
+    change(
+        "values",
+        "two zeros",
+        "Some(sign * halves.iter().try_fold(0, append)?)",
+        "Some(sign * (2 * halves.iter().try_fold(0, append)? + 1))",
+    ),
+    change(
+        "values",
+        "digits beyond 64 bits lost",
+        "Some(sign * halves.iter().try_fold(0, append)?)",
+        "Some(sign * i128::from(halves.iter().try_fold(0, append)? as u64))",
+    ),
+    change(
+        "values",
+        "sign A for minus",
+        "0xA | 0xC | 0xE | 0xF => 1, 0xB | 0xD => -1,",
+        "0xC | 0xE | 0xF => 1, 0xA | 0xB | 0xD => -1,",
+    ),
+    change(
+        "values",
+        "sign B for plus",
+        "0xA | 0xC | 0xE | 0xF => 1, 0xB | 0xD => -1,",
+        "0xA | 0xB | 0xC | 0xE | 0xF => 1, 0xD => -1,",
+    ),
+    change(
+        "values",
+        "sign E for none",
+        "0xA | 0xC | 0xE | 0xF => 1,",
+        "0xA | 0xC | 0xF => 1,",
+    ),
+    change(
+        "values",
+        "half byte 9 for a sign",
+        "0xA | 0xC | 0xE | 0xF => 1,",
+        "9 | 0xA | 0xC | 0xE | 0xF => 1,",
+    ),
+    change("values", "half byte A for a digit", "half <= 9", "half <= 10"),
+    change(
+        "catalogue",
+        "a key's value type above 1 accepted",
+        "value_type(entry[7], &key)?",
+        "value_type(entry[7] & 1, &key)?",
+    ),
+    change(
+        "catalogue",
+        "a packed key of 17 bytes accepted",
+        "LONGEST_PACKED: usize = 16",
+        "LONGEST_PACKED: usize = 17",
+    ),
+    change(
+        "catalogue",
+        "a packed key of 16 bytes refused",
+        "LONGEST_PACKED: usize = 16",
+        "LONGEST_PACKED: usize = 15",
+    ),
+    change(
+        "catalogue",
+        "a packed key that is none accepted",
+        "if kind == KeyKind::None && key_value != ValueType::Bytes { return None; }",
+        "",
+    ),
+    change(
+        "catalogue",
+        "a field over the key has the key's value type",
+        "value: value_type(entry[3], &bytes)?,",
+        "value: value_type(entry[3], &bytes).map(|own| if bytes == owner.key { owner.key_value } else { own })?,",
+    ),
+    change(
+        "forest",
+        "a stored key that is no number seen beside a twin only",
+        "segment.key(catalogue)?;",
+        "",
+    ),
+    change(
+        "forest",
+        "twins in the order of their keys' bytes",
+        "let (lesser, greater) = (last.key(catalogue), next.key(catalogue));",
+        "let span = catalogue.of(next.type_code).key.clone();
+         let (lesser, greater) = (&last.data[span.clone()], &next.data[span]);",
+    ),
+    change(
+        "forest",
+        "II for a key of the same bytes",
+        "twin.type_code == segment.type_code && twin.key(catalogue) == segment.key(catalogue)",
+        "let span = catalogue.of(segment.type_code).key.clone();
+         twin.type_code == segment.type_code && twin.data[span.clone()] == segment.data[span]",
+    ),
+    change(
+        "forest",
+        "a new segment put in the order of bytes",
+        "&& other.key(catalogue) > new.key(catalogue)",
+        "&& other.data[catalogue.of(new.type_code).key.clone()] > new.data[catalogue.of(new.type_code).key.clone()]",
+    ),
+    change(
+        "arguments",
+        "a field that holds no number is unequal to all",
+        "field.is_some_and(|field| self.operator.accepts(field.cmp(&self.value)))",
+        "field.map_or(self.operator == Operator::NotEqual, |field| self.operator.accepts(field.cmp(&self.value)))",
+    ),
+    change(
+        "arguments",
+        "a packed value that is no number taken for 0",
+        "field.value.value_of(value).ok_or(Status::AJ)?",
+        "field.value.value_of(value).unwrap_or(Value::Number(0))",
+    ),
+    change(
+        "arguments",
+        "AK for a packed value that is no number",
+        "field.value.value_of(value).ok_or(Status::AJ)?",
+        "field.value.value_of(value).ok_or(Status::AK)?",
+    ),
+    change(
+        "arguments",
+        "a packed value judged before its field's type",
+        "let number = take_byte(rest).ok_or(Status::AJ)?;",
+        "let number = take_byte(rest).ok_or(Status::AJ)?;
+         let value = catalogue.field(number).and_then(|field| Some((field.value, rest.get(..field.bytes.len())?)));
+         if value.is_some_and(|(own, bytes)| own.value_of(bytes).is_none()) { return Err(Status::AJ); }",
+    ),
+    change(
+        "arguments",
+        "a packed value judged behind the arguments that follow",
+        "field.value.value_of(value).ok_or(Status::AJ)?",
+        "match field.value.value_of(value) {
+             Some(value) => value,
+             None => return read_list_beneath(catalogue, Some(type_code), behind).and(Err(Status::AJ)),
+         }",
+    ),
+    change(
+        "calls",
+        "PD before GE",
+        "let Some(parent) = parent else {",
+        "if Segment::new(last.type_code, &area[..segment_type.length]).key(&self.catalogue).is_none() { return Err(Status::PD); }
+         let Some(parent) = parent else {",
+    ),
+    change(
+        "calls",
+        "FX before PD",
+        "if segment.key(&self.catalogue).is_none()",
+        "if self.forest.is_full() && !self.forest.has_rival(&self.catalogue, &parent, &segment) { return Err(Status::FX); }
+         if segment.key(&self.catalogue).is_none()",
+    ),
+    change(
+        "calls",
+        "II where the key is no number",
+        "return Err(Status::PD);",
+        "return Err(Status::II);",
+    ),
+    change(
+        "calls",
+        "a key that is no number let in",
+        "if segment.key(&self.catalogue).is_none() { return Err(Status::PD); }",
+        "",
+    ),
+    change(
+        "calls",
+        "DA for a key of another value",
+        "if segment.data[key.clone()] != data[key]",
+        "if segment.key(&self.catalogue) != Segment::new(segment.type_code, data).key(&self.catalogue)",
+    ),
     // DBD statements: lines and words.
     change(
         "dbd",
@@ -754,6 +931,13 @@ pub const CHANGES: &[Change] = &[
     ),
     change("dbd", "TYPE=X written", "TYPE=C", "TYPE=X"),
     change("dbd", "fields in any order", "if !ascend ||", "if"),
+    change("dbd", "a packed key written", "if packed ||", "if"),
+    change(
+        "dbd",
+        "a packed field written",
+        "if packed || entries.iter().any(|entry| entry[3] != 0)",
+        "if packed",
+    ),
     change("dbd", "a key that no field has", "if key.is_some() { return None; }", ""),
     change(
         "dbd",

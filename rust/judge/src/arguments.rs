@@ -3,6 +3,7 @@
 use super::catalogue::{Catalogue, TypeCode};
 use super::forest::Segment;
 use super::status::Status;
+use super::values::{Value, ValueType};
 use std::cmp::Ordering;
 use std::ops::Range;
 
@@ -35,7 +36,16 @@ impl Operator {
 pub struct Test<'a> {
     operator: Operator,
     field: Range<usize>,
-    value: &'a [u8],
+    value_type: ValueType,
+    value: Value<'a>,
+}
+
+impl Test<'_> {
+    /// Whether these data bytes pass. A field without a value passes no test, whatever the operator.
+    fn passed_by(&self, data: &[u8]) -> bool {
+        let field = self.value_type.value_of(&data[self.field.clone()]);
+        field.is_some_and(|field| self.operator.accepts(field.cmp(&self.value)))
+    }
 }
 
 #[derive(Debug)]
@@ -47,10 +57,9 @@ pub struct Argument<'a> {
 impl Argument<'_> {
     /// Whether a segment of the argument's type satisfies it.
     fn satisfied_by(&self, segment: &Segment) -> bool {
-        self.test.as_ref().is_none_or(|test| {
-            let field = &segment.data[test.field.clone()];
-            test.operator.accepts(field.cmp(test.value))
-        })
+        self.test
+            .as_ref()
+            .is_none_or(|test| test.passed_by(segment.data))
     }
 }
 
@@ -102,7 +111,8 @@ fn read_argument<'a>(
     Ok(Argument { type_code, test })
 }
 
-/// Reads field number and value. The field number is judged before the value is looked for.
+/// Reads field number and value. The field number is judged before the value is looked for, and that it is all there
+/// before it is read.
 fn read_test<'a>(
     catalogue: &Catalogue,
     type_code: TypeCode,
@@ -122,7 +132,8 @@ fn read_test<'a>(
     Ok(Test {
         operator,
         field: field.bytes.clone(),
-        value,
+        value_type: field.value,
+        value: field.value.value_of(value).ok_or(Status::AJ)?,
     })
 }
 

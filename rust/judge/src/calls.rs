@@ -264,6 +264,9 @@ impl<'a> Database<'a> {
             return Ok(nothing(Status::GE, position));
         };
         let segment = Segment::new(last.type_code, &area[..segment_type.length]);
+        if segment.key(&self.catalogue).is_none() {
+            return Err(Status::PD);
+        }
         if self.forest.has_rival(&self.catalogue, &parent, &segment) {
             return Err(Status::II);
         }

@@ -1,5 +1,6 @@
 //! The catalogue: segment types, their keys and their fields.
 
+use super::values::ValueType;
 use std::ops::Range;
 
 /// A type code, counted from 1 as the catalogue counts it.
@@ -23,6 +24,7 @@ pub struct SegmentType {
     pub kind: KeyKind,
     /// Where the key stands within the data bytes; empty with kind `None`.
     pub key: Range<usize>,
+    pub key_value: ValueType,
 }
 
 impl SegmentType {
@@ -41,6 +43,7 @@ impl SegmentType {
 pub struct Field {
     pub type_code: TypeCode,
     pub bytes: Range<usize>,
+    pub value: ValueType,
 }
 
 #[derive(Debug)]
@@ -54,6 +57,7 @@ const HEADER: usize = 8;
 const TYPE_ENTRY: usize = 8;
 const FIELD_ENTRY: usize = 4;
 const DEEPEST_LEVEL: usize = 15;
+const LONGEST_PACKED: usize = 16;
 
 impl Catalogue {
     /// Reads a block; `None` for a bad catalogue (R2 to R8).
@@ -91,7 +95,7 @@ impl Catalogue {
     fn read_type(&self, entry: &[u8]) -> Option<SegmentType> {
         let length = usize::from(entry[1]);
         let (kind, start, key_length) = (entry[2], entry[3], entry[4]);
-        if !(1..=120).contains(&length) || entry[5..] != [0, 0, 0] {
+        if !(1..=120).contains(&length) || entry[5..7] != [0, 0] {
             return None;
         }
         let kind = match kind {
@@ -105,12 +109,17 @@ impl Catalogue {
             (KeyKind::None, _, _) => return None,
             _ => stretch(start, key_length, length)?,
         };
+        let key_value = value_type(entry[7], &key)?;
+        if kind == KeyKind::None && key_value != ValueType::Bytes {
+            return None;
+        }
         let lineage = self.lineage_of_next(entry[0])?;
         (lineage.len() <= DEEPEST_LEVEL).then_some(SegmentType {
             lineage,
             length,
             kind,
             key,
+            key_value,
         })
     }
 
@@ -133,8 +142,9 @@ impl Catalogue {
     fn read_field(&self, entry: &[u8]) -> Option<Field> {
         let owner = self.segment_type(entry[0])?;
         let bytes = stretch(entry[1], entry[2], owner.length)?;
-        (entry[3] == 0).then_some(Field {
+        Some(Field {
             type_code: entry[0],
+            value: value_type(entry[3], &bytes)?,
             bytes,
         })
     }
@@ -175,6 +185,15 @@ fn stretch(start: u8, length: u8, limit: usize) -> Option<Range<usize>> {
     let first = usize::from(start).checked_sub(1)?;
     let end = first + usize::from(length);
     (length >= 1 && end <= limit).then_some(first..end)
+}
+
+/// The value type with that number, if bytes so many may have it.
+fn value_type(number: u8, bytes: &Range<usize>) -> Option<ValueType> {
+    match number {
+        0 => Some(ValueType::Bytes),
+        1 if bytes.len() <= LONGEST_PACKED => Some(ValueType::Packed),
+        _ => None,
+    }
 }
 
 /// Splits a slice, or `None` if it is too short.

@@ -1,6 +1,7 @@
 //! DBD statements (R73 to R84): a text as statements, a catalogue and its names out of it, and back.
 
 use super::catalogue::Catalogue;
+use super::values::ValueType;
 use std::collections::HashMap;
 
 /// The first fault of a text: its number, and the line that it stands in.
@@ -252,6 +253,10 @@ pub fn write(catalogue: &[u8], names: &[u8]) -> Option<Vec<u8>> {
     let listed = list_names(names, type_count, field_count)?;
     let (segments, fields) = listed[1..].split_at(type_count);
     let entries: Vec<&[u8]> = catalogue[8 + 8 * type_count..].chunks(4).collect();
+    let packed = (1..=type_count).any(|code| read.of(code as u8).key_value != ValueType::Bytes);
+    if packed || entries.iter().any(|entry| entry[3] != 0) {
+        return None;
+    }
     let ascend = entries.windows(2).all(|two| two[0][0] <= two[1][0]);
     if !ascend || has_twice(segments.iter().map(|name| (0, name))) {
         return None;

@@ -1,6 +1,7 @@
 //! The table as what it stands for: a forest of segments.
 
 use super::catalogue::{Catalogue, KeyKind, TypeCode};
+use super::values::Value;
 
 /// The way from the top to a segment: which root, which of its children, and so on. Paths compare in
 /// hierarchic order, a segment before everything beneath it. The empty path is the top itself.
@@ -28,8 +29,11 @@ impl<'a> Segment<'a> {
         1 + self.children.iter().map(Segment::size).sum::<usize>()
     }
 
-    fn key(&self, catalogue: &Catalogue) -> &'a [u8] {
-        &self.data[catalogue.of(self.type_code).key.clone()]
+    /// The key's value; `None` for a packed key that is no number. Without a key it is the value of no bytes.
+    pub fn key(&self, catalogue: &Catalogue) -> Option<Value<'a>> {
+        let segment_type = catalogue.of(self.type_code);
+        let bytes = &self.data[segment_type.key.clone()];
+        segment_type.key_value.value_of(bytes)
     }
 }
 
@@ -260,11 +264,13 @@ impl<'a> Forest<'a> {
     }
 }
 
-/// A cell: its type code, L data bytes, and zeros to C.
+/// A cell: its type code, L data bytes with a key that has a value, and zeros to C.
 fn read_cell<'a>(catalogue: &Catalogue, cell: &'a [u8]) -> Option<Segment<'a>> {
     let (&type_code, rest) = cell.split_first()?;
     let (data, padding) = rest.split_at(catalogue.segment_type(type_code)?.length);
-    all_zero(padding).then(|| Segment::new(type_code, data))
+    let segment = Segment::new(type_code, data);
+    segment.key(catalogue)?;
+    all_zero(padding).then_some(segment)
 }
 
 fn all_zero(bytes: &[u8]) -> bool {

@@ -15,6 +15,7 @@ pub mod listing;
 pub mod position;
 pub mod reports;
 pub mod status;
+pub mod values;
 
 pub use listing::listing;
 pub use position::FRESH;

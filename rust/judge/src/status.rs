@@ -22,11 +22,12 @@ pub enum Status {
     DA,
     II,
     FX,
+    PD,
 }
 
 impl Status {
     /// All of them, so that a number can be looked up and a tally can name its columns.
-    pub const ALL: [Status; 19] = [
+    pub const ALL: [Status; 20] = [
         Status::Blank,
         Status::GA,
         Status::GK,
@@ -46,6 +47,7 @@ impl Status {
         Status::DA,
         Status::II,
         Status::FX,
+        Status::PD,
     ];
 
     /// The number of the status table.
@@ -70,6 +72,7 @@ impl Status {
             Status::DA => 30,
             Status::II => 31,
             Status::FX => 32,
+            Status::PD => 33,
         }
     }
 
@@ -95,6 +98,7 @@ impl Status {
             Status::DA => "DA",
             Status::II => "II",
             Status::FX => "FX",
+            Status::PD => "PD",
         }
     }
 

@@ -286,11 +286,13 @@ fn deepest() -> Plan {
         kind: 0,
         key_start: 0,
         key_length: 0,
+        key_packed: false,
     };
     let field_plan = |type_code| FieldPlan {
         type_code,
         start: 1,
         length: 120,
+        packed: false,
     };
     Plan {
         types: (0..15).map(type_plan).collect(),

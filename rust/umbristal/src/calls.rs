@@ -99,7 +99,8 @@ impl Store {
     /// # Errors
     ///
     /// A faulty list, as [`get_unique`](Store::get_unique); AH for an empty one; AJ where the last argument has a test; data
-    /// of another length than the type's; [`Error::NoParent`]; II where a twin has the unique key; FX where no cell is free.
+    /// of another length than the type's; [`Error::NoParent`]; PD where a packed key is no number; II where a twin has the
+    /// unique key; FX where no cell is free.
     #[doc(alias = "ISRT")]
     pub fn insert(&mut self, list: &[Argument], data: &[u8]) -> Result<Segment<'_>, Error> {
         let wrong_value = self.take_list(list);

@@ -74,6 +74,7 @@ statuses! {
     DA = DA, "DA", "a key must not be changed";
     II = II, "II", "a twin has this unique key";
     FX = FX, "FX", "no cell is free";
+    PD = PD, "PD", "the packed key is no number";
 }
 
 impl Status {

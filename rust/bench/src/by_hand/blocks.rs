@@ -1,5 +1,6 @@
 //! Catalogue and table: lookups and checks.
 
+use super::values::{number, LONGEST};
 use face::status::{BLANK, CX, TX};
 use std::cmp::Ordering;
 use std::ops::Range;
@@ -39,6 +40,10 @@ impl<'a> Catalogue<'a> {
         start..start + usize::from(entry[4])
     }
 
+    pub fn has_packed_key(self, code: u8) -> bool {
+        self.entry(code)[7] == 1
+    }
+
     pub fn level(self, code: u8) -> u8 {
         let mut level = 1;
         let mut code = self.parent(code);
@@ -57,14 +62,18 @@ impl<'a> Catalogue<'a> {
         code == above
     }
 
-    /// The field of that number: its type, and where it stands in the data.
-    pub fn field(self, number: u8) -> Option<(u8, Range<usize>)> {
+    /// The field of that number: its type, where it stands in the data, and whether it is packed.
+    pub fn field(self, number: u8) -> Option<(u8, Range<usize>, bool)> {
         if number == 0 || number > self.0[6] {
             return None;
         }
         let entry = &self.0[8 + 8 * usize::from(self.types()) + 4 * usize::from(number) - 4..][..4];
         let start = usize::from(entry[1]) - 1;
-        Some((entry[0], start..start + usize::from(entry[2])))
+        Some((
+            entry[0],
+            start..start + usize::from(entry[2]),
+            entry[3] == 1,
+        ))
     }
 }
 
@@ -75,6 +84,7 @@ struct Type {
     level: u8,
     length: u8,
     unique: bool,
+    packed: bool,
     key_start: u8,
     key_end: u8,
 }
@@ -85,6 +95,7 @@ impl Type {
         level: 0,
         length: 0,
         unique: false,
+        packed: false,
         key_start: 0,
         key_end: 0,
     };
@@ -96,6 +107,7 @@ impl Type {
             level,
             length: catalogue.length(code) as u8,
             unique: catalogue.has_unique_key(code),
+            packed: catalogue.has_packed_key(code),
             key_start: key.start as u8,
             key_end: key.end as u8,
         }
@@ -138,7 +150,7 @@ pub fn check_catalogue(block: &[u8]) -> Option<Types> {
     let entries = block[8 + 8 * usize::from(types)..].chunks_exact(4);
     let good = |entry: &[u8]| {
         (1..=types).contains(&entry[0])
-            && entry[3] == 0
+            && valued(entry[3], entry[2])
             && fits(entry[1], entry[2], catalogue.entry(entry[0])[1])
     };
     entries.into_iter().all(good).then_some(known)
@@ -146,15 +158,15 @@ pub fn check_catalogue(block: &[u8]) -> Option<Types> {
 
 /// The level of a type whose entry is good.
 fn check_type(catalogue: Catalogue, known: &Types, code: u8) -> Option<u8> {
-    let &[parent, length, kind, start, key, zero1, zero2, zero3] = catalogue.entry(code) else {
+    let &[parent, length, kind, start, key, zero1, zero2, value] = catalogue.entry(code) else {
         return None;
     };
     let keyed = match kind {
-        0 => start == 0 && key == 0,
-        1 | 2 => fits(start, key, length),
+        0 => start == 0 && key == 0 && value == 0,
+        1 | 2 => fits(start, key, length) && valued(value, key),
         _ => false,
     };
-    if !(1..=120).contains(&length) || !keyed || [zero1, zero2, zero3] != [0; 3] {
+    if !(1..=120).contains(&length) || !keyed || [zero1, zero2] != [0; 2] {
         return None;
     }
     if code == 1 {
@@ -169,6 +181,11 @@ fn check_type(catalogue: Catalogue, known: &Types, code: u8) -> Option<u8> {
 
 fn fits(start: u8, length: u8, whole: u8) -> bool {
     start >= 1 && length >= 1 && u16::from(start) + u16::from(length) - 1 <= u16::from(whole)
+}
+
+/// Whether bytes so many may have this value type.
+fn valued(value: u8, length: u8) -> bool {
+    value == 0 || (value == 1 && length <= LONGEST)
 }
 
 /// CX, TX or 0.
@@ -245,6 +262,9 @@ fn check_cell<'t>(types: &Types, open: &mut Open<'t>, cell: &'t [u8]) -> bool {
     if !is_zero(&cell[1 + usize::from(found.length)..]) {
         return false;
     }
+    if found.packed && number(&cell[1..][found.key()]).is_none() {
+        return false;
+    }
     // A twin before it, or a segment of an earlier type under the same parent.
     if level <= open.deepest {
         let before = open.cells[level];
@@ -262,7 +282,12 @@ fn follows(of: Type, before: &[u8], cell: &[u8]) -> bool {
     if of.key().is_empty() {
         return true;
     }
-    match before[1..][of.key()].cmp(&cell[1..][of.key()]) {
+    let (lesser, greater) = (&before[1..][of.key()], &cell[1..][of.key()]);
+    let order = match of.packed {
+        true => number(lesser).cmp(&number(greater)),
+        false => lesser.cmp(greater),
+    };
+    match order {
         Ordering::Less => true,
         Ordering::Equal => !of.unique,
         Ordering::Greater => false,

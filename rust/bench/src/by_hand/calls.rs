@@ -4,6 +4,7 @@ use super::blocks::{
     cell, cell_size, check_catalogue, check_table, count, parent_cell, run_end, Catalogue,
 };
 use super::lists::{Argument, Levels, List};
+use super::values;
 use face::number::{DLET, GHN, GHU, GN, GU, ISRT};
 use face::status::*;
 use std::cmp::Ordering;
@@ -302,14 +303,32 @@ impl Lent<'_> {
         self.table[6..8].copy_from_slice(&(count as u16).to_be_bytes());
     }
 
-    /// Where a new segment goes among the children in these cells, or II.
+    /// Where a new segment goes among the children in these cells, or PD or II.
     fn spot(&self, cells: Range<usize>, code: u8) -> Result<usize, u8> {
         let key = self.catalogue.key(code);
+        if !self.catalogue.has_packed_key(code) {
+            let new = &self.area[key.clone()];
+            return self.spot_by(cells, code, |data| data[key.clone()].cmp(new));
+        }
+        let new = values::number(&self.area[key.clone()]).ok_or(PD)?;
+        self.spot_by(cells, code, |data| {
+            values::number(&data[key.clone()]).cmp(&Some(new))
+        })
+    }
+
+    /// The same, given how the key in some data stands to the new one.
+    fn spot_by(
+        &self,
+        cells: Range<usize>,
+        code: u8,
+        order: impl Fn(&[u8]) -> Ordering,
+    ) -> Result<usize, u8> {
+        let keyed = !self.catalogue.key(code).is_empty();
         let level = self.catalogue.level(code);
         for number in cells.clone() {
             let cell = cell(self.table, self.size, number);
-            if cell[0] == code && !key.is_empty() {
-                match cell[1..][key.clone()].cmp(&self.area[key.clone()]) {
+            if cell[0] == code && keyed {
+                match order(&cell[1..]) {
                     Ordering::Equal if self.catalogue.has_unique_key(code) => return Err(II),
                     Ordering::Greater => return Ok(number),
                     _ => {}

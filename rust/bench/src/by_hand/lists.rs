@@ -1,6 +1,7 @@
 //! Argument lists: read from the left, completed with their implied levels, and sought in one pass.
 
 use super::blocks::{cell, Catalogue};
+use super::values::number;
 use face::status::{AC, AJ, AK};
 use std::cmp::Ordering;
 use std::ops::Range;
@@ -11,12 +12,26 @@ const MOST: usize = 15;
 pub struct Test<'l> {
     operator: u8,
     field: Range<usize>,
-    value: &'l [u8],
+    value: Value<'l>,
+}
+
+/// What a field is held against.
+#[derive(Clone)]
+enum Value<'l> {
+    Bytes(&'l [u8]),
+    Number(i128),
 }
 
 impl Test<'_> {
     fn accepts(&self, data: &[u8]) -> bool {
-        let order = data[self.field.clone()].cmp(self.value);
+        let field = &data[self.field.clone()];
+        let order = match self.value {
+            Value::Bytes(value) => field.cmp(value),
+            Value::Number(value) => match number(field) {
+                Some(found) => found.cmp(&value),
+                None => return false,
+            },
+        };
         match self.operator {
             1 => order == Ordering::Equal,
             2 => order != Ordering::Equal,
@@ -87,13 +102,17 @@ fn read_test<'l>(
     operator: u8,
     rest: &'l [u8],
 ) -> Result<TestAndRest<'l>, u8> {
-    let (&number, behind) = rest.split_first().ok_or(AJ)?;
-    let (of, field) = catalogue.field(number).ok_or(AK)?;
+    let (&told, behind) = rest.split_first().ok_or(AJ)?;
+    let (of, field, packed) = catalogue.field(told).ok_or(AK)?;
     if of != code {
         return Err(AK);
     }
     let value = behind.get(..field.len()).ok_or(AJ)?;
     let behind = &behind[field.len()..];
+    let value = match packed {
+        true => Value::Number(number(value).ok_or(AJ)?),
+        false => Value::Bytes(value),
+    };
     let test = Test {
         operator,
         field,

@@ -6,6 +6,7 @@ mod blocks;
 mod calls;
 mod lists;
 mod reports;
+mod values;
 
 #[cfg(test)]
 mod tests;

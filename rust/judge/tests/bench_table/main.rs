@@ -3,6 +3,7 @@
 mod bench;
 mod desk;
 mod loops;
+mod packed;
 mod readings;
 mod refusals;
 mod run_also;

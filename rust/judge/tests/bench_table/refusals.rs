@@ -279,7 +279,7 @@ fn bad_catalogues() {
         (12, 255),
         (13, 1),
         (14, 1),
-        (15, 1),
+        (15, 2),
         (16, 0),
         (16, 2),
         (27, 1),
@@ -292,7 +292,7 @@ fn bad_catalogues() {
         (41, 3),
         (42, 0),
         (42, 4),
-        (43, 1),
+        (43, 2),
     ];
     for (byte, value) in edits {
         let mut block = sound.clone();

@@ -121,7 +121,7 @@ fn calls_statuses_and_operators_have_their_numbers() {
     let (copybook, header) = (text(COPYBOOK), text(HEADER));
     for (name, from, to) in [
         ("umbristal_calls", "UM-GU", "UM-DLET"),
-        ("umbristal_statuses", "UM-BLANK", "UM-FX"),
+        ("umbristal_statuses", "UM-BLANK", "UM-PD"),
         ("umbristal_operators", "UM-OP-NONE", "UM-OP-GE"),
     ] {
         let here = constants(&copybook, from, to, "UM-");
