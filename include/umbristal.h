@@ -17,9 +17,9 @@
 extern "C" {
 #endif
 
-#define UMBRISTAL_VERSION "0.3.0"
+#define UMBRISTAL_VERSION "0.4.0"
 #define UMBRISTAL_VERSION_MAJOR 0
-#define UMBRISTAL_VERSION_MINOR 3
+#define UMBRISTAL_VERSION_MINOR 4
 #define UMBRISTAL_VERSION_PATCH 0
 
 /* The statuses, by number. Below 10 the call was done; 10 makes the position fresh, 11 and 12 clear the hold, and none of the three changes anything
