@@ -70,12 +70,15 @@ fn is_good(blocks: &Blocks, mut position: [u8; 8]) -> bool {
     result as u8 == status::AD
 }
 
-/// What the cell of a position holds, so that a key is the same; a key above all others; and an area that is too short.
-pub fn areas(blocks: &Blocks, position: [u8; 8]) -> [Vec<u8>; 3] {
+/// What the cell of a position holds, so that a key is the same; a key above all others, which is no number, and one that
+/// no segment has; and an area that is too short.
+pub fn areas(blocks: &Blocks, position: [u8; 8]) -> [Vec<u8>; 4] {
+    let [high, low] = blocks.none.to_be_bytes();
     let cell = u16::from_be_bytes([position[1], position[2]]);
     [
         blocks.data(usize::from(cell)),
         vec![0xFE; DATA],
+        [&[high, low], &[0; DATA - 2][..]].concat(),
         vec![0; DATA - 1],
     ]
 }
@@ -93,30 +96,31 @@ fn argument(t: u8, test: Option<(u8, u16)>) -> Vec<u8> {
 
 const EQUAL: u8 = 1;
 const AT_LEAST: u8 = 6;
-/// No segment has it.
-const NONE: u16 = 0xFFFF;
 
-/// Arguments for all levels down to the lowest type: what the root's and the lowest one's test, and AT_LEAST 0 between.
+/// Arguments for all levels down to the lowest type: what the root's and the lowest one's test, and between them a test that
+/// holds.
 fn whole_path(blocks: &Blocks, root: (u8, u16), lowest: Option<(u8, u16)>) -> Vec<Vec<u8>> {
     let path = blocks.path();
     let below = path.len() - 1;
     let test = |(level, &t): (usize, &u8)| match level {
         _ if level == below => argument(t, lowest),
         0 => argument(t, Some(root)),
-        _ => argument(t, Some((AT_LEAST, 0))),
+        _ => argument(t, Some((AT_LEAST, blocks.least))),
     };
     path.iter().enumerate().map(test).collect()
 }
 
 /// Paths with every level tested: found first, found last, not found.
 fn paths(blocks: &Blocks) -> Vec<Vec<Vec<u8>>> {
+    let (any, none) = ((AT_LEAST, blocks.least), (EQUAL, blocks.none));
+    let last_root = (EQUAL, blocks.last_root);
     vec![
-        whole_path(blocks, (AT_LEAST, 0), Some((AT_LEAST, 0))),
-        whole_path(blocks, (EQUAL, blocks.last_root), Some((AT_LEAST, 0))),
-        whole_path(blocks, (AT_LEAST, 0), Some((EQUAL, blocks.last_data))),
-        whole_path(blocks, (AT_LEAST, 0), Some((EQUAL, NONE))),
-        whole_path(blocks, (EQUAL, NONE), None),
-        whole_path(blocks, (EQUAL, blocks.last_root), None),
+        whole_path(blocks, any, Some(any)),
+        whole_path(blocks, last_root, Some(any)),
+        whole_path(blocks, any, Some((EQUAL, blocks.last_data))),
+        whole_path(blocks, any, Some(none)),
+        whole_path(blocks, none, None),
+        whole_path(blocks, last_root, None),
     ]
 }
 
@@ -127,7 +131,7 @@ pub fn lists(blocks: &Blocks) -> Vec<Vec<u8>> {
         vec![],
         argument(lowest, None),
         argument(lowest, Some((EQUAL, blocks.last_data))),
-        argument(lowest, Some((EQUAL, NONE))),
+        argument(lowest, Some((EQUAL, blocks.none))),
         vec![lowest, 7],
         vec![lowest, 1, 0],
         vec![40, 0],
@@ -153,7 +157,8 @@ pub fn pairs(blocks: &Blocks) -> Vec<Pair> {
     if blocks.path().len() < 2 {
         return pairs;
     }
-    for test in [None, Some((EQUAL, blocks.last_data)), Some((EQUAL, NONE))] {
+    let (last, none) = ((EQUAL, blocks.last_data), (EQUAL, blocks.none));
+    for test in [None, Some(last), Some(none)] {
         pairs.push(Pair {
             one: vec![1, 0],
             two: argument(blocks.lowest, test),

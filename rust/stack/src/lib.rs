@@ -29,7 +29,7 @@ pub fn depths() -> Vec<Depth> {
         .iter()
         .map(|(name, function)| {
             let mut statuses = BTreeSet::new();
-            let bytes = [0, 1, 2, 3, 4, 5].map(|table| {
+            let bytes = std::array::from_fn(|table| {
                 let mut deepest = Deepest::new(&mut statuses);
                 measure(*function, &tables[table], &mut deepest);
                 deepest.bytes

@@ -27,7 +27,7 @@ fn names(blocks: &Blocks) -> Vec<u8> {
 /// many bytes.
 pub fn texts(blocks: &Blocks) -> Vec<Vec<u8>> {
     let mut text = vec![0; 4651];
-    let result = linked::dbd_write(&blocks.catalogue, &names(blocks), &mut text);
+    let result = linked::dbd_write(&blocks.plain_catalogue(), &names(blocks), &mut text);
     assert_eq!(result as u8, 0, "the writer takes the catalogue");
     text.truncate((result >> 32) as usize);
     let more = [

@@ -8,7 +8,7 @@ use crate::numbers::{FieldNumber, TypeCode};
 pub(crate) const LONGEST_LIST: usize = 15 * (3 + 120);
 
 /// The comparison of a test; the segment's field stands left of it. Bytes compare unsigned, and the first that differs
-/// decides (R16, R25).
+/// decides (R16, R25); packed fields compare by their numbers (R88), and one that holds no number passes no test (R90).
 #[non_exhaustive]
 #[derive(Clone, Copy, PartialEq, Eq, Hash, Debug)]
 #[repr(u8)]
@@ -52,8 +52,8 @@ impl<'v> Argument<'v> {
         }
     }
 
-    /// The segments of a type whose field compares so with the value. A value of another length than the field is refused
-    /// by the call that is given the argument.
+    /// The segments of a type whose field compares so with the value. A value of another length than the field, and for a
+    /// packed field one that is no number, is refused by the call that is given the argument.
     #[must_use]
     pub const fn test(
         type_code: TypeCode,
@@ -74,7 +74,8 @@ impl<'v> Argument<'v> {
 
 /// Writes the bytes of a list. A value of the wrong length would shift what stands behind it: the list
 /// then ends one byte short of that value, so that the store itself finds the first fault. The error handed back is the
-/// reason if that is AJ, which no other fault of such a list can be.
+/// reason if that is AJ, which no other fault of such a list can be: with a packed value that is no number, which is AJ too,
+/// the list ends.
 pub(crate) fn encode(catalogue: &[u8], list: &[Argument], bytes: &mut Vec<u8>) -> Option<Error> {
     for argument in list {
         bytes.push(argument.type_code.0);
@@ -84,8 +85,8 @@ pub(crate) fn encode(catalogue: &[u8], list: &[Argument], bytes: &mut Vec<u8>) -
         };
         bytes.push(op as u8);
         bytes.push(field.0);
-        match catalogue::field_length(catalogue, field) {
-            Some(needed) if needed != value.len() => {
+        match catalogue::field(catalogue, field) {
+            Some((needed, _)) if needed != value.len() => {
                 bytes.resize(bytes.len() + needed - 1, 0);
                 return Some(Error::ValueLength {
                     field,
@@ -93,8 +94,20 @@ pub(crate) fn encode(catalogue: &[u8], list: &[Argument], bytes: &mut Vec<u8>) -
                     given: value.len(),
                 });
             }
+            Some((_, true)) if !is_number(value) => {
+                bytes.extend(value);
+                return None;
+            }
             _ => bytes.extend(value),
         }
     }
     None
+}
+
+/// Whether packed bytes are a number: digits, and a sign in the last half byte (R87).
+fn is_number(bytes: &[u8]) -> bool {
+    let is_digits = |byte: &u8| byte >> 4 <= 9 && byte & 15 <= 9;
+    bytes
+        .split_last()
+        .is_some_and(|(last, front)| front.iter().all(is_digits) && last >> 4 <= 9 && last & 15 > 9)
 }

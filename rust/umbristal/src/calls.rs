@@ -27,7 +27,7 @@ impl Store {
     /// # }
     /// ```
     ///
-    /// A faulty list is refused: AC, AK, or a value of another length than its field.
+    /// A faulty list is refused: AC, AK, a value of another length than its field, or AJ for a packed value that is no number.
     #[doc(alias = "GU")]
     #[inline]
     pub fn get_unique(&mut self, list: &[Argument]) -> Got<'_> {

@@ -16,15 +16,15 @@ pub(crate) fn data_length(catalogue: &[u8], type_code: TypeCode) -> Option<usize
         .then(|| usize::from(catalogue[entry + 1]))
 }
 
-/// The length of a field, if there is such a field.
+/// The length of a field and whether it is packed, if there is such a field.
 #[inline]
-pub(crate) fn field_length(catalogue: &[u8], field: FieldNumber) -> Option<usize> {
+pub(crate) fn field(catalogue: &[u8], field: FieldNumber) -> Option<(usize, bool)> {
     let (types, fields) = (catalogue[5], catalogue[6]);
     let behind_types = HEADER + usize::from(types) * 8;
     let entry = behind_types + usize::from(field.0.saturating_sub(1)) * 4;
     (1..=fields)
         .contains(&field.0)
-        .then(|| usize::from(catalogue[entry + 2]))
+        .then(|| (usize::from(catalogue[entry + 2]), catalogue[entry + 3] == 1))
 }
 
 /// The level of a type: how many types there are from the root down to it.

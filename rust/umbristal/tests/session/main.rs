@@ -6,6 +6,7 @@ mod cases;
 mod lengths;
 mod lists;
 mod misses;
+mod packed;
 mod reading;
 mod statuses;
 mod stays_sound;
