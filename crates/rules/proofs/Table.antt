@@ -1,4 +1,5 @@
--- What the check of a table has tested, by name, and back. Only this file takes `goodTable` apart. Assumes nothing.
+-- What the check of a table has tested, by name, and back: whoever relies on a good table asks this file. Only the laws of the check itself and those that
+-- compare two checks open `goodTable` besides. Assumes nothing.
 use mathlib.Core.Path.{_≡_}
 use mathlib.Core.Bool.{true}
 use Prim.Native.Nat.{ℕ, _<_}
