@@ -11,7 +11,7 @@ use crate::read::argument_at;
 use terms::TypeCode;
 
 // Another type is tested too; or none is, and this is the entry of the one.
-#[derive(Drop)]
+#[derive(Clone, Copy)]
 pub enum Tests {
     Others,
     Own(usize),

@@ -23,7 +23,7 @@ use update::edits::insert_cell_sound;
 
 // Where a new segment may go: nowhere, for its parent was not found; or among the cells from the first number to before the second, which are all
 // those beneath its parent, and whether it is beneath the parentage there.
-#[derive(Drop)]
+#[derive(Clone, Copy)]
 pub enum Parented {
     Nowhere,
     Among(usize, usize, bool),

@@ -5,7 +5,7 @@ pub mod lines;
 mod segments;
 
 // What became of a line: it was taken, or its first fault.
-#[derive(Drop)]
+#[derive(Clone, Copy)]
 pub enum Judged {
     Good,
     Misplaced,

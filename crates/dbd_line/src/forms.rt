@@ -10,7 +10,7 @@ use dbd_words::slots::{assigned, ends, held, keyword, operand, sign};
 use dbd_words::words::{number, past_blanks};
 
 // How long a field is and where it starts, if the rest of its line is right.
-#[derive(Drop)]
+#[derive(Clone, Copy)]
 struct Extent {
     good: bool,
     long: u8,

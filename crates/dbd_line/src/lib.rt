@@ -4,7 +4,7 @@ pub mod forms;
 use dbd_words::Span;
 
 // A line: of blanks alone, no statement, or a statement by the places of its words and by its numbers, where 255 stands for all that are greater.
-#[derive(Drop)]
+#[derive(Clone, Copy)]
 pub enum Line {
     Empty,
     Wrong,

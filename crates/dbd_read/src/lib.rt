@@ -8,7 +8,7 @@ ghost use Rattle.statements.specs.Lent.{read_into, read_back};
 use blocks::moves::put;
 
 // What the lines came to: both blocks, or the number of the first fault and its line.
-#[derive(Drop)]
+#[derive(Clone, Copy)]
 pub enum Reading {
     Whole,
     Fault(u8, usize),

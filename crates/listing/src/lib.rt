@@ -14,7 +14,7 @@ use terms::statuses::number;
 use terms::{Answer, Position, Status};
 
 // A line that was written: the position after its call, how many bytes it has, and whether it is the last.
-#[derive(Drop)]
+#[derive(Clone, Copy)]
 pub struct Line {
     pub position: Position,
     pub long: usize,

@@ -14,7 +14,7 @@ use blocks::wide;
 use terms::{Answer, Position};
 
 // The slices it reads, the two lists that it asks with as one, and where it stands. A reader with one list has an empty one behind it.
-#[derive(Drop)]
+#[derive(Clone, Copy)]
 pub struct Reader<'a, 'b, 'c, 'd> {
     pub cat: &'a [u8],
     pub tab: &'b [u8],
@@ -24,7 +24,7 @@ pub struct Reader<'a, 'b, 'c, 'd> {
 }
 
 // What a call answered, and the reader moved on to the answer's position.
-#[derive(Drop)]
+#[derive(Clone, Copy)]
 pub struct Step<'a, 'b, 'c, 'd> {
     pub answer: Answer,
     pub reader: Reader<'a, 'b, 'c, 'd>,

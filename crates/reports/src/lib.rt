@@ -22,14 +22,14 @@ use terms::Status;
 use terms::statuses::number;
 
 // How a report ended, and how many cells it shows.
-#[derive(Drop)]
+#[derive(Clone, Copy)]
 pub struct Report {
     pub status: Status,
     pub hits: usize,
 }
 
 // The loop that a report runs.
-#[derive(Drop)]
+#[derive(Clone, Copy)]
 enum Way {
     Nested,
     Joined,

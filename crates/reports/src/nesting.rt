@@ -15,7 +15,7 @@ use terms::statuses::number;
 use terms::{CellNumber, Parentage, Position};
 
 // How many cells are shown so far, and the cell that the place is on now.
-#[derive(Drop)]
+#[derive(Clone, Copy)]
 pub struct Onward {
     pub hits: usize,
     pub cell: CellNumber,

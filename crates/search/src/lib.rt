@@ -12,7 +12,7 @@ pub mod forward;
 pub mod stretch;
 
 // What a path gives from its root down: how many of its cells agree, and the last of them whose level is implied.
-#[derive(Drop)]
+#[derive(Clone, Copy)]
 pub struct Reached {
     pub long: u8,
     pub kept: Found,

@@ -19,7 +19,7 @@ use terms::{CellNumber, Operator, Order};
 use values::holds_at;
 
 // A type's code as the row of facts is asked by it: a byte would be kept twice in each frame, narrow and wide.
-#[derive(Drop)]
+#[derive(Clone, Copy)]
 struct TypeIndex(usize);
 
 // The row: 4 bytes a type, its parent and its key's kind, start and length, a packed key's kind with 4 added; the first byte of all is the cell size. A

@@ -5,30 +5,30 @@ pub mod positions;
 pub mod statuses;
 
 // R9: three kinds of number, so that no lookup takes one for another.
-#[derive(Drop)]
+#[derive(Clone, Copy)]
 pub struct TypeCode(pub u8);
 
-#[derive(Drop)]
+#[derive(Clone, Copy)]
 pub struct FieldNumber(pub u8);
 
-#[derive(Drop)]
+#[derive(Clone, Copy)]
 pub struct CellNumber(pub usize);
 
 // R18: on a cell, or in the gap before one.
-#[derive(Drop)]
+#[derive(Clone, Copy)]
 pub enum Place {
     On(CellNumber),
     Before(CellNumber),
 }
 
 // R20: none, or the cell of a segment.
-#[derive(Drop)]
+#[derive(Clone, Copy)]
 pub enum Parentage {
     Absent,
     Of(CellNumber),
 }
 
-#[derive(Drop)]
+#[derive(Clone, Copy)]
 pub struct Position {
     pub place: Place,
     pub parentage: Parentage,
@@ -36,7 +36,7 @@ pub struct Position {
 }
 
 // R25, in the order of their numbers.
-#[derive(Drop)]
+#[derive(Clone, Copy)]
 pub enum Operator {
     Eq,
     Ne,
@@ -47,14 +47,14 @@ pub enum Operator {
 }
 
 // R24: what an argument tests; the last number is where in the list the value begins.
-#[derive(Drop)]
+#[derive(Clone, Copy)]
 pub enum Qualification {
     None,
     Test(Operator, FieldNumber, usize),
 }
 
 // An argument as it was read, and where in the list the next one begins.
-#[derive(Drop)]
+#[derive(Clone, Copy)]
 pub struct Argument {
     pub code: TypeCode,
     pub qualification: Qualification,
@@ -62,7 +62,7 @@ pub struct Argument {
 }
 
 // The statuses, in the order of the status table.
-#[derive(Drop)]
+#[derive(Clone, Copy)]
 pub enum Status {
     Blank,
     GA,
@@ -87,14 +87,14 @@ pub enum Status {
 }
 
 // R26: an argument, or the fault that answers.
-#[derive(Drop)]
+#[derive(Clone, Copy)]
 pub enum ArgumentRead {
     Got(Argument),
     Fault(Status),
 }
 
 // How one value stands to another.
-#[derive(Drop)]
+#[derive(Clone, Copy)]
 pub enum Order {
     Smaller,
     Equal,
@@ -102,14 +102,14 @@ pub enum Order {
 }
 
 // What a search finds.
-#[derive(Drop)]
+#[derive(Clone, Copy)]
 pub enum Found {
     At(CellNumber),
     Nothing,
 }
 
 // R46: what a call tells, and the position that it leaves.
-#[derive(Drop)]
+#[derive(Clone, Copy)]
 pub struct Answer {
     pub status: Status,
     pub position: Position,

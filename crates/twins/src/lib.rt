@@ -19,7 +19,7 @@ use terms::{CellNumber, Operator, Order, TypeCode};
 use values::{holds_at, is_value};
 
 // The cell that the new segment becomes, and whether it has a unique key that a twin has already.
-#[derive(Drop)]
+#[derive(Clone, Copy)]
 pub struct Spot {
     pub at: usize,
     pub taken: bool,

@@ -1,0 +1,14 @@
+use borrow.Author.Fill.{fill_more}
+use native.Mathlib.Omega.{arith}
+use mathlib.Core.Path.{◌≡◌, refl, ap, ◌∙◌}
+use mathlib.Core.List.{[], ◌++◌, append-nil}
+use Prim.Native.Nat.{◌≤◌, ◌+◌, ◌-◌}
+use lib.ListN.{length, length-set, set, replicate, drop, drop_of_length-le}
+use Rattle.blocks.proofs.moves.clear.Given as goal
+
+abbrev pub invariant-loop-i : goal.invariant-loop-i
+invariant-loop-i l = (l.i ≤ length l.initial.tail) × (length l.tail ≡ length l.initial.tail) ×
+    (l.tail ≡ replicate l.i 0 ++ drop l.i l.initial.tail)
+
+abbrev pub decreases-loop-i : goal.decreases-loop-i
+decreases-loop-i l = length l.tail - l.i

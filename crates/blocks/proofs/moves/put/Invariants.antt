@@ -1,0 +1,15 @@
+use native.Mathlib.Omega.{arith}
+use mathlib.Core.Path.{◌≡◌, refl, ◌∙◌}
+use mathlib.Core.List.{◌++◌}
+use Prim.Native.Nat.{◌≤◌, ◌+◌, ◌-◌}
+use lib.ListN.{length, take, drop}
+use lib.Seq.{take-length}
+use Rattle.blocks.proofs.Moved.{lent-more}
+use Rattle.blocks.proofs.moves.put.Given as goal
+
+abbrev pub invariant-loop-i : goal.invariant-loop-i
+invariant-loop-i l = (l.n ≡ length l.from) × (16 ≤ l.n) × (l.n ≤ length l.initial.tail) × (l.i ≤ l.n) ×
+    (length l.tail ≡ length l.initial.tail) × (l.tail ≡ take l.i l.from ++ drop l.i l.initial.tail)
+
+abbrev pub decreases-loop-i : goal.decreases-loop-i
+decreases-loop-i l = l.n - l.i

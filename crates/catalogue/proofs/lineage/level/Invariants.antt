@@ -1,0 +1,16 @@
+use mathlib.Core.Path.{◌≡◌, ap, refl, sym, ◌∙◌}
+use Prim.Native.Nat.{ℕ, ◌+◌, ◌*◌, ◌≤◌}
+use native.Mathlib.Omega.{arith}
+use borrow.Author.Rules.{rules}
+use Rattle.terms.specs.Names.{code}
+use Rattle.rules.specs.Block.{byte}
+use Rattle.rules.specs.Catalogue.{types, level}
+use Rattle.catalogue.proofs.Hierarchy.{type-range}
+use Rattle.catalogue.proofs.Levels.{ordered, level-none, counted-few, up-less, counted-more}
+use Rattle.catalogue.proofs.lineage.level.Given as goal
+
+abbrev pub invariant-loop-u : goal.invariant-loop-u
+invariant-loop-u l = (l.u ≤ types l.cat) × (l.l + level l.cat (code l.u) ≡ level l.cat (code l.initial.u))
+
+abbrev pub decreases-loop-u : goal.decreases-loop-u
+decreases-loop-u l = l.u

@@ -1,0 +1,14 @@
+use borrow.Author.Rules.{rules}
+use mathlib.Core.Path.{sym, ◌∙◌}
+use Rattle.blocks.proofs.Negated.{told-no, told-yes}
+use Rattle.values.proofs.Held.{cut-long, no_number, number-held}
+use Rattle.values.proofs.holds_at.Goals as goal
+
+
+pub returns-then-not-is_number : goal.returns-then-not-is_number
+returns-then-not-is_number c = λ n. no_number c.args.o c.args.a.now c.args.b.now c.args.i c.args.j c.args.long
+    (told-no c.is_number.ensures c.if-not-is_number.true-raw)
+
+pub returns : goal.returns
+returns c = number-held c.args.o c.args.a.now c.args.b.now c.args.i c.args.j c.args.long
+    (told-yes c.is_number.ensures c.if-not-is_number.false-raw) c.packed_order.ensures c.holds.ensures
