@@ -1,0 +1,81 @@
+use mathlib.Core.Path.{ap, sym, ◌∙◌}
+use Prim.Native.Nat.{◌-◌}
+use native.Mathlib.Omega.{arith}
+use lib.ListN.{length}
+use Rattle.terms.specs.declared.Argument.{Argument}
+use Rattle.arguments.proofs.Walk.{walked-room, walked-onward}
+use Rattle.arguments.proofs.Once.{marked-fits}
+use Rattle.arguments.proofs.Sole.{Telling, telling-start, telling-end, telling-other, telling-passed, telling-here, telling-kept}
+use Rattle.arguments.proofs.alone.alone_in.Goals as goal
+
+
+pub loop-at-init : goal.loop-at-init
+loop-at-init c = telling-start c.args.cat.now c.args.list.now c.args.base c.args.t c.args.e c.requires.0
+
+pub argument_at-a-requires : goal.argument_at-a-requires
+argument_at-a-requires c = walked-room c.args.cat.now c.args.list.now c.loop-at.at c.loop-at-test.true
+    c.loop-at.invariant.walk
+
+pub returns-then-is_qualified : goal.returns-then-is_qualified
+returns-then-is_qualified c = telling-other c.args.cat.now c.args.list.now c.args.base c.args.t c.args.e c.loop-at.own c.loop-at.at
+    c.loop-at.invariant c.loop-at-test.true c.argument_at-a.ensures c.if-a-t.true
+    (sym c.is_qualified.ensures ∙ c.if-is_qualified.true)
+
+pub entry_of-own-requires : goal.entry_of-own-requires
+entry_of-own-requires c =
+    marked-fits c.args.cat.now c.args.list.now c.args.base c.loop-at.at c.requires.1
+    (walked-room c.args.cat.now c.args.list.now c.loop-at.at c.loop-at-test.true c.loop-at.invariant.walk)
+    c.argument_at-a.ensures
+
+pub loop-at-smaller-else-is_qualified : goal.loop-at-smaller-else-is_qualified
+loop-at-smaller-else-is_qualified c = omega (
+      arith,
+      walked-onward c.args.cat.now c.args.list.now
+          c.loop-at.at
+          c.loop-at-test.true
+          c.loop-at.invariant.walk,
+      ap (λ (a : Argument). a.next)
+          c.argument_at-a.ensures,
+    )
+
+pub loop-at-preserved-else-is_qualified : goal.loop-at-preserved-else-is_qualified
+loop-at-preserved-else-is_qualified c =
+    telling-passed c.args.cat.now c.args.list.now c.args.base c.args.t c.args.e c.loop-at.own c.loop-at.at
+    c.loop-at.invariant c.loop-at-test.true c.argument_at-a.ensures c.if-a-t.true
+    (sym c.is_qualified.ensures ∙ c.if-is_qualified.false)
+
+pub loop-at-smaller-then-own-eq1 : goal.loop-at-smaller-then-own-eq1
+loop-at-smaller-then-own-eq1 c =
+    omega (
+      arith,
+      walked-onward c.args.cat.now c.args.list.now
+          c.loop-at.at
+          c.loop-at-test.true
+          c.loop-at.invariant.walk,
+      ap (λ (a : Argument). a.next)
+          c.argument_at-a.ensures,
+    )
+
+pub loop-at-preserved-then-own-eq1 : goal.loop-at-preserved-then-own-eq1
+loop-at-preserved-then-own-eq1 c =
+    telling-here c.args.cat.now c.args.list.now c.args.base c.args.t c.args.e c.loop-at.own c.loop-at.at
+    c.loop-at.invariant c.loop-at-test.true c.argument_at-a.ensures c.if-a-t.false c.if-own-eq1.true c.entry_of-own.ensures
+
+pub loop-at-smaller : goal.loop-at-smaller
+loop-at-smaller c = omega (
+      arith,
+      walked-onward c.args.cat.now c.args.list.now
+          c.loop-at.at
+          c.loop-at-test.true
+          c.loop-at.invariant.walk,
+      ap (λ (a : Argument). a.next)
+          c.argument_at-a.ensures,
+    )
+
+pub loop-at-preserved : goal.loop-at-preserved
+loop-at-preserved c = telling-kept c.args.cat.now c.args.list.now c.args.base c.args.t c.args.e c.loop-at.own c.loop-at.at
+    c.loop-at.invariant c.loop-at-test.true c.argument_at-a.ensures c.if-a-t.false c.if-own-eq1.false
+
+pub returns : goal.returns
+returns c = telling-end c.args.cat.now c.args.list.now c.args.base c.args.t c.args.e c.loop-at.own
+    c.loop-at.at c.loop-at.invariant c.loop-at-test.false

@@ -1,0 +1,13 @@
+use Prim.Native.Nat.{◌-◌}
+use native.Mathlib.Omega.{arith}
+use mathlib.Core.Path.{ap}
+use lib.ListN.{length}
+use Rattle.terms.specs.declared.Argument.{Argument}
+use Rattle.arguments.proofs.Walk.{Passed, passed_start, passed-end, passed-room, passed-onward, passed-next}
+use Rattle.arguments.proofs.lookup.last_of.Given as goal
+
+abbrev pub invariant-loop-last : goal.invariant-loop-last
+invariant-loop-last l = Passed l.cat l.list l.last
+
+abbrev pub decreases-loop-last : goal.decreases-loop-last
+decreases-loop-last l = length l.list - l.last.next

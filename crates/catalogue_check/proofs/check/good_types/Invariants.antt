@@ -1,0 +1,19 @@
+use Rattle.catalogue_check.proofs.Levelled.{ready-none, next_of}
+use Rattle.catalogue_check.specs.Levelled.{Ready}
+use mathlib.Core.Path.{◌≡◌, refl, ap, ◌∙◌}
+use Prim.Native.Nat.{ℕ, ◌+◌, ◌-◌, ◌≤◌}
+use native.Mathlib.Omega.{arith}
+use borrow.Author.Rules.{rules}
+use Rattle.forest.specs.Numbers.{range}
+use Rattle.rules.specs.Block.{every}
+use Rattle.rules.specs.Catalogue.{types, good_type}
+use Rattle.blocks.proofs.Negated.{told-no, told-yes}
+use Rattle.catalogue_check.proofs.LeftToTest.{every-next, every-stop, every-done}
+use Rattle.catalogue_check.proofs.check.good_types.Given as goal
+
+abbrev pub invariant-loop-k : goal.invariant-loop-k
+invariant-loop-k l = (l.k ≤ l.top) × (l.top ≡ types l.cat) ×
+    (every (good_type l.cat) (range (l.k + 1) (l.top - l.k)) ≡ every (good_type l.cat) (range 1 l.top)) × Ready l.cat l.levels l.k
+
+abbrev pub decreases-loop-k : goal.decreases-loop-k
+decreases-loop-k l = l.top - l.k

@@ -1,0 +1,8 @@
+use Rattle.rules.specs.Table.{count}
+use borrow.Author.Rules.{rules}
+use Rattle.cells.proofs.lookup.count.Goals as goal
+
+
+pub returns : goal.returns
+unfolding count
+returns c = c.word_at.ensures

@@ -1,0 +1,14 @@
+use mathlib.Core.Path.{◌≡◌, refl, sym, ◌∙◌}
+use Prim.Native.Nat.{◌≤◌, ◌-◌}
+use native.Mathlib.Omega.{arith}
+use Rattle.rules.specs.Catalogue.{types}
+use Rattle.catalogue.proofs.Hierarchy.{header-facts}
+use Rattle.cells.proofs.Ancestry.{InnerTypes, inner_start, inner-next, outer-stop}
+use borrow.Author.Rules.{rules}
+use Rattle.cells.proofs.runs.last_beneath.Given as goal
+
+abbrev pub invariant-loop-last : goal.invariant-loop-last
+invariant-loop-last l = (l.t ≤ l.last) × (l.last ≤ types l.cat) × InnerTypes l.cat l.t l.last
+
+abbrev pub decreases-loop-last : goal.decreases-loop-last
+decreases-loop-last l = types l.cat - l.last

@@ -1,0 +1,47 @@
+use mathlib.Core.Path.{◌≡◌, refl, ap, ◌∙◌}
+use Prim.Native.Nat.{◌≤◌, ◌-◌}
+use native.Mathlib.Omega.{arith}
+use Rattle.rules.specs.Block.{byte}
+use Rattle.cells.specs.Lent.{end_from}
+use Rattle.cells.proofs.Start.{inside-less, start-in}
+use Rattle.cells.proofs.Located.{behind-in, behind-low, behind-high, end_none, end-here, end_more}
+use Rattle.cells.proofs.runs.passed.Goals as goal
+
+
+pub start_of-at-requires : goal.start_of-at-requires
+start_of-at-requires c = inside-less c.requires.0 c.loop-i.i
+    (omega (arith, c.loop-i-test.true))
+
+pub bounds-tab-at : goal.bounds-tab-at
+bounds-tab-at c = omega (
+  arith,
+  c.start_of-at.ensures.0,
+  start-in
+      c.requires.0 c.loop-i.i
+      c.loop-i-test.true,
+  c.requires.0.some,
+)
+
+pub returns-then-u-t : goal.returns-then-u-t
+returns-then-u-t c = end-here _ _ _ _ _ _ (behind-low c.args.tab.now c.args.size c.args.t c.args.last c.loop-i.i _
+    (ap (byte c.args.tab.now) c.start_of-at.ensures.0) c.if-u-t.true) ∙ c.loop-i.invariant.2
+
+pub returns-then-last-u : goal.returns-then-last-u
+returns-then-last-u c = end-here _ _ _ _ _ _ (behind-high c.args.tab.now c.args.size c.args.t c.args.last c.loop-i.i _
+    (ap (byte c.args.tab.now) c.start_of-at.ensures.0) c.if-last-u.true) ∙ c.loop-i.invariant.2
+
+pub loop-i-preserved : goal.loop-i-preserved
+loop-i-preserved c = (
+  omega (arith, c.loop-i.invariant.0),
+  omega arith,
+  end_more _ _ _ _ _ _
+      c.loop-i-test.true
+      (behind-in c.args.tab.now c.args.size c.args.t c.args.last
+      c.loop-i.i _
+      (ap (byte c.args.tab.now) c.start_of-at.ensures.0)
+      (omega (arith, c.if-u-t.false)) (omega (arith, c.if-last-u.false))) ∙
+      c.loop-i.invariant.2,
+)
+
+pub returns : goal.returns
+returns c = end_none _ _ _ _ _ _ (omega arith) ∙ c.loop-i.invariant.2
