@@ -10,6 +10,7 @@ use Rattle.twins.specs.Among.{placed}
 use Rattle.twins.proofs.Listing.{row_new}
 use Rattle.twins.proofs.Passing.{onward, onward-start, onward-stop, onward-twin, onward-other, onward-end}
 use Rattle.twins.proofs.pass_row.Goals as goal
+use Rattle.twins.proofs.pass_row.Goals.{then-is_equal, else-is_equal}
 
 
 pub levels-requires : goal.levels-requires
@@ -47,19 +48,14 @@ pub loop-at-preserved : goal.loop-at-preserved
 loop-at-preserved c = (
   omega arith,
   omega arith,
-  ⊎_elim
-      (λ w. onward-twin (row_new c.requires.0 c.requires.2) _ _ c.loop-at.invariant.0
-      c.loop-at-test.true
-      c.stands_to-o.ensures
-      (sym c.is_smaller.ensures ∙ c.if-is_smaller.false)
-      (sym c.is_equal.ensures ∙ w.0.true) w.1 ∙
-      c.loop-at.invariant.2)
-      (λ w. onward-other (row_new c.requires.0 c.requires.2) _ _ c.loop-at.invariant.0
-      c.loop-at-test.true
-      c.stands_to-o.ensures
-      (sym c.is_smaller.ensures ∙ c.if-is_smaller.false)
-      (sym c.is_equal.ensures ∙ w.0.false) w.1 ∙
-      c.loop-at.invariant.2) c.if-is_equal.branch,
+  elim c.if-is_equal.branch [
+    | then-is_equal w ↦
+        onward-twin (row_new c.requires.0 c.requires.2) _ _ c.loop-at.invariant.0 c.loop-at-test.true c.stands_to-o.ensures
+        (sym c.is_smaller.ensures ∙ c.if-is_smaller.false) (sym c.is_equal.ensures ∙ w.if-is_equal.true) w.taken-is ∙ c.loop-at.invariant.2
+    | else-is_equal w ↦
+        onward-other (row_new c.requires.0 c.requires.2) _ _ c.loop-at.invariant.0 c.loop-at-test.true c.stands_to-o.ensures
+        (sym c.is_smaller.ensures ∙ c.if-is_smaller.false) (sym c.is_equal.ensures ∙ w.if-is_equal.false) w.taken-is ∙ c.loop-at.invariant.2
+  ],
 )
 
 pub returns : goal.returns

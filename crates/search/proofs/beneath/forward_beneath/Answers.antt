@@ -14,6 +14,7 @@ use Rattle.search.specs.Stretch.{levels, stretch_before}
 use Rattle.search.proofs.Branches.{good-sound, carried-cell, before-next, turn-found, turn-next, first-none, end-in}
 use Rattle.search.proofs.Within.{sound-good, in-run, past-run}
 use Rattle.search.proofs.beneath.forward_beneath.Goals as goal
+use Rattle.search.proofs.beneath.forward_beneath.Goals.{then-l-last+else-long-last, else-l-last}
 
 
 pub levels-requires : goal.levels-requires
@@ -85,7 +86,7 @@ loop-i-preserved c =
           c.requires.1.cell) c.requires.1.some
           c.level_at-l.ensures c.stretched-long.ensures
           c.level_by-last.ensures
-          (⊎_elim (λ w a b. w.1.false b) (λ w a b. w.false a) c.if-l-last.branch) ∙
+          (λ a b. elim c.if-l-last.branch [ then-l-last+else-long-last w ↦ w.if-long-last.false b | else-l-last w ↦ w.if-l-last.false a ]) ∙
           c.loop-i.invariant.3,
     )
 
