@@ -34,4 +34,4 @@ returns-then-was-now c =
 pub returns : goal.returns
 returns c =
     levels-same c.args.cat.now c.args.u c.args.t c.level_by-was.result c.level_by-now.result c.level_by-was.ensures
-    c.level_by-now.ensures c.if-t-u.left c.if-now-was.false c.if-was-now.false
+    c.level_by-now.ensures c.if-t-u.false c.if-now-was.false c.if-was-now.false

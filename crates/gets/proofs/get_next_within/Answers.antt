@@ -37,7 +37,7 @@ first_beneath-requires c =
             c.requires.1;
       },
       search-beneath c.requires.0 c.last_type-t.result c.last_type-t.ensures
-          (eqb-false _ _ (sym c.are_empty.ensures ∙ c.if-are_empty.false)) c.parentage-1.given.0.0 c.in-Of.is
+          (eqb-false _ _ (sym c.are_empty.ensures ∙ c.if-are_empty.false)) c.in-Of.p c.in-Of.is
           c.after_place-from.result c.after_place-from.ensures,
     )
 
@@ -45,8 +45,8 @@ pub returns-in_default-first_beneath : goal.returns-in_default-first_beneath
 returns-in_default-first_beneath c =
     ap (λ (r : Answer). left r c.args.area.now) c.missed-in_default-first_beneath.ensures ∙ within-missed c.requires.0 c.args.area.now
     c.args.hold c.last_type-t.result c.first_beneath.result c.last_type-t.ensures c.after_place-from.result
-    c.after_place-from.ensures _ c.first_beneath.ensures c.parentage-1.given.0.0 c.in_default-first_beneath.is refl
-    c.enum_told-in_default-first_beneath-1.given.1
+    c.after_place-from.ensures _ c.first_beneath.ensures c.in-Of.p c.in-Of.is refl
+    c.in_default-first_beneath.is
 
 pub got-requires : goal.got-requires
 got-requires c =
@@ -60,17 +60,17 @@ got-requires c =
             c.last_type-t.result)
             c.after_place-from.result
             (end_at c.args.cat.now (listing c.args.cat.now c.args.tab.now)
-            c.parentage-1.given.0.0.0)
-            c.c-1.given.0.0 (sym c.first_beneath.ensures ∙
-            c.c-1.given.1),
+            c.in-Of.p.0)
+            c.in-At.c (sym c.first_beneath.ensures ∙
+            c.in-At.is),
         end-in (search-good
             c.requires.0 c.last_type-t.result
             c.last_type-t.ensures)
-            c.parentage-1.given.0.0.0
+            c.in-Of.p.0
             (parent_in c.args.cat.now c.args.tab.now c.args.pos
             c.requires.0.position
-            c.parentage-1.given.0.0
-            c.parentage-1.given.1),
+            c.in-Of.p
+            c.in-Of.is),
       ),
       c.requires.2,
     )
@@ -78,6 +78,6 @@ got-requires c =
 pub returns : goal.returns
 returns c = c.got.ensures ∙ within-found c.requires.0 c.args.area.now c.args.hold c.last_type-t.result
     c.first_beneath.result c.last_type-t.ensures c.after_place-from.result c.after_place-from.ensures _
-    c.first_beneath.ensures c.parentage-1.given.0.0 c.c-1.given.0.0 Blank c.in-At.is refl
-    c.c-1.given.1 (status-named c.requires.0 c.c-1.given.0.0.0
+    c.first_beneath.ensures c.in-Of.p c.in-At.c Blank c.in-Of.is refl
+    c.in-At.is (status-named c.requires.0 c.in-At.c.0
     (eqb-false _ _ (sym c.are_empty.ensures ∙ c.if-are_empty.false)))

@@ -27,13 +27,13 @@ got-requires c =
     (
       c.requires.0.sound,
       along-in (search-good c.requires.0 c.last_of.result.code
-          (ap (λ (a : Argument). a.code) c.last_of.ensures)) c.args.pos.place c.c-1.given.0.0
+          (ap (λ (a : Argument). a.code) c.last_of.ensures)) c.args.pos.place c.in-At.c
           (place-good c.args.cat.now c.args.tab.now c.args.pos c.requires.0.position)
-          (sym (along-alone _ _ _ _ _ c.along.ensures) ∙ c.c-1.given.1),
+          (sym (along-alone _ _ _ _ _ c.along.ensures) ∙ c.in-At.is),
       c.requires.1,
     )
 
 pub returns : goal.returns
 returns c = c.got.ensures ∙ unique-found c.requires.0 c.args.area.now c.args.hold c.last_of.result.code c.along.result
-    (ap (λ (a : Argument). a.code) c.last_of.ensures) (along-alone _ _ _ _ _ c.along.ensures) c.c-1.given.0.0
-    c.c-1.given.1
+    (ap (λ (a : Argument). a.code) c.last_of.ensures) (along-alone _ _ _ _ _ c.along.ensures) c.in-At.c
+    c.in-At.is

@@ -8,4 +8,4 @@ returns-then-used-gt1843 c = rw (c.spoil.ensures.0, c.spoil.ensures.1)
     (all_none c.args.list.now c.args.used c.args.code c.if-used-gt1843.true)
 
 pub returns : goal.returns
-returns c = all-some c.args.list.now c.args.used c.args.code _ c.if-used-gt1843.false c.put_all_lem.ensures
+returns c = all-some c.args.list.now c.args.used c.args.code _ c.if-used-gt1843.false c.put_all.ensures
