@@ -67,4 +67,4 @@ returns-in-33 c = letters-of PD c.in-33.is c.letters-in-33.ensures
 
 pub returns-in_default : goal.returns-in_default
 unfolding printed_statuses
-returns-in_default c = letters-none c.args.status c.in_default.rest
+returns-in_default c = letters-none c.args.status c.in_default.in_default-own.rest

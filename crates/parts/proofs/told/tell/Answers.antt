@@ -4,7 +4,7 @@ use Rattle.parts.proofs.told.tell.Goals as goal
 
 
 pub returns : goal.returns
-returns c = told-whole c.args.result c.umbristal_status-status.result _ _ _
+returns c = told-whole c.args.res c.umbristal_status-status.result _ _ _
     c.umbristal_removed-removed.result
     c.told_letters-two.result (search rules)
     c.umbristal_status-status.ensures
