@@ -94,7 +94,7 @@ told-requires c =
 pub packed-requires : goal.packed-requires
 packed-requires c =
     told_none c.args.cat.now c.args.tab.now c.args.pos.now c.args.list.now c.args.area.now c.requires.0
-    c.requires.1 c.cell_after-i.result c.cell_after-i.ensures c.count.result c.count.ensures.0 c.if-count-i.left
+    c.requires.1 c.cell_after-i.result c.cell_after-i.ensures c.count.result c.count.ensures.0 c.if-count-i.false
     c.is_on.result c.is_on.ensures c.next_status-s.result c.next_status-s.ensures c.show-t.result
     c.show-t.ensures.0 c.show-t.new.area c.show-t.ensures.1 c.moved_onto-p.result c.moved_onto-p.ensures
     c.told.result c.told.ensures
@@ -102,7 +102,7 @@ packed-requires c =
 pub returns : goal.returns
 returns c =
     step-found c.args.cat.now c.args.tab.now c.args.pos.now c.args.list.now c.args.area.now c.requires.0
-    c.requires.1 c.cell_after-i.result c.cell_after-i.ensures c.count.result c.count.ensures.0 c.if-count-i.left
+    c.requires.1 c.cell_after-i.result c.cell_after-i.ensures c.count.result c.count.ensures.0 c.if-count-i.false
     c.is_on.result c.is_on.ensures c.next_status-s.result c.next_status-s.ensures c.show-t.result
     c.show-t.ensures.0 c.show-t.new.area c.show-t.ensures.1 c.moved_onto-p.result c.moved_onto-p.ensures
     c.told.result c.told.ensures c.packed.result c.put_position-2.new.block
