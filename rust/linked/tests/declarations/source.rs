@@ -27,7 +27,7 @@ pub fn declared(text: &str) -> Result<Vec<Signature>, String> {
 
 /// The functions of a crate that are marked for the archive.
 pub fn exported(text: &str) -> Result<Vec<Signature>, String> {
-    const MARK: &str = "#[no_mangle] ";
+    const MARK: &str = "#[unsafe(no_mangle)] ";
     const HEAD: &str = "pub extern \"C\" fn ";
     let code = without_comments(text);
     let mut all = Vec::new();
