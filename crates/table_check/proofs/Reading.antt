@@ -36,14 +36,14 @@ module _ {cells facts : Bytes} {v left : ℕ} where
     group-ends e = record { is = λ t k. sym (behind t k) ∙ Groups.group-none _ _ _ _ _ _ e }
 
     module _ {r : Bool} (o : 1 ≤ rest) (w : TwinIs cells facts v last rest r) where
-      pub group-stops : not r ≡ true → GroupLeaves cells facts v left rest
+      pub group-stops : r ≡ false → GroupLeaves cells facts v left rest
       group-stops e = record { is = λ t k. sym (behind t k) ∙ Groups.group-stop _ _ _ _ _ _ o (told-no (w.is t k (g.type t k)) e) }
 
-      next-twin : {cat tab : Bytes} → Told cat tab cells facts → v ≤ types cat → not r ≡ false
+      next-twin : {cat tab : Bytes} → Told cat tab cells facts → v ≤ types cat → r ≡ true
           → is_twin cat (listing cat tab) v (some (count tab - last)) (count tab - rest) ≡ true
       next-twin t k e = told-yes (w.is t k (g.type t k)) e
 
-      pub group-goes : not r ≡ false → GroupAt cells facts v left rest
+      pub group-goes : r ≡ true → GroupAt cells facts v left rest
       group-goes e = record {
         type = λ t k. Groups.twin-type _ _ _ _ _ (next-twin t k e);
         is = λ t k. Groups.group-twin _ _ _ _ _ _ o (next-twin t k e) ∙ behind t k;

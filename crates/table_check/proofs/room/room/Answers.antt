@@ -1,0 +1,21 @@
+use mathlib.Core.Path.{ap}
+use Prim.Native.Nat.{ℕ, ◌-◌, ◌/◌}
+use native.Mathlib.Omega.{arith}
+use lib.ListN.{length}
+use Rattle.rules.specs.Table.{cell_size, room}
+use Rattle.table_check.proofs.Space.{room-none}
+use borrow.Author.Rules.{rules}
+use Rattle.table_check.proofs.room.room.Goals as goal
+
+
+pub returns-then-tab-lt8 : goal.returns-then-tab-lt8
+unfolding cell_size room
+returns-then-tab-lt8 c = room-none c.args.cat.now c.args.tab.now c.if-tab-lt8.true
+
+pub nonzero_div-result : goal.nonzero_div-result
+unfolding cell_size room
+nonzero_div-result c = omega (arith, c.cell_size-size.ensures.0)
+
+pub returns : goal.returns
+unfolding cell_size room
+returns c = ap (λ (n : ℕ). (length c.args.tab.now - 8) / n) c.cell_size-size.ensures.0
