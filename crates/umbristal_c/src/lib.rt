@@ -1,4 +1,4 @@
-// What programs in C, COBOL and Rust link: an export for each function of the libraries below that they call, with its clauses. Nothing is decided here.
+// The archive for C, COBOL and Rust: an export for each function of the libraries below that they call, with its clauses. Nothing is decided here.
 #![tactic(auto)]
 
 mod blocks_read;
