@@ -3,7 +3,8 @@
 use crate::signature::{kind, Parameter, Signature};
 
 /// Parameters that a crate calls otherwise than the header.
-const OTHER_NAMES: [(&str, &str); 3] = [
+const OTHER_NAMES: [(&str, &str); 4] = [
+    ("res", "result"),
     ("one", "list1"),
     ("two", "list2"),
     ("operator", "operation"),
