@@ -8,7 +8,6 @@ use lib.Dec.{ltb, eqb}
 use lib.ListN.{length, take, drop, set, replicate, length-append, length-set, length-replicate, length-take, length-drop, get_or-append}
 use lib.Seq.{sets, length-sets, take_all}
 use borrow.Author.Tests.{lt-ltb, le-ltb, eq-eqb, ne_eqb}
-use Rattle.forest.specs.Good.{is}
 use Rattle.terms.specs.Choice.{pick}
 use Rattle.rules.specs.Block.{Bytes, byte, part, same_bytes}
 use Rattle.rules.specs.Catalogue.{types, fields, good_span, good_type}
@@ -205,8 +204,8 @@ root-not r t h = and_left r (ltb 0 t) h
 pub parent-there : (r : Bool) (a : ℕ) → (a ≡ 0 → ⊥) → (not r && eqb a 0) ≡ false
 parent-there r a h = and-not (not r) (eqb a 0) (ne_eqb a 0 h)
 
-pub parent-none : (r : Bool) (a : ℕ) → not r ≡ false → (not r && eqb a 0) ≡ false
-parent-none r a h = and_left (not r) (eqb a 0) h
+pub parent-none : (r : Bool) (a : ℕ) → r ≡ true → (not r && eqb a 0) ≡ false
+parent-none r a h = and_left (not r) (eqb a 0) (ap not h)
 
 module _ (b levels : Bytes) (s : Sound b levels) (n : Bytes) (kind l start : ℕ) where
   pub field-none-yet : types b ≡ 0 → taken (draft_of b) (field n kind l start) ≡ bad misplaced

@@ -20,10 +20,10 @@ use Rattle.dbd_draft.specs.Kept.{draft_of, Sound}
 use Rattle.dbd_draft.proofs.Writes.{kept-before}
 use Rattle.dbd_draft.proofs.Ordered.{type-same}
 use Rattle.dbd_draft.proofs.Drafts.{key_bytes, types_are, fields-are, with-length, keyed}
-use Rattle.dbd_draft.proofs.Sounds.{type_written, type-long, type-ready, type-entry, type-other}
+use Rattle.dbd_draft.proofs.Sounds.{type_written, type-ready, type-entry, type-other}
 use Rattle.dbd_draft.proofs.Sounds.{counted-types, counted-long, counted-fields, counted-headed, type-draft}
 use Rattle.dbd_draft.proofs.Sounds.{field_written, added-fields, added-types, added-entry, added-low, field-draft, field-sound, keyed-sound}
-use Rattle.dbd_draft.proofs.Catalogues.{Framed, framed, block-byte, block-long, last-good}
+use Rattle.dbd_draft.proofs.Catalogues.{Framed, framed, block-byte, last-good}
 
 -- one too many
 pub type-full : (b name : Bytes) (above long : ℕ) → 32 ≤ types b → ruled_type (with_type (draft_of b) name above long) ≡ bad unruled

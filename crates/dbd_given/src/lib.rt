@@ -1,4 +1,6 @@
 // Whether the reader could have given a catalogue and a list of names (R82).
+#![tactic(auto)]
+
 pub mod keys;
 mod names;
 mod plain;

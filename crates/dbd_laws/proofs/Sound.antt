@@ -2,14 +2,14 @@
 use mathlib.Core.Path.{◌≡◌, refl, ap, sym, ◌∙◌}
 use mathlib.Core.Bool.{true, ◌&&◌}
 use mathlib.Core.List.{List, [], ◌∷◌, ◌++◌}
-use Prim.Native.Nat.{ℕ, zero, suc, ◌+◌, ◌-◌, ◌<◌, ◌≤◌}
+use Prim.Native.Nat.{ℕ, zero, suc, ◌-◌, ◌<◌, ◌≤◌}
 use native.Mathlib.Omega.{arith}
 use lib.Dec.{leb}
 use lib.ListN.{length, get_or, length-append, get_or-append}
 use borrow.Author.Tests.{leb-true, le-leb}
 use Rattle.terms.specs.Names.{code}
 use Rattle.rules.specs.Block.{Bytes, byte}
-use Rattle.rules.specs.Catalogue.{types, type_byte, parent_of, length_of, field_type, field_start, field_length, field_value, is_type}
+use Rattle.rules.specs.Catalogue.{type_byte, parent_of, length_of, field_type, field_start, field_length, field_value, is_type}
 use Rattle.rules.specs.Catalogue.{good_span, good_value, good_type, good_field}
 use Rattle.rules.proofs.Catalogue.{par}
 use Rattle.rules.proofs.Joined.{two, three}

@@ -1,15 +1,12 @@
 -- What a line says, by the form that it has: of blanks alone, no statement, or the statement of the first form that fits. Assumes nothing.
 use mathlib.Core.Path.{◌≡◌, refl, ap, sym, ◌∙◌, subst}
 use mathlib.Core.Bool.{Bool, true, false}
-use mathlib.Core.Logic.{inl, inr}
 use mathlib.Core.Option.{none, some}
 use mathlib.Core.List.{List, [], ◌∷◌}
 use Prim.Native.Nat.{ℕ, suc, ◌<◌, ◌≤◌}
 use native.Mathlib.Omega.{arith}
 use lib.ListN.{length, drop}
 use lib.Seq.{drop-length, drop-cons}
-use types.Run.{OneOf}
-use denote.Enum.Declared.{tag_of, declared}
 use Rattle.forest.specs.Good.{on, off, is}
 use Rattle.rules.specs.Block.{Bytes, byte}
 use Rattle.statements.specs.Words.{Token, word, sign, in_word, is_blank, in_front, joined, tokens}
@@ -21,7 +18,6 @@ use Rattle.dbd_words.specs.Row.{PastBlanks}
 use Rattle.dbd_line.specs.declared.Line.{Line}
 use Rattle.dbd_line.specs.declared.Line.TheVariants.{Empty, Wrong, IsDbd, IsSegm, IsField}
 use Rattle.dbd_line.specs.Meant.{Tells, Means}
-use Rattle.dbd_line.specs.contracts.Line.{enum}
 
 -- R73: a line of blanks alone has no token, and any other line has one
 tokens_none : tokens [] ≡ []
@@ -89,27 +85,20 @@ says form s line (IsDbd a) f w t = record { statement = s; meant = t.1; same = �
 says form s line (IsSegm a b l) f w t = record { statement = s; meant = t.1; same = λ d. taken-some d line s (tokens line) refl (f t.0) }
 says form s line (IsField a j l b) f w t = record { statement = s; meant = t.1; same = λ d. taken-some d line s (tokens line) refl (f t.0) }
 
--- the tags of the variants but Wrong
-other : (n : ℕ) → OneOf (0 ∷ 2 ∷ 3 ∷ 4 ∷ []) n → n ≡ 1 → ⊥
-other n (inl h) e = omega arith
-other n (inr (inl h)) e = omega arith
-other n (inr (inr (inl h))) e = omega arith
-other n (inr (inr (inr h))) e = omega arith
-
-not-wrong : (line : Bytes) (a : Line) → OneOf (0 ∷ 2 ∷ 3 ∷ 4 ∷ []) (tag_of (declared enum) a) → a ≡ Wrong → Means line a
-not-wrong line a o e = absurd (other (tag_of (declared enum) a) o (ap (tag_of (declared enum)) e))
+not-wrong : (line : Bytes) (a : Line) → (a ≡ Wrong → ⊥) → a ≡ Wrong → Means line a
+not-wrong line a o e = absurd (o e)
 
 -- R76: the forms in their order
 module _ (line : Bytes) (a : Line) where
-  pub dbd-says : OneOf (0 ∷ 2 ∷ 3 ∷ 4 ∷ []) (tag_of (declared enum) a) → Tells dbd_form (dbd_of (tokens line)) line a → Means line a
+  pub dbd-says : (a ≡ Wrong → ⊥) → Tells dbd_form (dbd_of (tokens line)) line a → Means line a
   dbd-says o t = says dbd_form (dbd_of (tokens line)) line a (is-dbd (tokens line)) (not-wrong line a o) t
 
   module _ (x : formed dbd_form (tokens line) ≡ false) where
-    pub segm-says : OneOf (0 ∷ 2 ∷ 3 ∷ 4 ∷ []) (tag_of (declared enum) a) → Tells segm_form (segm_of (tokens line)) line a → Means line a
+    pub segm-says : (a ≡ Wrong → ⊥) → Tells segm_form (segm_of (tokens line)) line a → Means line a
     segm-says o t = says segm_form (segm_of (tokens line)) line a (is-segm (tokens line) x) (not-wrong line a o) t
 
     module _ (y : formed segm_form (tokens line) ≡ false) where
-      pub field-says : OneOf (0 ∷ 2 ∷ 3 ∷ 4 ∷ []) (tag_of (declared enum) a) → Tells field_form (field_of (tokens line)) line a → Means line a
+      pub field-says : (a ≡ Wrong → ⊥) → Tells field_form (field_of (tokens line)) line a → Means line a
       field-says o t = says field_form (field_of (tokens line)) line a (is_field (tokens line) x y) (not-wrong line a o) t
 
       pub key-says : formed field_form (tokens line) ≡ false → (tokens line ≡ [] → ⊥) → Tells key_form (key_of (tokens line)) line a → Means line a

@@ -1,7 +1,7 @@
 -- The statement that a line is, by the places of its words. Assumes nothing: these are definitions.
-use Rattle.std.specs.Prelude.{◌≡◌, Bool, true, false, List, [], ◌∷◌, ℕ, ◌+◌, ◌≤◌, ◌<◌, length, drop}
+use Rattle.std.specs.Prelude.{◌≡◌, true, false, List, [], ℕ, ◌+◌, ◌≤◌, ◌<◌, length, drop}
 use Rattle.rules.specs.Block.{Bytes}
-use Rattle.statements.specs.Words.{Token, tokens, value}
+use Rattle.statements.specs.Words.{tokens, value}
 use Rattle.statements.specs.Statement.{Statement, dbd, segm, field, Slot, span_form, formed, word_at}
 use Rattle.statements.specs.Draft.{Draft, misplaced, bad, taken, line_taken}
 use Rattle.dbd_words.specs.declared.Span.{Span}

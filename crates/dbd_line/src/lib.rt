@@ -1,4 +1,6 @@
 // The statement that a line is (R76): each form is tried on the whole line.
+#![tactic(auto)]
+
 pub mod forms;
 
 use dbd_words::Span;

@@ -8,7 +8,7 @@ use lib.ListN.{length, drop, drop_of_length-le}
 use borrow.Author.Tests.{eq-eqb, ne_eqb}
 use borrow.Rule.Slice.PartMut.{mid_of}
 use Rattle.rules.specs.Block.{Bytes, byte, part}
-use Rattle.rules.specs.Catalogue.{types, fields}
+use Rattle.rules.specs.Catalogue.{types}
 use Rattle.statements.specs.Lines.{lines_of}
 use Rattle.statements.specs.Draft.{Draft, Fault as Kind, misplaced, twice, orphan, unruled, fault_number, Taken, goes, bad, line_taken}
 use Rattle.statements.specs.Dbd.{Reading as Answer, refused, given, ended, read_from, dbd_read}

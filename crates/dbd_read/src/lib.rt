@@ -1,4 +1,6 @@
 // The reader of DBD statements: a catalogue and its names from a text (R73 to R80).
+#![tactic(auto)]
+
 mod lines;
 mod out;
 

@@ -1,4 +1,6 @@
 // Words and signs of a line (R74, R75), and what a form asks of them.
+#![tactic(auto)]
+
 pub mod slots;
 pub mod words;
 

@@ -1,4 +1,6 @@
 // The writer of DBD statements: a text from a catalogue and its names (R81 to R83).
+#![tactic(auto)]
+
 mod lines;
 mod text;
 mod whole;
