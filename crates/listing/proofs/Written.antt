@@ -44,7 +44,7 @@ wrote_as {at} {a} {b} {out} {next} {end} w e = record {
 
 -- two letters
 pub letters-length : (s : Status) → length (letters s) ≡ 2
-letters-length s = elim s [
+letters-length s = elim s as (λ v. length (letters v) ≡ 2) [
   | Blank ↦ refl
   | GA ↦ refl
   | GK ↦ refl

@@ -1,3 +1,1 @@
 pub mod Held
-pub mod Asked
-pub mod Once

@@ -1,0 +1,8 @@
+use Rattle.cobol.proofs.Whole.{front_long, checked-back}
+use borrow.Author.Rules.{rules}
+use Rattle.cobol.proofs.fronts.checked.Goals as goal
+
+
+pub returns : goal.returns
+returns c = checked-back c.args.ask.now c.args.cat.now c.args.tab.now c.cat_length-c.result c.tab_length-t.result _
+    c.cat_length-c.ensures.0 c.tab_length-t.ensures.0 c.umbristal_table_check.ensures

@@ -1,0 +1,7 @@
+use Rattle.cobol.proofs.Whole.{call-told}
+use borrow.Author.Rules.{rules}
+use Rattle.cobol.proofs.umbristal_cobol_call.Goals as goal
+
+
+pub returns : goal.returns
+returns c = call-told _ _ _ _ _ _ c.tell.ensures c.called.ensures
