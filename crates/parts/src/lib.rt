@@ -5,4 +5,8 @@ mod blocks_read;
 mod lists;
 mod positions;
 mod results;
+pub mod blocks_read;
+pub mod lists;
+pub mod positions;
+pub mod results;
 pub mod told;

@@ -1,7 +1,6 @@
-/* The listing program's main, in C: a Rattle program has neither an exit status nor words for a file that cannot be read. It names the files, watches
- * the proved program's reads and writes (the linker's --wrap), and ends with a status that says what came of them. tools/host-lister links the two. */
+/* umbristal-list: the listing program, crates/lister, with names for its files, and with words and a status for what comes of them. The proved program
+ * is linked as it is; its calls of the system (main, open, read and write, by the linker's --wrap) come here. tools/host-lister links the two. */
 #include <errno.h>
-#include <fcntl.h>
 #include <stdio.h>
 #include <stdlib.h>
 #include <string.h>
@@ -26,14 +25,15 @@ static const char *catalogue = "CAT.HDC", *table = "TAB.HDT";
 static const char *opened; /* the file that the program reads from now */
 static char tail[3];       /* the last bytes that were written */
 
-int __real_main(void);
+int __real_main(int argc, char **argv);
+int __real_open(const char *path, int how, ...);
 ssize_t __real_read(int fd, void *to, size_t n);
 ssize_t __real_write(int fd, const void *from, size_t n);
+int __wrap_main(int argc, char **argv);
+int __wrap_open(const char *path, int how, ...);
 ssize_t __wrap_read(int fd, void *to, size_t n);
 ssize_t __wrap_write(int fd, const void *from, size_t n);
-int __wrap_main(int argc, char **argv);
-int rattle_open_to_read(const char *path);
-void rattle_set_errno(int error);
+void *__wrap___sysv_signal(int number, void *does);
 
 static void fail(const char *what)
 {
@@ -42,10 +42,10 @@ static void fail(const char *what)
 }
 
 /* The program asks for CAT.HDC and TAB.HDT, and gets what the caller named instead. */
-int rattle_open_to_read(const char *path)
+int __wrap_open(const char *path, int how, ...)
 {
     opened = strcmp(path, "CAT.HDC") == 0 ? catalogue : table;
-    int fd = open(opened, O_RDONLY);
+    int fd = __real_open(opened, how, 0);
     if (fd < 0 && errno != ENOENT)
         fail(opened);
     struct stat file;
@@ -56,7 +56,13 @@ int rattle_open_to_read(const char *path)
     return fd;
 }
 
-void rattle_set_errno(int error) { errno = error; }
+/* A pipe that nobody reads any more ends this program by its signal, as it does others, so the signal is not ignored. */
+void *__wrap___sysv_signal(int number, void *does)
+{
+    (void)number;
+    (void)does;
+    return NULL;
+}
 
 ssize_t __wrap_read(int fd, void *to, size_t n)
 {
@@ -69,7 +75,7 @@ ssize_t __wrap_read(int fd, void *to, size_t n)
     return got;
 }
 
-/* The program does not look at what becomes of a line, so a line that is not taken ends it here. */
+/* A line that is not taken ends the program here, with this program's words. */
 ssize_t __wrap_write(int fd, const void *from, size_t n)
 {
     ssize_t put;
@@ -113,7 +119,7 @@ int __wrap_main(int argc, char **argv)
     } else if (argc != first) {
         return wrong_usage();
     }
-    __real_main();
+    __real_main(1, argv);
     if (close(STDOUT_FILENO) != 0)
         fail("standard output");
     return memcmp(tail, "GB\n", sizeof tail) == 0 ? LISTED : REFUSED;
