@@ -1,10 +1,6 @@
 // What callers in other languages take apart and put together without knowing the formats: results, positions, cells and lists. Each takes any bytes.
 #![tactic(auto)]
 
-mod blocks_read;
-mod lists;
-mod positions;
-mod results;
 pub mod blocks_read;
 pub mod lists;
 pub mod positions;

@@ -9,7 +9,8 @@ use lib.Dec.{leb, eqb}
 use borrow.Author.Tests.{lt-ltb, ne_eqb, eqb-true}
 use Rattle.terms.specs.Choice.{pick}
 use Rattle.terms.specs.Names.{code}
-use Rattle.forest.specs.Good.{on, off, is, both_left, both_right, good, formed-good}
+use Rattle.forest.specs.Good.{on, off, is, both_left, both_right, good}
+use Rattle.forest.proofs.Good.{formed-good}
 use Rattle.forest.specs.Numbers.{range, is_in}
 use Rattle.forest.specs.Types as Types
 use Rattle.rules.specs.Block.{Bytes, every, zeros, part}

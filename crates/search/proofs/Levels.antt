@@ -12,7 +12,8 @@ use borrow.Author.Tests.{eq-eqb, ne_eqb, eqb-true, eqb-false}
 use Rattle.terms.specs.declared.TypeCode.{TypeCode}
 use Rattle.terms.specs.declared.Argument.{Argument}
 use Rattle.terms.specs.Names.{code}
-use Rattle.forest.specs.Forest.{Forest, void, node, cells_of, forest_of, cells-forest, inside, outside, side}
+use Rattle.forest.specs.Forest.{Forest, void, node, cells_of, forest_of, inside, outside, side}
+use Rattle.forest.proofs.Forest.{cells-forest}
 use Rattle.forest.specs.Shape.{Levelled}
 use Rattle.forest.specs.Good.{on, off, is, formed-wf, levelled}
 use Rattle.forest.specs.Numbers.{is_in}
