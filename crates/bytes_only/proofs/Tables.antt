@@ -4,7 +4,8 @@ use mathlib.Core.Bool.{true, and-true}
 use mathlib.Core.List.{List, ◌∷◌, ◌++◌}
 use Prim.Native.Nat.{ℕ}
 use lib.Dec.{eqb}
-use Rattle.forest.specs.Forest.{Forest, forest_of, cells-forest}
+use Rattle.forest.specs.Forest.{Forest, forest_of}
+use Rattle.forest.proofs.Forest.{cells-forest}
 use Rattle.forest.specs.Good.{both_left}
 use Rattle.forest.specs.Formed.{formed-alike, formed-cells}
 use Rattle.rules.specs.Block.{Bytes, every}

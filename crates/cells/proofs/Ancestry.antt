@@ -15,7 +15,8 @@ use Rattle.forest.specs.Forest.{Forest, void, node, inside, outside, side, fores
 use Rattle.forest.specs.Rows.{rows, map_f}
 use Rattle.forest.specs.Good.{on, off, is, both_left, both_right, Wf, formed-wf}
 use Rattle.forest.specs.Runs.{under, under-in, under-out}
-use Rattle.forest.specs.Numbers.{range, is_in, ancestors, row_number, run-ancestor}
+use Rattle.forest.specs.Numbers.{range, is_in, ancestors, run-ancestor}
+use Rattle.forest.proofs.Numbers.{row_number}
 use Rattle.rules.specs.Block.{Bytes, byte, part}
 use Rattle.rules.specs.Catalogue.{types, parent_of, length_of, is_type, lineage, level, type_beneath, good_catalogue}
 use Rattle.rules.specs.Cells.{Segment, segment, keyed, type_number, is_child, siblings, segment_level, good_listing, level_at, run_at, end_at}

@@ -1,5 +1,7 @@
 // The store for COBOL, which passes by reference and takes no result but an int: every block is lent by its address alone and has the size that stands here,
 // how much of it counts is said in the block `ask`, and the result is told in a block of 8 bytes (R72).
+#![tactic(auto)]
+
 mod fronts;
 mod lengths;
 

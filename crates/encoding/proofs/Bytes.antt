@@ -11,7 +11,8 @@ use lib.Seq.{drop-cons, take-append-add, drop-append-add, take-add, take-take, d
 use borrow.Author.Tests.{leb-true, eqb-true}
 use Rattle.terms.specs.declared.TypeCode.{TypeCode}
 use Rattle.forest.specs.Numbers.{range}
-use Rattle.forest.specs.Forest.{forest_of, cells-forest}
+use Rattle.forest.specs.Forest.{forest_of}
+use Rattle.forest.proofs.Forest.{cells-forest}
 use Rattle.forest.specs.Good.{both_left}
 use Rattle.forest.specs.Formed.{formed-cells}
 use Rattle.rules.specs.Block.{Bytes, byte, word, word_bytes, part, zeros, marked}

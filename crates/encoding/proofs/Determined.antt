@@ -4,9 +4,11 @@ use mathlib.Core.Bool.{true}
 use mathlib.Core.List.{List}
 use Prim.Native.Nat.{ℕ, suc}
 use native.Mathlib.Omega.{arith}
-use Rattle.forest.specs.Forest.{Forest, cells_of, forest_of, cells-forest}
+use Rattle.forest.specs.Forest.{Forest, cells_of, forest_of}
+use Rattle.forest.proofs.Forest.{cells-forest}
 use Rattle.forest.specs.Good.{formed, formed-wf, levelled}
-use Rattle.forest.specs.Shape.{shape-levelled, forest-cells}
+use Rattle.forest.specs.Shape.{shape-levelled}
+use Rattle.forest.proofs.Shape.{forest-cells}
 use Rattle.forest.specs.Types as Types
 use Rattle.rules.specs.Block.{Bytes}
 use Rattle.rules.specs.Catalogue.{types, is_type, lineage, level, good_catalogue}

@@ -14,11 +14,12 @@ use Rattle.terms.specs.declared.Found.{Found}
 use Rattle.terms.specs.declared.Found.TheVariants.{At, Nothing}
 use Rattle.terms.specs.Choice.{pick}
 use Rattle.terms.specs.Names.{cell}
-use Rattle.forest.specs.Forest.{Forest, void, node, cells_of, cells-forest, inside, outside, side}
+use Rattle.forest.specs.Forest.{Forest, void, node, cells_of, inside, outside, side}
+use Rattle.forest.proofs.Forest.{cells-forest}
 use Rattle.forest.specs.Good.{on, off, is}
 use Rattle.forest.specs.Shape.{Levelled}
 use Rattle.forest.specs.Edit.{size, kids, kids-fit}
-use Rattle.forest.specs.Runs.{run_length}
+use Rattle.forest.proofs.Runs.{run_length}
 use Rattle.forest.specs.Numbers.{range, length-range, get_d-range}
 use Rattle.rules.specs.Block.{Bytes}
 use Rattle.rules.specs.Cells.{Segment, segment, level_at, run_at, end_at}

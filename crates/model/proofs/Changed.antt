@@ -7,12 +7,15 @@ use native.Mathlib.Omega.{arith}
 use lib.Dec.{eqb}
 use lib.ListN.{length, get_or, take, drop, set}
 use Rattle.terms.specs.declared.Position.{Position}
-use Rattle.forest.specs.Forest.{Forest, cells_of, forest_of, cells-forest}
+use Rattle.forest.specs.Forest.{Forest, cells_of, forest_of}
+use Rattle.forest.proofs.Forest.{cells-forest}
 use Rattle.forest.specs.Good.{Wf, formed, wf-formed}
 use Rattle.forest.specs.Shape.{Levelled}
 use Rattle.forest.specs.Edit.{size, kids}
-use Rattle.forest.specs.Runs.{run_len, run_length, prune, cells-prune, swap, cells-swap}
-use Rattle.forest.specs.Insert.{graft, insert_under as graft_under, spot, cells-insert}
+use Rattle.forest.specs.Runs.{run_len, prune, swap}
+use Rattle.forest.proofs.Runs.{run_length, cells-prune, cells-swap}
+use Rattle.forest.specs.Insert.{graft, insert_under as graft_under, spot}
+use Rattle.forest.proofs.Insert.{cells-insert}
 use Rattle.forest.specs.Keep.{Sits, wf-prune, wf-graft, wf-insert}
 use Rattle.rules.specs.Block.{Bytes}
 use Rattle.rules.specs.Catalogue.{key_kind, good_catalogue}

@@ -17,7 +17,8 @@ use Rattle.terms.specs.Names.{cell}
 use Rattle.terms.specs.Moves.{place_number, hold_dropped, without, after_delete}
 use Rattle.forest.specs.Forest.{Forest, cells_of, forest_of}
 use Rattle.forest.specs.Edit.{size, kids}
-use Rattle.forest.specs.Runs.{run_len, run_length, prune, cells-prune, swap as swapped, cells-swap}
+use Rattle.forest.specs.Runs.{run_len, prune, swap as swapped}
+use Rattle.forest.proofs.Runs.{run_length, cells-prune, cells-swap}
 use Rattle.rules.specs.Block.{Bytes, same_bytes}
 use Rattle.rules.specs.Cells.{Segment, segment, blank, arriving, key, segment_level, run_at, end_at}
 use Rattle.rules.specs.Change.{swap, cut}

@@ -17,12 +17,15 @@ use Rattle.terms.specs.declared.Status.TheVariants.{II, FX, PD}
 use Rattle.terms.specs.Choice.{pick}
 use Rattle.terms.specs.Names.{code, cell, same_type}
 use Rattle.terms.specs.Moves.{after_insert}
-use Rattle.forest.specs.Forest.{Forest, void, node, cells_of, forest_of, rest, cells-forest}
+use Rattle.forest.specs.Forest.{Forest, void, node, cells_of, forest_of, rest}
+use Rattle.forest.proofs.Forest.{cells-forest}
 use Rattle.forest.specs.Good.{on, off, is, both_left}
 use Rattle.forest.specs.Shape.{Levelled, TopAtMost, top-rest}
 use Rattle.forest.specs.Edit.{size, kids}
-use Rattle.forest.specs.Runs.{under, run_len, run_length, tail-split, past-run, levelled-kids}
-use Rattle.forest.specs.Insert.{graft, insert_under as graft_under, passes, place, spot, place-spot, Low, cells-graft, cells-insert}
+use Rattle.forest.specs.Runs.{under, run_len, levelled-kids}
+use Rattle.forest.proofs.Runs.{run_length, tail-split, past-run}
+use Rattle.forest.specs.Insert.{graft, insert_under as graft_under, passes, place, spot, place-spot, Low, cells-graft}
+use Rattle.forest.proofs.Insert.{cells-insert}
 use Rattle.forest.specs.Numbers.{range, is_in}
 use Rattle.rules.specs.Block.{Bytes, every, any_of}
 use Rattle.rules.specs.Catalogue.{key_kind, level}

@@ -3,7 +3,7 @@
 use mathlib.Core.Path.{◌≡◌, refl, ap, sym, ◌∙◌, subst}
 use mathlib.Core.Bool.{Bool, true, false, ◌||◌}
 use mathlib.Core.List.{List, [], ◌∷◌, ◌++◌, map}
-use Prim.Native.Nat.{ℕ, zero, suc, ◌+◌, ◌-◌, ◌<◌, ◌≤◌}
+use Prim.Native.Nat.{ℕ, zero, suc, ◌<◌, ◌≤◌}
 use native.Mathlib.Omega.{arith}
 use lib.Dec.{eqb}
 use lib.ListN.{length, get_or}
@@ -13,7 +13,8 @@ use Rattle.terms.specs.Names.{code}
 use Rattle.forest.specs.Forest.{Forest, void, node, inside, outside, side, forest_of}
 use Rattle.forest.specs.Rows.{rows, back, back_in, back-out, map_f}
 use Rattle.forest.specs.Good.{on, off, is, both_left, both_right, Wf, formed-wf}
-use Rattle.forest.specs.Numbers.{range, down_to, is_in, ancestors, row_number, length-rows, run-ancestor}
+use Rattle.forest.specs.Numbers.{range, down_to, is_in, ancestors, run-ancestor}
+use Rattle.forest.proofs.Numbers.{row_number, length-rows}
 use Rattle.forest.specs.Types as Types
 use Rattle.rules.specs.Block.{Bytes}
 use Rattle.rules.specs.Catalogue.{parent_of, is_type, lineage, good_catalogue}

@@ -12,9 +12,11 @@ use Rattle.terms.specs.declared.Found.{Found}
 use Rattle.terms.specs.declared.Found.TheVariants.{At, Nothing}
 use Rattle.forest.specs.Forest.{Forest, void, node, forest_of, inside, outside, side}
 use Rattle.forest.specs.Good.{on, off, is}
-use Rattle.forest.specs.Rows.{rows, map-append, forest-map}
+use Rattle.forest.specs.Rows.{rows, map-append}
+use Rattle.forest.proofs.Rows.{forest-map}
 use Rattle.forest.specs.Runs.{under, under-in, under-out, run_len}
-use Rattle.forest.specs.Numbers.{range, row_number, length-rows}
+use Rattle.forest.specs.Numbers.{range}
+use Rattle.forest.proofs.Numbers.{row_number, length-rows}
 use Rattle.rules.specs.Block.{Bytes}
 use Rattle.rules.specs.Cells.{Segment, segment, blank, segment_level, level_at, run_at, row_at}
 use Rattle.terms.specs.Names.{cell}

@@ -3,7 +3,7 @@
 use mathlib.Core.Path.{◌≡◌, refl, ap, sym, ◌∙◌, subst}
 use mathlib.Core.Bool.{Bool, true, false, ◌&&◌, or-false}
 use mathlib.Core.List.{List, [], ◌∷◌, ◌++◌, map, reverse, reverse-cons, append_assoc, append-nil}
-use Prim.Native.Nat.{ℕ, zero, suc, ◌+◌, ◌-◌, ◌<◌, ◌≤◌}
+use Prim.Native.Nat.{ℕ, zero, suc, ◌-◌, ◌<◌, ◌≤◌}
 use native.Mathlib.Omega.{arith}
 use lib.Dec.{eqb}
 use lib.ListN.{length, get_or, drop, length-append, length-reverse, drop_of_length-le}
@@ -12,7 +12,8 @@ use borrow.Author.Tests.{eq-eqb, ne_eqb, eqb-true, eqb-false}
 use Rattle.terms.specs.declared.TypeCode.{TypeCode}
 use Rattle.terms.specs.declared.Argument.{Argument}
 use Rattle.terms.specs.Names.{code}
-use Rattle.forest.specs.Forest.{Forest, void, node, cells_of, forest_of, cells-forest, inside, outside, side}
+use Rattle.forest.specs.Forest.{Forest, void, node, cells_of, forest_of, inside, outside, side}
+use Rattle.forest.proofs.Forest.{cells-forest}
 use Rattle.forest.specs.Shape.{Levelled}
 use Rattle.forest.specs.Good.{on, off, is, formed-wf, levelled}
 use Rattle.forest.specs.Numbers.{is_in}

@@ -8,10 +8,12 @@ use lib.ListN.{length, drop, get_or, length-drop, get_or-append}
 use lib.Seq.{drop-cons, drop-drop, drop-length, drop-append_seam, get_or-drop}
 use Rattle.terms.specs.declared.TypeCode.{TypeCode}
 use Rattle.terms.specs.Names.{code}
-use Rattle.forest.specs.Forest.{Forest, cells_of, forest_of, inside, outside, side, cells-forest}
+use Rattle.forest.specs.Forest.{Forest, cells_of, forest_of, inside, outside, side}
+use Rattle.forest.proofs.Forest.{cells-forest}
 use Rattle.forest.specs.Shape.{Levelled}
 use Rattle.forest.specs.Edit.{size, kids}
-use Rattle.forest.specs.Runs.{under, under-in, under-out, run_len, run_length, tail-split, levelled-kids}
+use Rattle.forest.specs.Runs.{under, under-in, under-out, run_len, levelled-kids}
+use Rattle.forest.proofs.Runs.{run_length, tail-split}
 use Rattle.forest.specs.Keep.{wf-kids}
 use Rattle.forest.specs.Insert.{Low}
 use Rattle.forest.specs.Good.{Wf, formed-wf, levelled}

@@ -10,7 +10,8 @@ use lib.Seq.{drop-nil, drop-drop, drop-append-add}
 use Rattle.forest.specs.Forest.{Forest, void, node, cells_of, rest, forest_of}
 use Rattle.forest.specs.Shape.{Levelled, TopAtMost, top-rest}
 use Rattle.forest.specs.Edit.{size}
-use Rattle.forest.specs.Runs.{under, run_len, past-run}
+use Rattle.forest.specs.Runs.{under, run_len}
+use Rattle.forest.proofs.Runs.{past-run}
 use Rattle.forest.specs.Insert.{passes, spot, Low}
 use Rattle.forest.specs.Good.{Wf, on, off, is}
 

@@ -1,4 +1,6 @@
 // What programs in other languages link: the checks, the maker and the calls, over slices that the caller lends.
+#![tactic(auto)]
+
 mod lent;
 
 ghost use Rattle.std.specs.Prelude.{◌≡◌, true, ◌<◌, ◌≤◌, length};

@@ -1,8 +1,6 @@
 use Rattle.umbristal.specs.Face.{face}
-use Rattle.cobol.proofs.Whole.{front_long, fronts-back}
-use borrow.Author.Rules.{rules}
+use Rattle.cobol.proofs.Whole.{fronts-back}
 use Rattle.cobol.proofs.fronts.called.Goals as goal
-
 
 pub returns : goal.returns
 returns c =

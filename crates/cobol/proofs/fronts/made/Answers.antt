@@ -1,7 +1,5 @@
-use Rattle.cobol.proofs.Whole.{front_long, made-back}
-use borrow.Author.Rules.{rules}
+use Rattle.cobol.proofs.Whole.{made-back}
 use Rattle.cobol.proofs.fronts.made.Goals as goal
-
 
 pub returns : goal.returns
 returns c = made-back c.args.ask.now c.args.cat.now c.args.tab.now c.cat_length-c.result c.tab_length-t.result _

@@ -1,7 +1,5 @@
-use Rattle.cobol.proofs.Whole.{front_long, report-back}
-use borrow.Author.Rules.{rules}
+use Rattle.cobol.proofs.Whole.{report-back}
 use Rattle.cobol.proofs.fronts.nested.Goals as goal
-
 
 pub returns : goal.returns
 returns c =

@@ -1,7 +1,5 @@
 use Rattle.cobol.proofs.Whole.{read-less, read-most}
-use borrow.Author.Rules.{rules}
 use Rattle.cobol.proofs.lengths.length_at.Goals as goal
-
 
 pub returns-then-n-most : goal.returns-then-n-most
 returns-then-n-most c = read-less c.args.ask.now c.args.i c.args.most _ _ _ _ c.wide.ensures.0 c.wide-2.ensures.0
