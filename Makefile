@@ -42,8 +42,8 @@ dist:
 
 fmt:
 	@tools/needs rt cargo
-	rt fmt
+	for crate in crates/*/; do (cd $$crate && rt fmt) || exit 1; done
 	cargo fmt --manifest-path rust/Cargo.toml --all
 
 clean:
-	rm -rf target rust/target
+	rm -rf target rust/target crates/*/out

@@ -1,6 +1,7 @@
 //! Links the store's archive: the one that UMBRISTAL_ARCHIVE names, or else one made here from the proved crates.
 
 use std::env;
+use std::fs;
 use std::path::{Path, PathBuf};
 use std::process::{exit, Command};
 
@@ -58,11 +59,9 @@ fn meant(named: &Path) -> Vec<PathBuf> {
     folders.map(|folder| folder.join(named)).collect()
 }
 
-/// Proves the crates where that is not done yet, and compiles them for this machine; needs the Rattle kit.
+/// Proves the crates where that is not done yet, and compiles them; needs the Rattle kit.
 fn made() -> PathBuf {
-    for watched in ["crates", "crates.txt", "tools/host-archive"] {
-        println!("cargo:rerun-if-changed={REPOSITORY}/{watched}");
-    }
+    watch_sources();
     let [host, target, folder] = ["HOST", "TARGET", "OUT_DIR"].map(cargos);
     if host != target {
         refuse(&format!(
@@ -78,6 +77,23 @@ fn made() -> PathBuf {
         Ok(status) if status.success() => archive,
         Ok(_) => refuse("tools/host-archive made no archive"),
         Err(error) => refuse(&format!("tools/host-archive: {error}")),
+    }
+}
+
+/// The files that the archive is made of. What `rt` keeps beside them, in each crate's out/, changes with every proof.
+fn watch_sources() {
+    let crates = Path::new(REPOSITORY).join("crates");
+    let entries = fs::read_dir(&crates).expect("the crates are there");
+    for entry in entries {
+        let folder = entry.expect("an entry of a folder").path();
+        for part in ["src", "specs", "proofs"].map(|part| folder.join(part)) {
+            if part.is_dir() {
+                println!("cargo:rerun-if-changed={}", part.display());
+            }
+        }
+    }
+    for watched in ["crates.txt", "tools/host-archive"] {
+        println!("cargo:rerun-if-changed={REPOSITORY}/{watched}");
     }
 }
 

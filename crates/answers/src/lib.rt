@@ -1,4 +1,6 @@
 // What a call answers where it changes nothing, and what it tells of a segment.
+#![tactic(auto)]
+
 ghost use Rattle.std.specs.Prelude.{◌≡◌, true};
 ghost use Rattle.rules.specs.Catalogue.{is_type, good_catalogue};
 ghost use Rattle.rules.specs.Calls.{bare, after_miss};

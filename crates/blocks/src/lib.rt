@@ -1,4 +1,6 @@
 // Blocks of bytes (R1). Each of these takes any slice and any number.
+#![tactic(auto)]
+
 pub mod moves;
 pub mod slices;
 

@@ -16,7 +16,7 @@ use Rattle.forest.specs.Numbers.{range}
 use Rattle.rules.specs.Block.{Bytes, byte, every, marked}
 use Rattle.rules.specs.Catalogue.{types, fields, type_byte, key_value, good_type, good_field, good_header, good_catalogue}
 use Rattle.rules.specs.Table.{count, room, listing}
-use Rattle.rules.specs.Arguments.{list_read, last_argument}
+use Rattle.rules.specs.Arguments.{last_argument}
 use Rattle.rules.specs.Calls.{called}
 use Rattle.rules.specs.Outcome.{Outcome, unsound, misused, unless, after_sound, after_call, outcome_of, outcome, sound_outcome}
 use Rattle.rules.specs.Outcome.{check_catalogue, check_table, make_status, made_table}

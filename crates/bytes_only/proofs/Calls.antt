@@ -15,7 +15,6 @@ use Rattle.rules.specs.Block.{Bytes, every}
 use Rattle.rules.specs.Catalogue.{key_value}
 use Rattle.rules.specs.Cells.{Segment, segment_of, arriving, run_at, row_at}
 use Rattle.rules.specs.Arguments.{Level, last_argument, get_levels, parent_levels}
-use Rattle.rules.specs.Matching.{along}
 use Rattle.rules.specs.Calls.{parent_end, key_taken, get_unique, get_next, get_next_within, inserted, insert_among, insert_under, insert, called}
 use Rattle.bytes_only.specs.Before as Before
 use Rattle.bytes_only.proofs.Values.{bytes-keyed, same_key_lem, goes_before_lem}

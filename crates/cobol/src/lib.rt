@@ -1,5 +1,7 @@
 // The store for COBOL, which passes by reference and takes no result but an int: every block is lent by its address alone and has the size that stands here,
 // how much of it counts is said in the block `ask`, and the result is told in a block of 8 bytes (R72).
+#![tactic(auto)]
+
 mod fronts;
 mod lengths;
 
@@ -14,8 +16,7 @@ ghost use Rattle.cobol.specs.Lent.{reported_whole, report_left, told_report, che
 use parts::told::tell;
 
 // R65: the check of catalogue and table.
-#[unsafe(no_mangle)]
-pub extern "C" fn umbristal_cobol_check(
+pub fn umbristal_cobol_check(
     ask: &[u8; 21],
     cat: &[u8; 521],
     tab: &[u8; 495625],
@@ -27,8 +28,7 @@ pub extern "C" fn umbristal_cobol_check(
 }
 
 // R64: the maker of empty tables.
-#[unsafe(no_mangle)]
-pub extern "C" fn umbristal_cobol_make(
+pub fn umbristal_cobol_make(
     ask: &[u8; 21],
     cat: &[u8; 521],
     tab: &mut [u8; 495625],
@@ -41,8 +41,7 @@ pub extern "C" fn umbristal_cobol_make(
 }
 
 // The call whose number is asked, on anything at all.
-#[unsafe(no_mangle)]
-pub extern "C" fn umbristal_cobol_call(
+pub fn umbristal_cobol_call(
     ask: &[u8; 21],
     cat: &[u8; 521],
     tab: &mut [u8; 495625],
@@ -59,8 +58,7 @@ pub extern "C" fn umbristal_cobol_call(
 }
 
 // The sound call (R71).
-#[unsafe(no_mangle)]
-pub extern "C" fn umbristal_cobol_call_sound(
+pub fn umbristal_cobol_call_sound(
     ask: &[u8; 21],
     cat: &[u8; 521],
     tab: &mut [u8; 495625],
@@ -78,8 +76,7 @@ pub extern "C" fn umbristal_cobol_call_sound(
 }
 
 // R69, nested.
-#[unsafe(no_mangle)]
-pub extern "C" fn umbristal_cobol_report_nested(
+pub fn umbristal_cobol_report_nested(
     ask: &[u8; 21],
     cat: &[u8; 521],
     tab: &[u8; 495625],
@@ -96,8 +93,7 @@ pub extern "C" fn umbristal_cobol_report_nested(
 }
 
 // R69, joined.
-#[unsafe(no_mangle)]
-pub extern "C" fn umbristal_cobol_report_joined(
+pub fn umbristal_cobol_report_joined(
     ask: &[u8; 21],
     cat: &[u8; 521],
     tab: &[u8; 495625],
@@ -114,8 +110,7 @@ pub extern "C" fn umbristal_cobol_report_joined(
 }
 
 // R69, plain.
-#[unsafe(no_mangle)]
-pub extern "C" fn umbristal_cobol_report_plain(
+pub fn umbristal_cobol_report_plain(
     ask: &[u8; 21],
     cat: &[u8; 521],
     tab: &[u8; 495625],

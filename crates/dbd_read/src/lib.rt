@@ -18,8 +18,7 @@ pub enum Reading {
 
 // R80: reads `text`, and writes the catalogue to the front of `cat` and the list of names to the front of `names`; or writes nothing. Answers T and F,
 // or the first fault and its line, or AB.
-#[unsafe(no_mangle)]
-pub extern "C" fn umbristal_dbd_read(text: &[u8], cat: &mut [u8], names: &mut [u8]) -> u64
+pub fn umbristal_dbd_read(text: &[u8], cat: &mut [u8], names: &mut [u8]) -> u64
     ensures { read_back result cat.new names.new ≡ read_into text.now cat.old names.old }
 {
     let mut draft = [0u8; 1296];

@@ -12,8 +12,7 @@ use dbd_given::could_give;
 
 // R83: writes the statements to the front of `text` and answers how long they are; or writes nothing and answers CX or AB. The statements are counted
 // first, by writing them nowhere.
-#[unsafe(no_mangle)]
-pub extern "C" fn umbristal_dbd_write(cat: &[u8], names: &[u8], text: &mut [u8]) -> u64
+pub fn umbristal_dbd_write(cat: &[u8], names: &[u8], text: &mut [u8]) -> u64
     ensures { written_back result text.new ≡ write_into cat.now names.now text.old }
 {
     if !could_give(cat, names) {

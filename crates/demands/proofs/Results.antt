@@ -23,7 +23,7 @@ use Rattle.terms.specs.Moves.{place_number, after_place, is_absent}
 use Rattle.forest.specs.Numbers.{is_in}
 use Rattle.forest.specs.Good.{is_nil}
 use Rattle.rules.specs.Block.{Bytes, same_bytes}
-use Rattle.rules.specs.Catalogue.{key_kind, level, good_catalogue}
+use Rattle.rules.specs.Catalogue.{key_kind, good_catalogue}
 use Rattle.rules.specs.Cells.{Segment, segment, segment_of, arriving, shown_bytes, long, key, keyed, level_at, run_at}
 use Rattle.rules.specs.Table.{cell_size, room, listing, good_table}
 use Rattle.rules.specs.Position.{good_position}

@@ -1,7 +1,7 @@
 -- The position afterwards, row by row: for each of the nine calls and each way it can end, what the rules (R35 to R45, R62, R63) say of the place, the
 -- parentage and the hold.
 -- Nothing here is taken from what the calls make of a position (terms, Moves; rules, Calls and Paths). Assumes nothing: these are definitions.
-use Rattle.std.specs.Prelude.{Bool, true, false, ◌&&◌, not, [], ℕ, zero, suc, ◌-◌, ltb, leb, eqb, length}
+use Rattle.std.specs.Prelude.{Bool, true, false, ◌&&◌, not, ℕ, zero, suc, ◌-◌, ltb, leb, eqb, length}
 use Rattle.terms.specs.declared.Place.{Place}
 use Rattle.terms.specs.declared.Place.TheVariants.{On, Before}
 use Rattle.terms.specs.declared.Parentage.{Parentage}

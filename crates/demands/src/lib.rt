@@ -1,1 +1,3 @@
+#![tactic(auto)]
+
 // The three demands, side by side. The statements stand in specs/, the proofs in proofs/.

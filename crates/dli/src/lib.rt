@@ -1,5 +1,6 @@
 // The nine calls: `call` takes anything, `call_sound` what a check has accepted and only calls have changed since, `called_get_sound` and `called_change_sound`
 // what no refusal stops. The gets stand apart from the changes, so that the frame of one is not held by the other.
+#![tactic(auto)]
 
 ghost use Rattle.std.specs.Prelude.{◌≡◌, ◌<◌, ◌≤◌};
 ghost use Rattle.rules.specs.Outcome.{outcome, sound_outcome};

@@ -1,4 +1,6 @@
 // The gets: what is found, the status of it, and the position on it.
+#![tactic(auto)]
+
 ghost use Rattle.std.specs.Prelude.{◌≡◌, true, false, [], ◌++◌, suc, ◌<◌, ◌≤◌, length};
 ghost use Rattle.terms.specs.declared.Parentage.TheVariants.{Of};
 ghost use Rattle.terms.specs.Moves.{after_place, is_on, is_absent};

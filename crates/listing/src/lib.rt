@@ -1,4 +1,6 @@
 // The listing: each line as bytes in a buffer, made of what the reader answers. The lines one behind the other are the whole text (proofs/Lines.antt).
+#![tactic(auto)]
+
 mod text;
 
 ghost use Rattle.std.specs.Prelude.{◌≡◌, ◌+◌, ◌*◌, ◌≤◌, length};

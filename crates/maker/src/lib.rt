@@ -1,4 +1,6 @@
 // The maker of empty tables.
+#![tactic(auto)]
+
 ghost use Rattle.std.specs.Prelude.{◌≡◌, ◌≤◌, length};
 ghost use Rattle.rules.specs.Outcome.{make_status, made_table};
 ghost use Rattle.table_check.specs.Frame.{emptied};

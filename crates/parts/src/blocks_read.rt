@@ -12,16 +12,14 @@ use cells::lookup::{cell_size, count};
 use terms::TypeCode;
 
 // R56: how long an area must be, C − 1.
-#[unsafe(no_mangle)]
-pub extern "C" fn umbristal_area_size(cat: &[u8]) -> u8
+pub fn umbristal_area_size(cat: &[u8]) -> u8
     ensures { result ≡ largest cat.now (types cat.now) }
 {
     largest(cat)
 }
 
 // How long a table of so many cells is; 0 for more than 4,096.
-#[unsafe(no_mangle)]
-pub extern "C" fn umbristal_table_size(cat: &[u8], cells: usize) -> usize
+pub fn umbristal_table_size(cat: &[u8], cells: usize) -> usize
     ensures { result ≡ table_size cat.now cells }
 {
     if 4096 < cells {
@@ -31,8 +29,7 @@ pub extern "C" fn umbristal_table_size(cat: &[u8], cells: usize) -> usize
 }
 
 // How many segments the table has.
-#[unsafe(no_mangle)]
-pub extern "C" fn umbristal_count(tab: &[u8]) -> usize
+pub fn umbristal_count(tab: &[u8]) -> usize
     ensures { result ≡ count tab.now }
 {
     count(tab)
@@ -47,8 +44,7 @@ fn start_by_header(tab: &[u8], cell: usize) -> usize
 }
 
 // The type of the segment in a cell; 0 where there is none.
-#[unsafe(no_mangle)]
-pub extern "C" fn umbristal_cell_type(tab: &[u8], cell: usize) -> u8
+pub fn umbristal_cell_type(tab: &[u8], cell: usize) -> u8
     ensures { result ≡ cell_type tab.now cell }
 {
     if count(tab) <= cell {
@@ -58,8 +54,7 @@ pub extern "C" fn umbristal_cell_type(tab: &[u8], cell: usize) -> u8
 }
 
 // At which byte of the table its data begin; 0 where there is no segment.
-#[unsafe(no_mangle)]
-pub extern "C" fn umbristal_data_start(tab: &[u8], cell: usize) -> usize
+pub fn umbristal_data_start(tab: &[u8], cell: usize) -> usize
     ensures { (result ≡ data_start tab.now cell) × (result < 16777216) }
 {
     if cell >= count(tab) {
@@ -69,8 +64,7 @@ pub extern "C" fn umbristal_data_start(tab: &[u8], cell: usize) -> usize
 }
 
 // How many bytes they have; 0 where there is no segment, or its data would not lie in the table.
-#[unsafe(no_mangle)]
-pub extern "C" fn umbristal_data_length(cat: &[u8], tab: &[u8], cell: usize) -> u8
+pub fn umbristal_data_length(cat: &[u8], tab: &[u8], cell: usize) -> u8
     ensures { result ≡ data_length cat.now tab.now cell }
 {
     let t = TypeCode(umbristal_cell_type(tab, cell));

@@ -27,8 +27,7 @@ fn put_all(list: &mut [u8], used: usize, code: u8)
 }
 
 // An argument that tests nothing: all segments of a type.
-#[unsafe(no_mangle)]
-pub extern "C" fn umbristal_list_all(list: &mut [u8; 1845], used: usize, code: u8) -> usize
+pub fn umbristal_list_all(list: &mut [u8; 1845], used: usize, code: u8) -> usize
     ensures { built result list.new ≡ list_all list.old used code }
 {
     if 1843 < used {
@@ -51,8 +50,7 @@ fn put_test(list: &mut [u8], used: usize, code: u8, operator: u8, field: u8, val
 }
 
 // An argument that tests a field: with an operator other than 0, and a value as long as the field.
-#[unsafe(no_mangle)]
-pub extern "C" fn umbristal_list_test(
+pub fn umbristal_list_test(
     cat: &[u8],
     list: &mut [u8; 1845],
     used: usize,

@@ -17,40 +17,35 @@ fn pair(high: u8, low: u8) -> u16
 }
 
 // 1 where the place is on a cell, 0 where it is in the gap before one.
-#[unsafe(no_mangle)]
-pub extern "C" fn umbristal_on_cell(pos: &[u8; 8]) -> u8
+pub fn umbristal_on_cell(pos: &[u8; 8]) -> u8
     ensures { result ≡ flag pos.now 0 }
 {
     flag(pos[0])
 }
 
 // The number of that cell.
-#[unsafe(no_mangle)]
-pub extern "C" fn umbristal_cell(pos: &[u8; 8]) -> u16
+pub fn umbristal_cell(pos: &[u8; 8]) -> u16
     ensures { result ≡ word pos.now 1 }
 {
     pair(pos[1], pos[2])
 }
 
 // 1 where there is a parentage, else 0.
-#[unsafe(no_mangle)]
-pub extern "C" fn umbristal_has_parentage(pos: &[u8; 8]) -> u8
+pub fn umbristal_has_parentage(pos: &[u8; 8]) -> u8
     ensures { result ≡ flag pos.now 3 }
 {
     flag(pos[3])
 }
 
 // Its cell; 0 also where there is none.
-#[unsafe(no_mangle)]
-pub extern "C" fn umbristal_parentage(pos: &[u8; 8]) -> u16
+pub fn umbristal_parentage(pos: &[u8; 8]) -> u16
     ensures { result ≡ word pos.now 4 }
 {
     pair(pos[4], pos[5])
 }
 
 // 1 where the segment that the place is on is held, else 0.
-#[unsafe(no_mangle)]
-pub extern "C" fn umbristal_hold(pos: &[u8; 8]) -> u8
+pub fn umbristal_hold(pos: &[u8; 8]) -> u8
     ensures { result ≡ flag pos.now 6 }
 {
     flag(pos[6])

@@ -5,45 +5,39 @@ ghost use Rattle.parts.specs.Result.{status_part, type_part, level_part, length_
 use terms::Status;
 use terms::statuses::letters;
 
-#[unsafe(no_mangle)]
-pub extern "C" fn umbristal_status(res: u64) -> u8
+pub fn umbristal_status(res: u64) -> u8
     ensures { result ≡ status_part res }
 {
     (res % 256) as u8
 }
 
-#[unsafe(no_mangle)]
-pub extern "C" fn umbristal_type(res: u64) -> u8
+pub fn umbristal_type(res: u64) -> u8
     ensures { result ≡ type_part res }
 {
     (res / 256 % 256) as u8
 }
 
-#[unsafe(no_mangle)]
-pub extern "C" fn umbristal_level(res: u64) -> u8
+pub fn umbristal_level(res: u64) -> u8
     ensures { result ≡ level_part res }
 {
     (res / 65536 % 256) as u8
 }
 
-#[unsafe(no_mangle)]
-pub extern "C" fn umbristal_length(res: u64) -> u8
+pub fn umbristal_length(res: u64) -> u8
     ensures { result ≡ length_part res }
 {
     (res / 16777216 % 256) as u8
 }
 
 // How many segments DLET took away.
-#[unsafe(no_mangle)]
-pub extern "C" fn umbristal_removed(res: u64) -> u32
+pub fn umbristal_removed(res: u64) -> u32
     ensures { result ≡ removed_part res }
 {
     (res / 4294967296 % 65536) as u32
 }
 
 // How many segments a report shows: they stand where `removed` does.
-#[unsafe(no_mangle)]
-pub extern "C" fn umbristal_hits(res: u64) -> u32
+pub fn umbristal_hits(res: u64) -> u32
     ensures { result ≡ removed_part res }
 {
     umbristal_removed(res)
@@ -79,8 +73,7 @@ pub(crate) fn letters_of(status: u8) -> [u8; 2]
 }
 
 // The letters, and a zero behind them, where C's strings end.
-#[unsafe(no_mangle)]
-pub extern "C" fn umbristal_letters(status: u8, letters: &mut [u8; 3])
+pub fn umbristal_letters(status: u8, letters: &mut [u8; 3])
     ensures { letters.new ≡ letters_of status ++ 0 ∷ [] }
 {
     let two = letters_of(status);

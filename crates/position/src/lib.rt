@@ -1,5 +1,7 @@
 // The check of a position against the cells of a table (R22).
 // What the calls make of a position are the methods of terms::Position.
+#![tactic(auto)]
+
 pub mod block;
 
 ghost use Rattle.std.specs.Prelude.{◌≡◌, true};

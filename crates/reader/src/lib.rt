@@ -1,5 +1,7 @@
 // The get-next reader: the slices it reads, the two lists that it asks with as one, and where it stands. A loop asks it for the next cell, or for the
 // next one beneath its parentage, until none is left. It holds nothing else: what a search carries from call to call does not live here.
+#![tactic(auto)]
+
 ghost use Rattle.std.specs.Prelude.{◌≡◌, false, ◌++◌, suc, ◌≤◌, length};
 ghost use Rattle.terms.specs.Moves.{is_absent};
 ghost use Rattle.rules.specs.Block.{byte};

@@ -1,4 +1,6 @@
 // The refusals that look only at what is lent, in the order of R61.
+#![tactic(auto)]
+
 ghost use Rattle.std.specs.Prelude.{◌≡◌, true, ◌≤◌};
 ghost use Rattle.terms.specs.Moves.{is_absent};
 ghost use Rattle.rules.specs.Catalogue.{good_catalogue};

@@ -1,5 +1,7 @@
 // Three reports over one table: get-next with get-next-within-parent under each, get-next alone on the joined list, and a plain reading of every cell.
 // All three have one promise, so that no two of them can disagree.
+#![tactic(auto)]
+
 mod nesting;
 mod plainly;
 mod refused;

@@ -1,6 +1,6 @@
 -- The table as cells by number (R13 to R17): segments, the order of values, twins, levels, runs, ancestors, and which listings are well formed.
 -- No byte of a table block is named here, so that a second layout can use it. Assumes nothing: these are definitions.
-use Rattle.std.specs.Prelude.{Bool, true, false, ◌&&◌, ◌||◌, not, List, [], ◌∷◌, ℕ, ◌+◌, ◌-◌, ltb, eqb, length, get_or, take}
+use Rattle.std.specs.Prelude.{Bool, true, ◌&&◌, ◌||◌, not, List, [], ◌∷◌, ℕ, ◌+◌, ◌-◌, ltb, eqb, length, get_or, take}
 use Rattle.terms.specs.declared.TypeCode.{TypeCode}
 use Rattle.terms.specs.declared.Order.{Order}
 use Rattle.terms.specs.Choice.{pick}

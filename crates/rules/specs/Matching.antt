@@ -1,5 +1,5 @@
 -- Which segments match a list: the first one after a place, beneath a cell, along the position. Assumes nothing: these are definitions.
-use Rattle.std.specs.Prelude.{Bool, true, false, ◌&&◌, not, List, [], ◌∷◌, reverse, ℕ, zero, suc, ◌-◌, eqb, length}
+use Rattle.std.specs.Prelude.{Bool, true, false, ◌&&◌, List, [], ◌∷◌, reverse, ℕ, zero, suc, ◌-◌, eqb, length}
 use Rattle.terms.specs.declared.FieldNumber.{FieldNumber}
 use Rattle.terms.specs.declared.Operator.{Operator}
 use Rattle.terms.specs.declared.Place.{Place}

@@ -1,5 +1,5 @@
 -- Positions (R18 to R22): which are good; and the block of 8 bytes (R23). Assumes nothing: these are definitions.
-use Rattle.std.specs.Prelude.{Bool, true, false, ◌&&◌, not, List, [], ◌∷◌, ◌++◌, ℕ, ltb, leb, eqb, length}
+use Rattle.std.specs.Prelude.{Bool, true, ◌&&◌, not, List, [], ◌∷◌, ◌++◌, ltb, leb, eqb, length}
 use Rattle.terms.specs.declared.Place.{Place}
 use Rattle.terms.specs.declared.Place.TheVariants.{On, Before}
 use Rattle.terms.specs.declared.Parentage.{Parentage}

@@ -17,7 +17,7 @@ use Rattle.terms.specs.Names.{code, cell}
 use Rattle.forest.specs.Good.{on, off, is, both_left, both_right}
 use Rattle.forest.specs.Numbers.{ancestors, is_in, ancestor-run}
 use Rattle.rules.specs.Block.{Bytes, every}
-use Rattle.rules.specs.Catalogue.{types, parent_of, lineage, level, type_beneath}
+use Rattle.rules.specs.Catalogue.{parent_of, lineage, level, type_beneath}
 use Rattle.rules.specs.Cells.{Segment, segment, level_at, run_at, end_at}
 use Rattle.rules.specs.Table.{count, listing}
 use Rattle.rules.specs.Arguments.{Asked, implied, unqualified, qualified, Level, list_read, asked_of}

@@ -2,6 +2,8 @@
 // A search is one pass forward that carries one number, how far down its path the last cell agreed with the lists; it climbs once, at its start. What is
 // asked of each type stands in a row that the search fills once.
 // Where nothing is tested above the last type it carries nothing and needs no row: each cell tells by itself (`alone`).
+#![tactic(auto)]
+
 use terms::Found;
 
 pub mod agree;

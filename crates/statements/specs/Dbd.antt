@@ -1,12 +1,12 @@
 -- The reader and the writer of DBD statements (R73 to R84). Assumes nothing: these are definitions.
-use Rattle.std.specs.Prelude.{Bool, true, false, ◌&&◌, ◌||◌, not, List, [], ◌∷◌, ◌++◌, map, ℕ, zero, suc, ◌+◌, ◌-◌, ◌*◌, ltb, leb, eqb, length, drop}
+use Rattle.std.specs.Prelude.{Bool, true, false, ◌&&◌, ◌||◌, List, [], ◌∷◌, ◌++◌, map, ℕ, zero, suc, ◌+◌, ◌-◌, ◌*◌, ltb, leb, eqb, length, drop}
 use Rattle.std.proofs.Math.Option.{Option, none, some}
 use Rattle.forest.specs.Numbers.{range}
 use Rattle.terms.specs.Choice.{pick}
 use Rattle.terms.specs.Names.{code, field as field_of}
 use Rattle.rules.specs.Block.{Bytes, byte, word, part, every, zeros, marked}
 use Rattle.rules.specs.Catalogue.{types, fields, parent_of, length_of, key_kind, key_start, key_length, field_type, field_start, field_length, field_byte, good_catalogue}
-use Rattle.statements.specs.Words.{is_name, filled, trimmed, spell}
+use Rattle.statements.specs.Words.{is_name, trimmed, spell}
 use Rattle.statements.specs.Lines.{lines_of, text_of}
 use Rattle.statements.specs.Statement.{Statement, dbd, segm, field, no_parent, tokens_of}
 use Rattle.statements.specs.Draft.{Draft, blank, catalogue_of, names_of, rows, has, own_names, Fault, misplaced, fault_number, goes, bad, line_taken}

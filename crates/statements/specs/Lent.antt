@@ -1,5 +1,5 @@
 -- The two calls on lent buffers (R80, R83): what each answers as one number, and what the buffers hold then. Assumes nothing: these are definitions.
-use Rattle.std.specs.Prelude.{Bool, true, false, ◌&&◌, List, [], ◌∷◌, ◌++◌, ℕ, ◌+◌, ◌*◌, ltb, leb, eqb, length, drop}
+use Rattle.std.specs.Prelude.{true, false, ◌&&◌, ◌++◌, ℕ, ◌+◌, ◌*◌, ltb, leb, eqb, length, drop}
 use Rattle.std.proofs.Math.Option.{Option, none, some}
 use Rattle.terms.specs.Choice.{pick}
 use Rattle.rules.specs.Block.{Bytes}

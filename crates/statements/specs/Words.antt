@@ -1,6 +1,6 @@
 -- Words and signs of a line (R74, R75). Assumes nothing: these are definitions.
-use Rattle.std.specs.Prelude.{Bool, true, false, ◌&&◌, ◌||◌, List, [], ◌∷◌, ◌++◌, ℕ, zero, suc, ◌+◌, ◌-◌, ◌*◌, leb, eqb, length, replicate}
-use Rattle.rules.specs.Block.{Bytes, every, same_bytes}
+use Rattle.std.specs.Prelude.{Bool, true, false, ◌&&◌, ◌||◌, List, [], ◌∷◌, ◌++◌, ℕ, ◌+◌, ◌-◌, ◌*◌, leb, eqb, length, replicate}
+use Rattle.rules.specs.Block.{Bytes, every}
 
 -- a word, or a byte that stands for itself
 pub data Token : Type 0 where

@@ -24,7 +24,7 @@ use Rattle.rules.proofs.Values.{value-bytes, holds-packed}
 use Rattle.catalogue.proofs.Hierarchy.{type-facts}
 use Rattle.table_check.specs.Keys.{packed_follows}
 use Rattle.table_check.specs.Groups.{typ}
-use Rattle.table_check.specs.Readers.{fact, code_before, key_before, Fits, Follows, Told, TwinIs}
+use Rattle.table_check.specs.Readers.{fact, code_before, key_before, Follows, Told, TwinIs}
 use Rattle.table_check.proofs.Before.{fits_next, some-last}
 use Rattle.table_check.proofs.Groups as Groups
 use Rattle.table_check.proofs.Told.{told-type, told-key, told-number}

@@ -1,4 +1,6 @@
 // The words of the rules as types. What the calls make of a position stands beside it.
+#![tactic(auto)]
+
 mod greater;
 pub mod operators;
 pub mod positions;

@@ -1,5 +1,7 @@
 // Where a new segment goes among its twins, and whether its unique key is taken.
 // The new segment is of type t, with the area's first L bytes.
+#![tactic(auto)]
+
 ghost use Rattle.std.specs.Prelude.{◌≡◌, true, ◌+◌, ◌≤◌, ◌<◌, length};
 ghost use Rattle.rules.specs.Block.{part};
 ghost use Rattle.rules.specs.Packed.{is_number, packed_order};

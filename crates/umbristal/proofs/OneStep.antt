@@ -20,15 +20,13 @@ use Rattle.rules.specs.Block.{Bytes, byte}
 use Rattle.rules.specs.Cells.{Segment, segment, shown_bytes, level_at}
 use Rattle.rules.specs.Table.{count, listing}
 use Rattle.rules.specs.Position.{good_block, position_of, position_bytes}
-use Rattle.rules.specs.Calls.{over, bare, after_miss, answer_of}
+use Rattle.rules.specs.Calls.{over, bare, after_miss}
 use Rattle.rules.proofs.Block.{canonical}
-use Rattle.cells.specs.Sound.{Sound}
 use Rattle.position.specs.Block.{Writable}
 use Rattle.position.proofs.Parts.{good-long}
 use Rattle.answers.specs.Told.{told}
 use Rattle.answers.specs.Ready.{SoundFor, Ready}
 use Rattle.gets.specs.Status.{next_status}
-use Rattle.gets.proofs.Found.{after-in}
 use Rattle.gets.proofs.Codes.{status-is}
 use Rattle.gets.proofs.Gotten.{got-is, cell-found, cell-missed}
 use Rattle.umbristal.specs.Face.{handed_back, sound_face, packed, is_step}

@@ -1,4 +1,6 @@
 // What programs in other languages link: the checks, the maker and the calls, over slices that the caller lends.
+#![tactic(auto)]
+
 mod lent;
 
 ghost use Rattle.std.specs.Prelude.{◌≡◌, true, ◌<◌, ◌≤◌, length};
@@ -16,24 +18,21 @@ use position::block::{cell_after, is_on, position_of, put_position};
 use terms::{CellNumber, Parentage, Position, Status};
 
 // R65: the check of a catalogue; 0 or the number of CX.
-#[unsafe(no_mangle)]
-pub extern "C" fn umbristal_catalogue_check(cat: &[u8]) -> u8
+pub fn umbristal_catalogue_check(cat: &[u8]) -> u8
     ensures { result ≡ number (check_catalogue cat.now) }
 {
     terms::statuses::number(catalogue_check::check::check(cat))
 }
 
 // R65: the check of both blocks; 0 or the number of CX or TX.
-#[unsafe(no_mangle)]
-pub extern "C" fn umbristal_table_check(cat: &[u8], tab: &[u8]) -> u8
+pub fn umbristal_table_check(cat: &[u8], tab: &[u8]) -> u8
     ensures { result ≡ number (check_table cat.now tab.now) }
 {
     terms::statuses::number(table_check::check::check(cat, tab))
 }
 
 // R64: makes all of `tab` an empty table and answers 0; or writes nothing and answers the number of CX or TX.
-#[unsafe(no_mangle)]
-pub extern "C" fn umbristal_table_make(cat: &[u8], tab: &mut [u8]) -> u8
+pub fn umbristal_table_make(cat: &[u8], tab: &mut [u8]) -> u8
     ensures { (result ≡ number (make_status cat.now tab.old)) × (tab.new ≡ made_table cat.now tab.old) }
 {
     terms::statuses::number(maker::make(cat, tab))
@@ -70,8 +69,7 @@ fn changed(cat: &[u8], tab: &mut [u8], pos: &mut [u8], number: u8, list: &[u8], 
 }
 
 // The call of this number, on anything at all. The position is lent as a block of 8 bytes; the answer's other parts come back in one number.
-#[unsafe(no_mangle)]
-pub extern "C" fn umbristal_call(
+pub fn umbristal_call(
     cat: &[u8],
     tab: &mut [u8],
     pos: &mut [u8],
@@ -128,8 +126,7 @@ fn step(cat: &[u8], tab: &[u8], pos: &mut [u8], list: &[u8], area: &mut [u8]) ->
 }
 
 // The same on blocks and a position that a check has accepted and only calls have changed since: nothing of them is tested again.
-#[unsafe(no_mangle)]
-pub extern "C" fn umbristal_call_sound(
+pub fn umbristal_call_sound(
     cat: &[u8],
     tab: &mut [u8],
     pos: &mut [u8],
@@ -151,8 +148,7 @@ pub extern "C" fn umbristal_call_sound(
 }
 
 // The report by GN on the first list, with GNP on the second under each cell found: the numbers of the cells shown, 2 bytes each, high first.
-#[unsafe(no_mangle)]
-pub extern "C" fn umbristal_report_nested(
+pub fn umbristal_report_nested(
     cat: &[u8],
     tab: &[u8],
     one: &[u8],
@@ -166,8 +162,7 @@ pub extern "C" fn umbristal_report_nested(
 }
 
 // The same report by GN alone, on the two lists joined.
-#[unsafe(no_mangle)]
-pub extern "C" fn umbristal_report_joined(
+pub fn umbristal_report_joined(
     cat: &[u8],
     tab: &[u8],
     one: &[u8],
@@ -181,14 +176,7 @@ pub extern "C" fn umbristal_report_joined(
 }
 
 // The same report by reading every cell.
-#[unsafe(no_mangle)]
-pub extern "C" fn umbristal_report_plain(
-    cat: &[u8],
-    tab: &[u8],
-    one: &[u8],
-    two: &[u8],
-    out: &mut [u8],
-) -> u64
+pub fn umbristal_report_plain(cat: &[u8], tab: &[u8], one: &[u8], two: &[u8], out: &mut [u8]) -> u64
     ensures { reported_back result out.new
         ≡ report_face cat.now tab.now one.now two.now out.old }
 {

@@ -1,4 +1,6 @@
 // Values by their value type (R86 to R88): bytes, or packed decimal. Digits are compared as the bytes that hold them, so that no number is ever made of them.
+#![tactic(auto)]
+
 ghost use Rattle.std.specs.Prelude.{◌≡◌, true, ◌+◌, ◌≤◌, eqb, length};
 ghost use Rattle.rules.specs.Packed.{is_number, magnitude, is_minus, number_order, packed_order};
 ghost use Rattle.rules.specs.Block.{part};

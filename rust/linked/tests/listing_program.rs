@@ -2,7 +2,7 @@
 
 use std::path::{Path, PathBuf};
 use std::process::{Command, Output, Stdio};
-use std::sync::OnceLock;
+use std::sync::{OnceLock, RwLock};
 
 /// The status of a whole listing, of a refusal, and of wrong usage or a file or output that fails.
 const LISTED: i32 = 0;
@@ -24,6 +24,14 @@ fn made() -> PathBuf {
     let done = Command::new(tool).arg(&out).status();
     assert!(done.expect("tools/host-lister runs").success());
     out
+}
+
+/// Held for writing where a pipe must have no other end: a process that another test starts has a copy of every pipe until it has become the program.
+static STARTS: RwLock<()> = RwLock::new(());
+
+fn output(command: &mut Command) -> Ended {
+    let _start = STARTS.read().unwrap_or_else(|error| error.into_inner());
+    Ended::of(command.output().expect("the program runs"))
 }
 
 /// A folder of its own for a test, gone when the test is over.
@@ -56,7 +64,7 @@ impl Folder {
     }
 
     fn run(&self, words: &[&str]) -> Ended {
-        Ended::of(self.command(words).output().expect("the program runs"))
+        output(&mut self.command(words))
     }
 }
 
@@ -294,8 +302,7 @@ fn an_output_that_is_full() {
     let folder = Folder::bench("full-disk");
     for words in [&[][..], &["--help"]] {
         let full = std::fs::File::create("/dev/full").expect("/dev/full");
-        let output = folder.command(words).stdout(full).output();
-        let ended = Ended::of(output.expect("the program runs"));
+        let ended = output(folder.command(words).stdout(full));
         assert_eq!(ended.status, Some(FAILED), "{words:?}");
         assert!(ended.said.starts_with("umbristal-list: standard output: "));
     }
@@ -306,8 +313,7 @@ fn an_output_that_is_closed() {
     let folder = Folder::bench("closed");
     let mut shell = Command::new("sh");
     shell.args(["-c", "exec \"$0\" >&-"]).arg(program());
-    let output = shell.current_dir(&folder.0).output();
-    let ended = Ended::of(output.expect("a shell runs"));
+    let ended = output(shell.current_dir(&folder.0));
     assert_eq!(ended.status, Some(FAILED));
     assert!(ended.said.starts_with("umbristal-list: standard output: "));
 }
@@ -315,6 +321,7 @@ fn an_output_that_is_closed() {
 /// A pipe that nobody reads any more ends the program by a signal, as it does others.
 #[test]
 fn a_reader_that_is_gone() {
+    let _alone = STARTS.write().unwrap_or_else(|error| error.into_inner());
     let mut reader = Command::new("true");
     let mut reader = reader.stdin(Stdio::piped()).spawn().expect("true runs");
     let pipe = reader.stdin.take().expect("its end of a pipe");

@@ -1,7 +1,5 @@
 use Rattle.answers.specs.Told.{told}
-use borrow.Author.Rules.{rules}
 use Rattle.answers.proofs.told.Goals as goal
-
 
 pub returns : goal.returns
 unfolding told

@@ -1,10 +1,8 @@
-use mathlib.Core.Path.{◌≡◌, ap, ◌∙◌}
+use mathlib.Core.Path.{ap, ◌∙◌}
 use Rattle.terms.specs.declared.Answer.{Answer}
 use Rattle.answers.specs.Ready.{made}
 use Rattle.dli.proofs.Calls.{call-stopped, call-on, call-sound}
-use borrow.Author.Rules.{rules}
 use Rattle.dli.proofs.call.Goals as goal
-
 
 pub returns-then-number-ne0 : goal.returns-then-number-ne0
 returns-then-number-ne0 c = ap (λ (r : Answer). made r c.args.tab.now c.args.area.now) c.stopped.ensures ∙ call-stopped

@@ -1,9 +1,7 @@
 use mathlib.Core.Path.{ap, ◌∙◌}
 use Rattle.rules.specs.Outcome.{landed}
 use Rattle.dli.proofs.Calls.{getting, getting-hold, got-plain, got-hold}
-use borrow.Author.Rules.{rules}
 use Rattle.dli.proofs.called_get_sound.Goals as goal
-
 
 pub get-requires : goal.get-requires
 get-requires c = getting c.args.cat.now c.args.tab.now c.args.pos c.args.number c.args.list.now c.args.area.now

@@ -2,9 +2,7 @@ use mathlib.Core.Path.{ap, ◌∙◌}
 use Rattle.terms.specs.declared.Answer.{Answer}
 use Rattle.answers.specs.Ready.{made}
 use Rattle.dli.proofs.Calls.{five-in, size_is, asked-stopped, callable, did-call}
-use borrow.Author.Rules.{rules}
 use Rattle.dli.proofs.change_sound.Goals as goal
-
 
 pub bounds-tab-5 : goal.bounds-tab-5
 bounds-tab-5 c = five-in c.args.cat.now c.args.tab.now c.args.pos c.args.number c.args.list.now c.args.area.now
@@ -12,10 +10,10 @@ bounds-tab-5 c = five-in c.args.cat.now c.args.tab.now c.args.pos c.args.number 
 
 pub misused_sound-refusal-requires : goal.misused_sound-refusal-requires
 misused_sound-refusal-requires c = (
-      size_is c.args.cat.now c.args.tab.now c.args.pos c.args.number c.args.list.now c.args.area.now
-          c.requires.0 c.wide-size.result c.wide-size.ensures.0,
-      c.requires.0.catalogue,
-    )
+  size_is c.args.cat.now c.args.tab.now c.args.pos c.args.number c.args.list.now c.args.area.now
+      c.requires.0 c.wide-size.result c.wide-size.ensures.0,
+  c.requires.0.catalogue,
+)
 
 pub returns-then-number-ne0 : goal.returns-then-number-ne0
 returns-then-number-ne0 c = ap (λ (r : Answer). made r c.args.tab.now c.args.area.now) c.stopped.ensures ∙ asked-stopped
@@ -23,13 +21,12 @@ returns-then-number-ne0 c = ap (λ (r : Answer). made r c.args.tab.now c.args.ar
     c.misused_sound-refusal.result c.number.result c.misused_sound-refusal.ensures c.number.ensures c.if-number-ne0.true
 
 pub called_change_sound-requires : goal.called_change_sound-requires
-called_change_sound-requires c =
-    (
-      callable c.args.cat.now c.args.tab.now c.args.pos c.args.number c.args.list.now c.args.area.now
-          c.requires.0 c.misused_sound-refusal.result c.number.result c.misused_sound-refusal.ensures c.number.ensures
-          c.if-number-ne0.false c.wide-size.result c.wide-size.ensures.0,
-      c.requires.1,
-    )
+called_change_sound-requires c = (
+  callable c.args.cat.now c.args.tab.now c.args.pos c.args.number c.args.list.now c.args.area.now
+      c.requires.0 c.misused_sound-refusal.result c.number.result c.misused_sound-refusal.ensures c.number.ensures
+      c.if-number-ne0.false c.wide-size.result c.wide-size.ensures.0,
+  c.requires.1,
+)
 
 pub returns : goal.returns
 returns c = c.called_change_sound.ensures ∙ did-call c.args.cat.now c.args.tab.now c.args.pos c.args.number

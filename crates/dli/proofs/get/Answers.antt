@@ -3,9 +3,7 @@ use mathlib.Core.Bool.{false≢true}
 use mathlib.Core.Path.{◌∙◌}
 use Rattle.dli.proofs.Calls.{of-unique, of-next, of-within}
 use Rattle.gets.proofs.OneList.{ready-alone, next-alone, within-alone}
-use borrow.Author.Rules.{rules}
 use Rattle.dli.proofs.get.Goals as goal
-
 
 pub get_next-requires : goal.get_next-requires
 get_next-requires c = let r = ready-alone c.requires.ready in (r.0, r.1, c.requires.long, λ e. absurd (false≢true e))

@@ -1,10 +1,6 @@
-use mathlib.Core.Path.{◌≡◌, refl, ap, sym, ◌∙◌}
-use native.Mathlib.Omega.{arith}
-use borrow.Author.Rules.{rules}
 use Rattle.catalogue.proofs.Levels.{levels-none}
 use Rattle.gets.proofs.Codes.{codes_same, codes-child, codes-sibling, levels-less, levels-more, levels-same}
 use Rattle.gets.proofs.change_status.Goals as goal
-
 
 pub returns-then-t-u : goal.returns-then-t-u
 returns-then-t-u c = codes_same c.args.cat.now c.args.u c.args.t c.if-t-u.true

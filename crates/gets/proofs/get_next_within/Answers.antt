@@ -8,12 +8,10 @@ use Rattle.rules.specs.Arguments.{complete, list_read}
 use Rattle.rules.specs.Cells.{end_at}
 use Rattle.search.proofs.Branches.{end-in}
 use Rattle.gets.proofs.Found.{after-in, first-in, parent_in}
-use Rattle.gets.proofs.Gotten.{search-good, ready-none, within-empty, search-beneath, within-found, within-missed, absent-not, status-named}
-use borrow.Author.Rules.{rules}
+use Rattle.gets.proofs.Gotten.{search-good, within-empty, search-beneath, within-found, within-missed, status-named}
 use borrow.Author.Tests.{eqb-true, eqb-false}
 use mathlib.Core.List.{◌++◌}
 use Rattle.gets.proofs.get_next_within.Goals as goal
-
 
 pub returns-then-are_empty : goal.returns-then-are_empty
 returns-then-are_empty c = c.get_next_cell_within.ensures ∙ within-empty c.requires.0 c.args.area.now c.args.hold
@@ -29,17 +27,16 @@ after_place-from-requires c =
     )
 
 pub first_beneath-requires : goal.first_beneath-requires
-first_beneath-requires c =
-    (
-      record {
-        good = search-good c.requires.0 c.last_type-t.result c.last_type-t.ensures;
-        pair =
-            c.requires.1;
-      },
-      search-beneath c.requires.0 c.last_type-t.result c.last_type-t.ensures
-          (eqb-false _ _ (sym c.are_empty.ensures ∙ c.if-are_empty.false)) c.in-Of.p c.in-Of.is
-          c.after_place-from.result c.after_place-from.ensures,
-    )
+first_beneath-requires c = (
+  record {
+    good = search-good c.requires.0 c.last_type-t.result c.last_type-t.ensures;
+    pair =
+        c.requires.1;
+  },
+  search-beneath c.requires.0 c.last_type-t.result c.last_type-t.ensures
+      (eqb-false _ _ (sym c.are_empty.ensures ∙ c.if-are_empty.false)) c.in-Of.p c.in-Of.is
+      c.after_place-from.result c.after_place-from.ensures,
+)
 
 pub returns-in_default-first_beneath : goal.returns-in_default-first_beneath
 returns-in_default-first_beneath c =
@@ -49,31 +46,30 @@ returns-in_default-first_beneath c =
     c.in_default-first_beneath.is
 
 pub got-requires : goal.got-requires
-got-requires c =
-    (
-      c.requires.0.sound,
-      omega (
-        arith,
-        first-in c.args.cat.now (listing c.args.cat.now c.args.tab.now)
-            (complete c.args.cat.now (c.args.one.now ++ c.args.two.now)
-            (list_read c.args.cat.now (c.args.one.now ++ c.args.two.now)).arguments
-            c.last_type-t.result)
-            c.after_place-from.result
-            (end_at c.args.cat.now (listing c.args.cat.now c.args.tab.now)
-            c.in-Of.p.0)
-            c.in-At.c (sym c.first_beneath.ensures ∙
-            c.in-At.is),
-        end-in (search-good
-            c.requires.0 c.last_type-t.result
-            c.last_type-t.ensures)
-            c.in-Of.p.0
-            (parent_in c.args.cat.now c.args.tab.now c.args.pos
-            c.requires.0.position
-            c.in-Of.p
-            c.in-Of.is),
-      ),
-      c.requires.2,
-    )
+got-requires c = (
+  c.requires.0.sound,
+  omega (
+    arith,
+    first-in c.args.cat.now (listing c.args.cat.now c.args.tab.now)
+        (complete c.args.cat.now (c.args.one.now ++ c.args.two.now)
+        (list_read c.args.cat.now (c.args.one.now ++ c.args.two.now)).arguments
+        c.last_type-t.result)
+        c.after_place-from.result
+        (end_at c.args.cat.now (listing c.args.cat.now c.args.tab.now)
+        c.in-Of.p.0)
+        c.in-At.c (sym c.first_beneath.ensures ∙
+        c.in-At.is),
+    end-in (search-good
+        c.requires.0 c.last_type-t.result
+        c.last_type-t.ensures)
+        c.in-Of.p.0
+        (parent_in c.args.cat.now c.args.tab.now c.args.pos
+        c.requires.0.position
+        c.in-Of.p
+        c.in-Of.is),
+  ),
+  c.requires.2,
+)
 
 pub returns : goal.returns
 returns c = c.got.ensures ∙ within-found c.requires.0 c.args.area.now c.args.hold c.last_type-t.result

@@ -1,9 +1,6 @@
-use mathlib.Core.Path.{◌∙◌}
 use Rattle.cells.proofs.Ancestry.{sound-known}
 use Rattle.gets.proofs.Gotten.{got-is}
-use borrow.Author.Rules.{rules}
 use Rattle.gets.proofs.got.Goals as goal
-
 
 pub told-requires : goal.told-requires
 told-requires c = (c.requires.0.catalogue, rw c.show-t.ensures.0 (sound-known c.requires.0 c.args.c.0 c.requires.1))

@@ -1,13 +1,10 @@
-use mathlib.Core.Path.{◌≡◌, refl, ap, sym, ◌∙◌}
+use mathlib.Core.Path.{◌∙◌}
 use native.Mathlib.Omega.{arith}
-use borrow.Author.Rules.{rules}
-use borrow.Author.Tests.{not-true, not-false}
 use Prim.Native.Nat.{◌-◌}
 use Rattle.rules.specs.Table.{listing}
 use Rattle.cells.proofs.Ancestry.{sound-known}
-use Rattle.gets.proofs.Codes.{status-gap, status-on}
+use Rattle.gets.proofs.Codes.{status-on}
 use Rattle.gets.proofs.next_status.Goals as goal
-
 
 pub change_status-requires : goal.change_status-requires
 change_status-requires c = (

@@ -1,9 +1,7 @@
 use native.Mathlib.Omega.{arith}
 use Rattle.rules.specs.Listing.{last_line}
 use Rattle.listing.proofs.Written.{wrote_then}
-use borrow.Author.Rules.{rules}
 use Rattle.listing.proofs.last_line.Goals as goal
-
 
 pub returns : goal.returns
 unfolding last_line

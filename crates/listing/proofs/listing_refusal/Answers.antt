@@ -1,7 +1,5 @@
 use Rattle.listing.proofs.Lines.{refused-first, refused-long, refused-table}
-use borrow.Author.Rules.{rules}
 use Rattle.listing.proofs.listing_refusal.Goals as goal
-
 
 pub returns-then-number-ne0 : goal.returns-then-number-ne0
 returns-then-number-ne0 c = refused-first _ _ _ _ c.check-s.ensures c.number.ensures c.if-number-ne0.true

@@ -1,9 +1,7 @@
 use native.Mathlib.Omega.{arith}
 use Rattle.listing.proofs.Lines.{size_small, list-ready, answer-short, listed-last, listed-cell}
 use Rattle.gets.proofs.OneList.{ready-alone}
-use borrow.Author.Rules.{rules}
 use Rattle.listing.proofs.next_line.Goals as goal
-
 
 pub read_next-a-requires : goal.read_next-a-requires
 read_next-a-requires c = (list-ready _ _ _ c.requires.0, (ready-alone (list-ready _ _ _ c.requires.0)).1, size_small _ _ _ c.requires.0)

@@ -6,9 +6,7 @@ use Rattle.catalogue.proofs.Hierarchy.{largest-most}
 use Rattle.blocks.proofs.Negated.{told-no, told-yes}
 use Rattle.table_check.proofs.Space.{room-is}
 use Rattle.maker.proofs.Made.{made-refused, made-unfit, made-done}
-use borrow.Author.Rules.{rules}
 use Rattle.maker.proofs.make.Goals as goal
-
 
 pub returns-then-not-is_good : goal.returns-then-not-is_good
 unfolding cell_size
@@ -22,12 +20,12 @@ returns-then-not-good_room c = made-unfit c.args.cat.now c.args.tab.now (told-ye
 pub overflow_add-largest : goal.overflow_add-largest
 unfolding cell_size
 overflow_add-largest c = omega (
-      arith,
-      c.largest.ensures,
-      largest-most c.args.cat.now
-          (told-yes c.is_good.ensures
-          c.if-not-is_good.false),
-    )
+  arith,
+  c.largest.ensures,
+  largest-most c.args.cat.now
+      (told-yes c.is_good.ensures
+      c.if-not-is_good.false),
+)
 
 pub write_empty-requires : goal.write_empty-requires
 unfolding cell_size

@@ -1,7 +1,5 @@
 use Rattle.position.proofs.Tests.{place-on, place-before}
-use borrow.Author.Rules.{rules}
 use Rattle.position.proofs.good_place.Goals as goal
-
 
 pub returns-in-On : goal.returns-in-On
 returns-in-On c = place-on c.args.cat.now c.args.tab.now c.args.q c.in-On.c c.count.result c.in-On.is

@@ -1,8 +1,6 @@
 use borrow.Author.Tests.{eq-eqb, ne_eqb}
 use Rattle.refusals.specs.Refusals.{too_short}
-use borrow.Author.Rules.{rules}
 use Rattle.refusals.proofs.is_short.Goals as goal
-
 
 pub returns-then-number-eq9 : goal.returns-then-number-eq9
 unfolding too_short

@@ -1,9 +1,7 @@
 use mathlib.Core.Path.{sym, ◌∙◌}
-use borrow.Author.Tests.{eq-eqb, ne_eqb, not-true, not-false}
+use borrow.Author.Tests.{eq-eqb, ne_eqb}
 use Rattle.refusals.specs.Refusals.{misused_held}
-use borrow.Author.Rules.{rules}
 use Rattle.refusals.proofs.misused_held.Goals as goal
-
 
 pub returns-then-list-ne0 : goal.returns-then-list-ne0
 unfolding misused_held
@@ -16,15 +14,15 @@ returns-then-is_short c = simp (eq-eqb _ _ c.if-list-ne0.false, sym c.is_short.e
 pub returns-then-not-hold : goal.returns-then-not-hold
 unfolding misused_held
 returns-then-not-hold c = simp (
-      eq-eqb _ _ c.if-list-ne0.false,
-      sym c.is_short.ensures ∙ c.if-is_short.false,
-      c.if-not-hold.true,
-    )
+  eq-eqb _ _ c.if-list-ne0.false,
+  sym c.is_short.ensures ∙ c.if-is_short.false,
+  c.if-not-hold.true,
+)
 
 pub returns : goal.returns
 unfolding misused_held
 returns c = simp (
-      eq-eqb _ _ c.if-list-ne0.false,
-      sym c.is_short.ensures ∙ c.if-is_short.false,
-      c.if-not-hold.false,
-    )
+  eq-eqb _ _ c.if-list-ne0.false,
+  sym c.is_short.ensures ∙ c.if-is_short.false,
+  c.if-not-hold.false,
+)

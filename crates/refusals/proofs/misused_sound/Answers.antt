@@ -1,10 +1,8 @@
-use mathlib.Core.Path.{◌≡◌, sym, ◌∙◌}
+use mathlib.Core.Path.{◌∙◌}
 use Prim.Native.Nat.{◌<◌}
 use native.Mathlib.Omega.{arith}
 use Rattle.refusals.proofs.Order.{number-none, number-above, list-faulty, get-misused, insert-misused, held-misused, sized-some, sound-list}
-use borrow.Author.Rules.{rules}
 use Rattle.refusals.proofs.misused_sound.Goals as goal
-
 
 pub returns-then-number-eq0 : goal.returns-then-number-eq0
 returns-then-number-eq0 c = number-none c.args.cat.now c.args.pos c.args.number c.args.list.now c.args.area.now c.if-number-eq0.true
@@ -27,12 +25,11 @@ returns-then-number-lt7 c = c.misused_get.ensures ∙ get-misused c.args.cat.now
     c.number.ensures c.if-number-ne0.false) c.if-number-eq0.false c.if-number-lt7.true
 
 pub misused_insert-requires : goal.misused_insert-requires
-misused_insert-requires c =
-    (
-      sized-some c.args.cat.now c.args.size c.requires.0,
-      sound-list c.args.cat.now c.args.list.now
-          c.fault-f.result c.number.result c.requires.1 c.fault-f.ensures c.number.ensures c.if-number-ne0.false,
-    )
+misused_insert-requires c = (
+  sized-some c.args.cat.now c.args.size c.requires.0,
+  sound-list c.args.cat.now c.args.list.now
+      c.fault-f.result c.number.result c.requires.1 c.fault-f.ensures c.number.ensures c.if-number-ne0.false,
+)
 
 pub returns-then-number-eq7 : goal.returns-then-number-eq7
 returns-then-number-eq7 c =

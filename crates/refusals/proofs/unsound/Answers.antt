@@ -1,12 +1,7 @@
-use mathlib.Core.Path.{◌≡◌, sym, ◌∙◌}
-use Prim.Native.Nat.{ℕ}
-use borrow.Author.Tests.{not-true, not-false}
+use mathlib.Core.Path.{sym, ◌∙◌}
 use Rattle.rules.specs.Outcome.{unsound}
-use Rattle.cells.specs.Sound.{Sound}
 use Rattle.cells.proofs.Located.{good-sound}
-use borrow.Author.Rules.{rules}
 use Rattle.refusals.proofs.unsound.Goals as goal
-
 
 pub returns-then-not-is_good : goal.returns-then-not-is_good
 unfolding unsound
@@ -15,9 +10,9 @@ returns-then-not-is_good c = simp (sym c.is_good.ensures ∙ c.if-not-is_good.tr
 pub returns-then-not-is_good_on : goal.returns-then-not-is_good_on
 unfolding unsound
 returns-then-not-is_good_on c = simp (
-      sym c.is_good.ensures ∙ c.if-not-is_good.false,
-      sym c.is_good_on.ensures ∙ c.if-not-is_good_on.true,
-    )
+  sym c.is_good.ensures ∙ c.if-not-is_good.false,
+  sym c.is_good_on.ensures ∙ c.if-not-is_good_on.true,
+)
 
 pub is_good_on-requires-2 : goal.is_good_on-requires-2
 unfolding unsound
@@ -28,17 +23,17 @@ is_good_on-requires-2 c = rw c.cell_size.ensures.0 (good-sound c.args.cat.now c.
 pub returns-then-not-is_good_on-2 : goal.returns-then-not-is_good_on-2
 unfolding unsound
 returns-then-not-is_good_on-2 c = simp (
-      sym c.is_good.ensures ∙ c.if-not-is_good.false,
-      sym c.is_good_on.ensures ∙ c.if-not-is_good_on.false,
-      sym
-          c.is_good_on-2.ensures ∙ c.if-not-is_good_on-2.true,
-    )
+  sym c.is_good.ensures ∙ c.if-not-is_good.false,
+  sym c.is_good_on.ensures ∙ c.if-not-is_good_on.false,
+  sym
+      c.is_good_on-2.ensures ∙ c.if-not-is_good_on-2.true,
+)
 
 pub returns : goal.returns
 unfolding unsound
 returns c = simp (
-      sym c.is_good.ensures ∙ c.if-not-is_good.false,
-      sym c.is_good_on.ensures ∙ c.if-not-is_good_on.false,
-      sym
-          c.is_good_on-2.ensures ∙ c.if-not-is_good_on-2.false,
-    )
+  sym c.is_good.ensures ∙ c.if-not-is_good.false,
+  sym c.is_good_on.ensures ∙ c.if-not-is_good_on.false,
+  sym
+      c.is_good_on-2.ensures ∙ c.if-not-is_good_on-2.false,
+)

@@ -1,7 +1,5 @@
 use Rattle.reports.proofs.Given.{told-size}
-use borrow.Author.Rules.{rules}
 use Rattle.reports.proofs.found_by.Goals as goal
-
 
 pub nested_sound-requires : goal.nested_sound-requires
 nested_sound-requires c = rw (told-size c.requires.first) at c.requires

@@ -1,8 +1,6 @@
 use mathlib.Core.Path.{◌∙◌}
-use borrow.Author.Rules.{rules}
 use Rattle.reports.proofs.Whole.{whole-refused, five-in, whole-given, whole-shows}
 use Rattle.reports.proofs.report_by.Goals as goal
-
 
 pub returns-then-number-ne0 : goal.returns-then-number-ne0
 returns-then-number-ne0 c = whole-refused _ _ _ _ _ _ c.report_refusal-s.ensures c.number.ensures _ _ c.shows_nothing.ensures

@@ -1,9 +1,7 @@
 use native.Mathlib.Omega.{arith}
 use mathlib.Core.List.{◌++◌}
 use Rattle.reports.proofs.Whole.{picked-few, shows-all, counted-short, counted-all}
-use borrow.Author.Rules.{rules}
 use Rattle.reports.proofs.shown_by.Goals as goal
-
 
 pub returns-then-count-out : goal.returns-then-count-out
 returns-then-count-out c =

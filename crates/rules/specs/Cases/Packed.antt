@@ -1,5 +1,5 @@
 -- Packed keys and fields in tables and calls (R86 to R91). The claims are in proofs/Cases.antt. Assumes nothing: these are definitions.
-use Rattle.std.specs.Prelude.{true, List, [], ◌∷◌, ◌++◌, ℕ}
+use Rattle.std.specs.Prelude.{List, [], ◌∷◌, ◌++◌, ℕ}
 use Rattle.terms.specs.declared.Status.{Status}
 use Rattle.terms.specs.declared.Status.TheVariants.{Blank, GE, TX, AC, AJ, AK, DA, II, FX, PD}
 use Rattle.terms.specs.Moves.{fresh}

@@ -1,9 +1,7 @@
 use mathlib.Core.Path.{◌∙◌}
 use native.Mathlib.Omega.{arith}
-use borrow.Author.Rules.{rules}
 use Rattle.twins.proofs.Keys.{key-area, keyed-bytes, valued-start, keyed-value}
 use Rattle.twins.proofs.is_keyed.Goals as goal
-
 
 pub returns-then-w-eq0 : goal.returns-then-w-eq0
 returns-then-w-eq0 c = keyed-bytes c.requires c.key_value-w.ensures c.if-w-eq0.true

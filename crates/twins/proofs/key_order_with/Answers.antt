@@ -1,10 +1,8 @@
 use mathlib.Core.Path.{◌∙◌}
 use native.Mathlib.Omega.{arith}
-use borrow.Author.Rules.{rules}
 use Rattle.cells.proofs.Data.{cell-inside}
 use Rattle.twins.proofs.Keys.{order-unkeyed, compared-cell, compared-area, compared-in, order-bytes, order-packed}
 use Rattle.twins.proofs.key_order_with.Goals as goal
-
 
 pub returns-then-start-eq0 : goal.returns-then-start-eq0
 returns-then-start-eq0 c = order-unkeyed c.requires.0 c.requires.2 c.requires.3 c.entry_of-entry.ensures.0 c.wide-start.ensures.0 c.if-start-eq0.true

@@ -1,7 +1,5 @@
-use borrow.Author.Rules.{rules}
 use Rattle.twins.proofs.Keys.{packed-smaller, packed-equal, packed-greater}
 use Rattle.twins.proofs.packed_order_with.Goals as goal
-
 
 pub returns-then-holds_at : goal.returns-then-holds_at
 returns-then-holds_at c = λ h k. packed-smaller _ _ h k c.holds_at.ensures c.if-holds_at.true

@@ -1,17 +1,10 @@
 use Rattle.catalogue.proofs.Levels.{levels-none}
-use borrow.Author.Rules.{rules}
-use mathlib.Core.Path.{◌≡◌, sym, ◌∙◌}
-use mathlib.Core.Logic.{⊎_elim}
-use Prim.Native.Nat.{◌≤◌, ◌-◌}
+use mathlib.Core.Path.{sym, ◌∙◌}
 use native.Mathlib.Omega.{arith}
-use Rattle.rules.specs.Cells.{arriving}
-use Rattle.rules.specs.Table.{listing}
-use Rattle.twins.specs.Among.{placed}
 use Rattle.twins.proofs.Listing.{row_new}
-use Rattle.twins.proofs.Passing.{onward, onward-start, onward-stop, onward-twin, onward-other, onward-end}
+use Rattle.twins.proofs.Passing.{onward-start, onward-stop, onward-twin, onward-other, onward-end}
 use Rattle.twins.proofs.pass_row.Goals as goal
 use Rattle.twins.proofs.pass_row.Goals.{then-is_equal, else-is_equal}
-
 
 pub levels-requires : goal.levels-requires
 levels-requires c = (c.requires.0.sound.catalogue, levels-none c.args.cat.now)

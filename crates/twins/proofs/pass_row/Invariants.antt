@@ -1,14 +1,9 @@
-use Rattle.catalogue.proofs.Levels.{levels-none}
-use borrow.Author.Rules.{rules}
-use mathlib.Core.Path.{◌≡◌, sym, ◌∙◌}
-use mathlib.Core.Logic.{⊎_elim}
+use mathlib.Core.Path.{◌≡◌}
 use Prim.Native.Nat.{◌≤◌, ◌-◌}
-use native.Mathlib.Omega.{arith}
 use Rattle.rules.specs.Cells.{arriving}
 use Rattle.rules.specs.Table.{listing}
 use Rattle.twins.specs.Among.{placed}
-use Rattle.twins.proofs.Listing.{row_new}
-use Rattle.twins.proofs.Passing.{onward, onward-start, onward-stop, onward-twin, onward-other, onward-end}
+use Rattle.twins.proofs.Passing.{onward}
 use Rattle.twins.proofs.pass_row.Given as goal
 
 abbrev pub invariant-loop-at : goal.invariant-loop-at

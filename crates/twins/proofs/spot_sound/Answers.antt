@@ -1,7 +1,5 @@
 use Rattle.twins.proofs.Passing.{spot-unique, spot-other}
-use borrow.Author.Rules.{rules}
 use Rattle.twins.proofs.spot_sound.Goals as goal
-
 
 pub returns-then-key_kind-eq1 : goal.returns-then-key_kind-eq1
 returns-then-key_kind-eq1 c = spot-unique c.requires.0 c.requires.2 c.pass_row-s.ensures c.key_kind.ensures c.if-key_kind-eq1.true

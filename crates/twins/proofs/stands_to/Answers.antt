@@ -1,9 +1,7 @@
 use Rattle.cells.proofs.Ancestry.{sound-known}
 use mathlib.Core.Path.{◌∙◌}
-use Rattle.twins.proofs.Passing.{new_deep, new-less, new-more, new-twin, type-same}
-use borrow.Author.Rules.{rules}
+use Rattle.twins.proofs.Passing.{new_deep, new-less, new-more, new-twin}
 use Rattle.twins.proofs.stands_to.Goals as goal
-
 
 pub returns-then-u-t : goal.returns-then-u-t
 returns-then-u-t c = new-more _ _ _ _ c.code_at-u.ensures c.if-u-t.true

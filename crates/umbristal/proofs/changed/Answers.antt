@@ -1,8 +1,6 @@
 use native.Mathlib.Omega.{arith}
-use Rattle.umbristal.proofs.Fitting.{sound-read, sound-fits, sound-left}
-use borrow.Author.Rules.{rules}
+use Rattle.umbristal.proofs.Fitting.{sound-fits, sound-left}
 use Rattle.umbristal.proofs.changed.Goals as goal
-
 
 pub leave-requires : goal.leave-requires
 leave-requires c =

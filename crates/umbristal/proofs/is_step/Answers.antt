@@ -1,8 +1,5 @@
-use mathlib.Core.Path.{sym, ◌∙◌}
 use Rattle.umbristal.proofs.EmptyList.{not-two, not-empty, by-area}
-use borrow.Author.Rules.{rules}
 use Rattle.umbristal.proofs.is_step.Goals as goal
-
 
 pub returns-then-number-ne2 : goal.returns-then-number-ne2
 returns-then-number-ne2 c = not-two _ _ _ _ c.if-number-ne2.true

@@ -1,13 +1,11 @@
-use mathlib.Core.Path.{◌≡◌, ap, sym, ◌∙◌}
+use mathlib.Core.Path.{ap, ◌∙◌}
 use native.Mathlib.Omega.{arith}
-use borrow.Author.Rules.{rules}
 use Rattle.rules.specs.Position.{position_of, position_bytes}
 use Rattle.cells.proofs.Ancestry.{sound-known}
 use Rattle.gets.proofs.Codes.{on-least}
 use Rattle.umbristal.proofs.EmptyList.{sizes-in}
 use Rattle.umbristal.proofs.OneStep.{block-good, step-sound, fresh-fits, onto-fits, step-missed, told_none, step-found}
 use Rattle.umbristal.proofs.step.Goals as goal
-
 
 pub bounds-tab-5 : goal.bounds-tab-5
 bounds-tab-5 c = (sizes-in c.args.cat.now c.args.tab.now (position_of c.args.pos.now) c.args.list.now c.args.area.now
@@ -36,19 +34,18 @@ is_on-requires c =
     c.requires.1
 
 pub next_status-s-requires : goal.next_status-s-requires
-next_status-s-requires c =
-    (
-      (step-sound c.args.cat.now c.args.tab.now c.args.pos.now c.args.list.now c.args.area.now
-          c.requires.0
-          c.requires.1
-          c.wide-size.result
-          c.wide-size.ensures.0).0.sound,
-      omega
-          (arith, c.if-count-i.false, c.count.ensures.0),
-      on-least
-          (position_of c.args.pos.now).place c.is_on.result c.cell_after-i.result
-          c.is_on.ensures c.cell_after-i.ensures,
-    )
+next_status-s-requires c = (
+  (step-sound c.args.cat.now c.args.tab.now c.args.pos.now c.args.list.now c.args.area.now
+      c.requires.0
+      c.requires.1
+      c.wide-size.result
+      c.wide-size.ensures.0).0.sound,
+  omega
+      (arith, c.if-count-i.false, c.count.ensures.0),
+  on-least
+      (position_of c.args.pos.now).place c.is_on.result c.cell_after-i.result
+      c.is_on.ensures c.cell_after-i.ensures,
+)
 
 pub put_position-requires-2 : goal.put_position-requires-2
 put_position-requires-2 c =
@@ -57,39 +54,37 @@ put_position-requires-2 c =
     c.moved_onto-p.result c.moved_onto-p.ensures
 
 pub show-t-requires : goal.show-t-requires
-show-t-requires c =
-    (
+show-t-requires c = (
+  (step-sound c.args.cat.now c.args.tab.now c.args.pos.now c.args.list.now c.args.area.now
+      c.requires.0
+      c.requires.1
+      c.wide-size.result c.wide-size.ensures.0).0.sound,
+  omega (
+    arith,
+    c.if-count-i.false,
+    c.count.ensures.0,
+  ),
+  (step-sound c.args.cat.now c.args.tab.now c.args.pos.now c.args.list.now c.args.area.now
+      c.requires.0
+      c.requires.1
+      c.wide-size.result c.wide-size.ensures.0).1,
+)
+
+pub told-requires : goal.told-requires
+told-requires c = (
+  c.requires.0.catalogue,
+  rw
+      c.show-t.ensures.0 (sound-known
       (step-sound c.args.cat.now c.args.tab.now c.args.pos.now c.args.list.now c.args.area.now
-          c.requires.0
-          c.requires.1
-          c.wide-size.result c.wide-size.ensures.0).0.sound,
-      omega (
+      c.requires.0
+      c.requires.1
+      c.wide-size.result c.wide-size.ensures.0).0.sound
+      c.cell_after-i.result (omega (
         arith,
         c.if-count-i.false,
         c.count.ensures.0,
-      ),
-      (step-sound c.args.cat.now c.args.tab.now c.args.pos.now c.args.list.now c.args.area.now
-          c.requires.0
-          c.requires.1
-          c.wide-size.result c.wide-size.ensures.0).1,
-    )
-
-pub told-requires : goal.told-requires
-told-requires c =
-    (
-      c.requires.0.catalogue,
-      rw
-          c.show-t.ensures.0 (sound-known
-          (step-sound c.args.cat.now c.args.tab.now c.args.pos.now c.args.list.now c.args.area.now
-          c.requires.0
-          c.requires.1
-          c.wide-size.result c.wide-size.ensures.0).0.sound
-          c.cell_after-i.result (omega (
-            arith,
-            c.if-count-i.false,
-            c.count.ensures.0,
-          ))),
-    )
+      ))),
+)
 
 pub packed-requires : goal.packed-requires
 packed-requires c =

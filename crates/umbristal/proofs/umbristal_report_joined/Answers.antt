@@ -1,7 +1,5 @@
 use Rattle.umbristal.proofs.Reports.{report-small, report-shown}
-use borrow.Author.Rules.{rules}
 use Rattle.umbristal.proofs.umbristal_report_joined.Goals as goal
-
 
 pub packed_report-requires : goal.packed_report-requires
 packed_report-requires c = report-small _ _ _ _ _ _ _ c.joined.ensures

@@ -3,7 +3,6 @@ use native.Mathlib.Omega.{arith}
 use Rattle.rules.proofs.Packed.{number-less, number_same, number_more}
 use Rattle.values.proofs.digit_order.Goals as goal
 
-
 pub returns-then-n-m : goal.returns-then-n-m
 returns-then-n-m c = sym (number-less _ _ c.if-n-m.true)
 

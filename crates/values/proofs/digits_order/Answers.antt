@@ -2,9 +2,7 @@ use mathlib.Core.Path.{sym, ◌∙◌}
 use Rattle.terms.specs.declared.Order.TheVariants.{Smaller, Equal, Greater}
 use Rattle.values.proofs.Number.{some_bytes}
 use Rattle.values.proofs.Compared.{by_front}
-use borrow.Author.Rules.{rules}
 use Rattle.values.proofs.digits_order.Goals as goal
-
 
 pub returns-then-a-eq0 : goal.returns-then-a-eq0
 returns-then-a-eq0 c = λ h. absurd (some_bytes c.args.a.now h.first c.if-a-eq0.true)

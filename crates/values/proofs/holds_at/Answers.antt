@@ -1,9 +1,6 @@
-use borrow.Author.Rules.{rules}
-use mathlib.Core.Path.{sym, ◌∙◌}
 use Rattle.blocks.proofs.Negated.{told-no, told-yes}
-use Rattle.values.proofs.Held.{cut-long, no_number, number-held}
+use Rattle.values.proofs.Held.{no_number, number-held}
 use Rattle.values.proofs.holds_at.Goals as goal
-
 
 pub returns-then-not-is_number : goal.returns-then-not-is_number
 returns-then-not-is_number c = λ n. no_number c.args.o c.args.a.now c.args.b.now c.args.i c.args.j c.args.long

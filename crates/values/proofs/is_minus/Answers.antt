@@ -1,7 +1,5 @@
 use Rattle.values.proofs.Signs.{minus-none, minus-first, minus-second}
-use borrow.Author.Rules.{rules}
 use Rattle.values.proofs.is_minus.Goals as goal
-
 
 pub returns-then-b-eq0 : goal.returns-then-b-eq0
 returns-then-b-eq0 c = minus-none c.args.b.now c.if-b-eq0.true

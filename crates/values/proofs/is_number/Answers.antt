@@ -1,11 +1,9 @@
-use mathlib.Core.Path.{◌≡◌, refl, ◌∙◌}
-use Prim.Native.Nat.{◌≤◌, ◌-◌, ◌+◌}
+use mathlib.Core.Path.{◌∙◌}
+use Prim.Native.Nat.{◌-◌}
 use native.Mathlib.Omega.{arith}
-use lib.ListN.{length, drop}
-use Rattle.rules.specs.Packed.{is_number}
+use lib.ListN.{length}
 use Rattle.values.proofs.Number.{number-none, number-high, number-low, number-next, number-end, at-end}
 use Rattle.values.proofs.is_number.Goals as goal
-
 
 pub returns-then-b-eq0 : goal.returns-then-b-eq0
 returns-then-b-eq0 c = number-none c.args.b.now c.if-b-eq0.true

@@ -1,9 +1,7 @@
-use mathlib.Core.Path.{◌≡◌, refl, ◌∙◌}
+use mathlib.Core.Path.{◌≡◌}
 use Prim.Native.Nat.{◌≤◌, ◌-◌, ◌+◌}
-use native.Mathlib.Omega.{arith}
 use lib.ListN.{length, drop}
 use Rattle.rules.specs.Packed.{is_number}
-use Rattle.values.proofs.Number.{number-none, number-high, number-low, number-next, number-end, at-end}
 use Rattle.values.proofs.is_number.Given as goal
 
 abbrev pub invariant-loop-i : goal.invariant-loop-i

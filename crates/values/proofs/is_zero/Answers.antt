@@ -1,8 +1,6 @@
 use mathlib.Core.Path.{◌∙◌}
 use Rattle.values.proofs.Zero.{zero-none, zero-last, zero-front}
-use borrow.Author.Rules.{rules}
 use Rattle.values.proofs.is_zero.Goals as goal
-
 
 pub returns-then-b-eq0 : goal.returns-then-b-eq0
 returns-then-b-eq0 c = zero-none c.args.b.now c.if-b-eq0.true

@@ -1,8 +1,6 @@
 use mathlib.Core.Path.{sym, ◌∙◌}
 use Rattle.values.proofs.Signs.{both-plus, both-minus, minus_plus, plus-minus}
-use borrow.Author.Rules.{rules}
 use Rattle.values.proofs.packed_order.Goals as goal
-
 
 pub returns-then-is_minus-2 : goal.returns-then-is_minus-2
 returns-then-is_minus-2 c = λ h. c.digits_order.ensures (record { first = h.second; second = h.first }) ∙ both-minus c.args.a.now

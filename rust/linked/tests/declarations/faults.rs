@@ -108,7 +108,7 @@ fn what_cannot_be_read_is_no_agreement() {
         "umbristal_a: it is not marked no_mangle"
     );
     assert_eq!(
-        exported("#[no_mangle]\nfn umbristal_a(cat: &[u8]) -> u8 {}"),
+        exported("#[unsafe(no_mangle)]\nfn umbristal_a(cat: &[u8]) -> u8 {}"),
         "a no_mangle stands before no `pub extern \"C\" fn`"
     );
 }

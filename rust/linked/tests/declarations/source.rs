@@ -3,7 +3,8 @@
 use crate::signature::{kind, Parameter, Signature};
 
 /// Parameters that a crate calls otherwise than the header.
-const OTHER_NAMES: [(&str, &str); 3] = [
+const OTHER_NAMES: [(&str, &str); 4] = [
+    ("res", "result"),
     ("one", "list1"),
     ("two", "list2"),
     ("operator", "operation"),
@@ -27,7 +28,7 @@ pub fn declared(text: &str) -> Result<Vec<Signature>, String> {
 
 /// The functions of a crate that are marked for the archive.
 pub fn exported(text: &str) -> Result<Vec<Signature>, String> {
-    const MARK: &str = "#[no_mangle] ";
+    const MARK: &str = "#[unsafe(no_mangle)] ";
     const HEAD: &str = "pub extern \"C\" fn ";
     let code = without_comments(text);
     let mut all = Vec::new();

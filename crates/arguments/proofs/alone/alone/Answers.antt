@@ -1,9 +1,7 @@
 use native.Mathlib.Omega.{arith}
 use Rattle.arguments.proofs.Short.{sound-short}
 use Rattle.arguments.proofs.Sole.{joined-others, joined-own}
-use borrow.Author.Rules.{rules}
 use Rattle.arguments.proofs.alone.alone.Goals as goal
-
 
 pub alone_in-first-requires : goal.alone_in-first-requires
 alone_in-first-requires c = (

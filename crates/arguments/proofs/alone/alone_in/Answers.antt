@@ -1,13 +1,10 @@
 use mathlib.Core.Path.{ap, sym, ◌∙◌}
-use Prim.Native.Nat.{◌-◌}
 use native.Mathlib.Omega.{arith}
-use lib.ListN.{length}
 use Rattle.terms.specs.declared.Argument.{Argument}
 use Rattle.arguments.proofs.Walk.{walked-room, walked-onward}
 use Rattle.arguments.proofs.Once.{marked-fits}
-use Rattle.arguments.proofs.Sole.{Telling, telling-start, telling-end, telling-other, telling-passed, telling-here, telling-kept}
+use Rattle.arguments.proofs.Sole.{telling-start, telling-end, telling-other, telling-passed, telling-here, telling-kept}
 use Rattle.arguments.proofs.alone.alone_in.Goals as goal
-
 
 pub loop-at-init : goal.loop-at-init
 loop-at-init c = telling-start c.args.cat.now c.args.list.now c.args.base c.args.t c.args.e c.requires.0
@@ -29,14 +26,14 @@ entry_of-own-requires c =
 
 pub loop-at-smaller-else-is_qualified : goal.loop-at-smaller-else-is_qualified
 loop-at-smaller-else-is_qualified c = omega (
-      arith,
-      walked-onward c.args.cat.now c.args.list.now
-          c.loop-at.at
-          c.loop-at-test.true
-          c.loop-at.invariant.walk,
-      ap (λ (a : Argument). a.next)
-          c.argument_at-a.ensures,
-    )
+  arith,
+  walked-onward c.args.cat.now c.args.list.now
+      c.loop-at.at
+      c.loop-at-test.true
+      c.loop-at.invariant.walk,
+  ap (λ (a : Argument). a.next)
+      c.argument_at-a.ensures,
+)
 
 pub loop-at-preserved-else-is_qualified : goal.loop-at-preserved-else-is_qualified
 loop-at-preserved-else-is_qualified c =
@@ -63,14 +60,14 @@ loop-at-preserved-then-own-eq1 c =
 
 pub loop-at-smaller : goal.loop-at-smaller
 loop-at-smaller c = omega (
-      arith,
-      walked-onward c.args.cat.now c.args.list.now
-          c.loop-at.at
-          c.loop-at-test.true
-          c.loop-at.invariant.walk,
-      ap (λ (a : Argument). a.next)
-          c.argument_at-a.ensures,
-    )
+  arith,
+  walked-onward c.args.cat.now c.args.list.now
+      c.loop-at.at
+      c.loop-at-test.true
+      c.loop-at.invariant.walk,
+  ap (λ (a : Argument). a.next)
+      c.argument_at-a.ensures,
+)
 
 pub loop-at-preserved : goal.loop-at-preserved
 loop-at-preserved c = telling-kept c.args.cat.now c.args.list.now c.args.base c.args.t c.args.e c.loop-at.own c.loop-at.at

@@ -1,9 +1,7 @@
 use native.Mathlib.Omega.{arith}
 use Rattle.arguments.proofs.Short.{sound-short}
 use Rattle.arguments.proofs.Rows.{row-joined}
-use borrow.Author.Rules.{rules}
 use Rattle.arguments.proofs.asked.ask.Goals as goal
-
 
 pub mark_named-requires : goal.mark_named-requires
 mark_named-requires c = (

@@ -1,6 +1,5 @@
-use native.Mathlib.Omega.{arith}
 use Rattle.terms.specs.Names.{code}
-use Rattle.arguments.proofs.Rows.{Climbing, climb-start, climb-end, climb-few, climb-less, climb-next}
+use Rattle.arguments.proofs.Rows.{Climbing}
 use Rattle.arguments.proofs.asked.mark_above.Given as goal
 
 abbrev pub invariant-loop-u : goal.invariant-loop-u

@@ -1,11 +1,8 @@
-use Prim.Native.Nat.{◌-◌}
 use native.Mathlib.Omega.{arith}
 use mathlib.Core.Path.{ap}
-use lib.ListN.{length}
 use Rattle.terms.specs.declared.Argument.{Argument}
-use Rattle.arguments.proofs.Walk.{Passed, passed_start, passed-end, passed-room, passed-onward, passed-next}
+use Rattle.arguments.proofs.Walk.{passed_start, passed-end, passed-room, passed-onward, passed-next}
 use Rattle.arguments.proofs.lookup.last_of.Goals as goal
-
 
 pub loop-last-init : goal.loop-last-init
 loop-last-init c = passed_start c.args.cat.now c.args.list.now c.requires
@@ -16,11 +13,11 @@ argument_at-last-requires c = passed-room c.args.cat.now c.args.list.now c.loop-
 
 pub loop-last-smaller : goal.loop-last-smaller
 loop-last-smaller c = omega (
-      arith,
-      passed-onward c.args.cat.now c.args.list.now c.loop-last.last
-          (omega arith) c.loop-last.invariant,
-      ap (λ (a : Argument). a.next) c.argument_at-last.ensures,
-    )
+  arith,
+  passed-onward c.args.cat.now c.args.list.now c.loop-last.last
+      (omega arith) c.loop-last.invariant,
+  ap (λ (a : Argument). a.next) c.argument_at-last.ensures,
+)
 
 pub loop-last-preserved : goal.loop-last-preserved
 loop-last-preserved c = passed-next c.args.cat.now c.args.list.now c.loop-last.last (omega arith)

@@ -1,9 +1,6 @@
 use Prim.Native.Nat.{◌-◌}
-use native.Mathlib.Omega.{arith}
-use mathlib.Core.Path.{ap}
 use lib.ListN.{length}
-use Rattle.terms.specs.declared.Argument.{Argument}
-use Rattle.arguments.proofs.Walk.{Passed, passed_start, passed-end, passed-room, passed-onward, passed-next}
+use Rattle.arguments.proofs.Walk.{Passed}
 use Rattle.arguments.proofs.lookup.last_of.Given as goal
 
 abbrev pub invariant-loop-last : goal.invariant-loop-last

@@ -1,8 +1,6 @@
 use borrow.Author.Tests.{eq-eqb, ne_eqb}
-use borrow.Author.Rules.{rules}
 use Rattle.arguments.specs.Sound.{qualification_at, next_at}
 use Rattle.arguments.proofs.read.argument_at.Goals as goal
-
 
 pub returns-then-o-eq0 : goal.returns-then-o-eq0
 unfolding qualification_at next_at

@@ -1,9 +1,7 @@
 use mathlib.Core.Path.{ap, ◌∙◌}
-use borrow.Author.Rules.{rules}
 use Rattle.rules.specs.Arguments.{ListRead}
 use Rattle.arguments.proofs.Rest.{rest-whole}
 use Rattle.arguments.proofs.read.fault.Goals as goal
-
 
 pub returns : goal.returns
 returns c = c.fault_behind.ensures ∙ ap (λ (l : ListRead). l.fault) (rest-whole _ _)

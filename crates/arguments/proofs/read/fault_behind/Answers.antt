@@ -1,13 +1,8 @@
-use mathlib.Core.Path.{◌≡◌, refl, ap, sym, ◌∙◌}
-use Prim.Native.Nat.{◌-◌}
+use mathlib.Core.Path.{ap, sym, ◌∙◌}
 use native.Mathlib.Omega.{arith}
-use lib.ListN.{length}
-use borrow.Author.Rules.{rules}
 use Rattle.rules.specs.Arguments.{ListRead}
-use Rattle.arguments.specs.Sound.{rest}
 use Rattle.arguments.proofs.Rest.{rest_end, got-rest, got-onward, got_fault}
 use Rattle.arguments.proofs.read.fault_behind.Goals as goal
-
 
 pub returns-in_default : goal.returns-in_default
 returns-in_default c = got_fault c.args.cat.now c.args.list.now c.loop-at.before c.loop-at.at c.loop-at-test.true
@@ -15,13 +10,13 @@ returns-in_default c = got_fault c.args.cat.now c.args.list.now c.loop-at.before
 
 pub loop-at-smaller : goal.loop-at-smaller
 loop-at-smaller c = omega (
-      arith,
-      got-onward c.args.cat.now c.args.list.now
-          c.loop-at.before
-          c.loop-at.at
-          c.loop-at-test.true
-          c.read_argument-read.ensures c.in-Got.is,
-    )
+  arith,
+  got-onward c.args.cat.now c.args.list.now
+      c.loop-at.before
+      c.loop-at.at
+      c.loop-at-test.true
+      c.read_argument-read.ensures c.in-Got.is,
+)
 
 pub loop-at-preserved : goal.loop-at-preserved
 loop-at-preserved c = got-rest c.args.cat.now c.args.list.now c.loop-at.before c.loop-at.at c.loop-at-test.true

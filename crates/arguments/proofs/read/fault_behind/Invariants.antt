@@ -1,11 +1,7 @@
-use mathlib.Core.Path.{◌≡◌, refl, ap, sym, ◌∙◌}
+use mathlib.Core.Path.{◌≡◌}
 use Prim.Native.Nat.{◌-◌}
-use native.Mathlib.Omega.{arith}
 use lib.ListN.{length}
-use borrow.Author.Rules.{rules}
-use Rattle.rules.specs.Arguments.{ListRead}
 use Rattle.arguments.specs.Sound.{rest}
-use Rattle.arguments.proofs.Rest.{rest_end, got-rest, got-onward, got_fault}
 use Rattle.arguments.proofs.read.fault_behind.Given as goal
 
 abbrev pub invariant-loop-at : goal.invariant-loop-at

@@ -1,9 +1,7 @@
 use mathlib.Core.Path.{sym, ◌∙◌}
-use borrow.Author.Tests.{not-true, not-false, eq-eqb, ne_eqb}
+use borrow.Author.Tests.{eq-eqb, ne_eqb}
 use Rattle.rules.specs.Arguments.{good_next}
-use borrow.Author.Rules.{rules}
 use Rattle.arguments.proofs.read.is_next.Goals as goal
-
 
 pub returns-then-not-is_type : goal.returns-then-not-is_type
 unfolding good_next

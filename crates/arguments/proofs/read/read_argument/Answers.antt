@@ -1,12 +1,9 @@
 use native.Mathlib.Omega.{arith}
 use mathlib.Core.Path.{refl, sym, ◌∙◌}
-use borrow.Author.Tests.{not-true, not-false}
 use Rattle.rules.specs.Arguments.{good_next, is_field_of}
 use Rattle.arguments.proofs.Branches.{type-missing, type-bad, operator-missing, operator-none, operator-bad, field-missing, field-bad}
-use Rattle.arguments.proofs.Branches.{value-short, value-bytes, value-number, value-bad, value-good, room-none, room-test, next-is}
-use borrow.Author.Rules.{rules}
+use Rattle.arguments.proofs.Branches.{value-short, value-bytes, value-number, value-bad, value-good, next-is}
 use Rattle.arguments.proofs.read.read_argument.Goals as goal
-
 
 pub returns-then-list-at : goal.returns-then-list-at
 unfolding good_next is_field_of

@@ -1,9 +1,7 @@
-use borrow.Author.Fill.{fill_more}
-use native.Mathlib.Omega.{arith}
-use mathlib.Core.Path.{◌≡◌, refl, ap, ◌∙◌}
-use mathlib.Core.List.{[], ◌++◌, append-nil}
-use Prim.Native.Nat.{◌≤◌, ◌+◌, ◌-◌}
-use lib.ListN.{length, length-set, set, replicate, drop, drop_of_length-le}
+use mathlib.Core.Path.{◌≡◌}
+use mathlib.Core.List.{◌++◌}
+use Prim.Native.Nat.{◌≤◌, ◌-◌}
+use lib.ListN.{length, replicate, drop}
 use Rattle.blocks.proofs.moves.clear.Given as goal
 
 abbrev pub invariant-loop-i : goal.invariant-loop-i

@@ -1,10 +1,7 @@
-use native.Mathlib.Omega.{arith}
-use native.Mathlib.Nat.{add-zero, sub-zero}
-use mathlib.Core.Path.{◌≡◌, refl, ap, ◌∙◌}
-use Prim.Native.Nat.{◌≤◌, ◌+◌, ◌-◌}
-use lib.ListN.{length, length-set, drop}
-use lib.Seq.{paste}
-use Rattle.blocks.proofs.Moved.{up_at, one_byte, up_more, up_start}
+use mathlib.Core.Path.{◌≡◌}
+use Prim.Native.Nat.{◌≤◌, ◌+◌}
+use lib.ListN.{length}
+use Rattle.blocks.proofs.Moved.{up_at}
 use Rattle.blocks.proofs.moves.lift.Given as goal
 
 abbrev pub invariant-loop-i : goal.invariant-loop-i

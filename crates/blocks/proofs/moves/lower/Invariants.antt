@@ -1,9 +1,7 @@
-use native.Mathlib.Omega.{arith}
-use mathlib.Core.Path.{◌≡◌, refl, ap, ◌∙◌}
-use Prim.Native.Nat.{ℕ, ◌≤◌, ◌+◌, ◌-◌}
-use lib.ListN.{length, length-set, drop}
-use lib.Seq.{paste}
-use Rattle.blocks.proofs.Moved.{down_at, one_byte, down-more, down-start}
+use mathlib.Core.Path.{◌≡◌}
+use Prim.Native.Nat.{◌≤◌, ◌+◌, ◌-◌}
+use lib.ListN.{length}
+use Rattle.blocks.proofs.Moved.{down_at}
 use Rattle.blocks.proofs.moves.lower.Given as goal
 
 abbrev pub invariant-loop-i : goal.invariant-loop-i

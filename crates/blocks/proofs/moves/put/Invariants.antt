@@ -1,10 +1,7 @@
-use native.Mathlib.Omega.{arith}
-use mathlib.Core.Path.{◌≡◌, refl, ◌∙◌}
+use mathlib.Core.Path.{◌≡◌}
 use mathlib.Core.List.{◌++◌}
-use Prim.Native.Nat.{◌≤◌, ◌+◌, ◌-◌}
+use Prim.Native.Nat.{◌≤◌, ◌-◌}
 use lib.ListN.{length, take, drop}
-use lib.Seq.{take-length}
-use Rattle.blocks.proofs.Moved.{lent-more}
 use Rattle.blocks.proofs.moves.put.Given as goal
 
 abbrev pub invariant-loop-i : goal.invariant-loop-i

@@ -1,12 +1,7 @@
-use native.Mathlib.Omega.{arith}
-use native.Mathlib.Nat.{zero-add}
-use native.Mathlib.Numerals.{add-one}
-use mathlib.Core.Path.{◌≡◌, refl, ap, ◌∙◌}
+use mathlib.Core.Path.{◌≡◌}
 use mathlib.Core.List.{◌++◌}
-use Prim.Native.Nat.{ℕ, ◌≤◌, ◌-◌}
-use lib.ListN.{length, length-set, set, take, drop}
-use lib.Seq.{take_all, paste-suc}
-use Rattle.rules.specs.Block.{Bytes, byte}
+use Prim.Native.Nat.{◌≤◌, ◌-◌}
+use lib.ListN.{length, take, drop}
 use Rattle.blocks.proofs.moves.put_each.Given as goal
 
 abbrev pub invariant-loop-i : goal.invariant-loop-i

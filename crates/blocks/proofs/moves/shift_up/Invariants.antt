@@ -1,9 +1,7 @@
-use native.Mathlib.Omega.{arith}
-use mathlib.Core.Path.{◌≡◌, refl, ap, ◌∙◌}
-use Prim.Native.Nat.{◌≤◌, ◌+◌, ◌-◌}
-use lib.ListN.{length, drop}
-use lib.Seq.{paste}
-use Rattle.blocks.proofs.Moved.{up_at, up_more, up_start, up-end}
+use mathlib.Core.Path.{◌≡◌}
+use Prim.Native.Nat.{◌≤◌, ◌+◌}
+use lib.ListN.{length}
+use Rattle.blocks.proofs.Moved.{up_at}
 use Rattle.blocks.proofs.moves.shift_up.Given as goal
 
 abbrev pub invariant-loop-i : goal.invariant-loop-i

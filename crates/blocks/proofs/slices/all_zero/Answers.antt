@@ -1,13 +1,7 @@
-use mathlib.Core.Path.{◌≡◌, refl, sym, ◌∙◌}
-use mathlib.Core.Bool.{◌&&◌}
-use Prim.Native.Nat.{◌≤◌, ◌-◌}
+use mathlib.Core.Path.{◌∙◌}
 use native.Mathlib.Omega.{arith}
-use lib.Dec.{eqb}
-use lib.ListN.{length, drop}
-use Rattle.rules.specs.Block.{zeros}
 use Rattle.blocks.proofs.Remaining.{most-more, most-same, most-end}
 use Rattle.blocks.proofs.slices.all_zero.Goals as goal
-
 
 pub loop-i-preserved-then-most-x : goal.loop-i-preserved-then-most-x
 loop-i-preserved-then-most-x c = (

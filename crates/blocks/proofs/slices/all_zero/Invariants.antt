@@ -1,11 +1,9 @@
-use mathlib.Core.Path.{◌≡◌, refl, sym, ◌∙◌}
+use mathlib.Core.Path.{◌≡◌}
 use mathlib.Core.Bool.{◌&&◌}
 use Prim.Native.Nat.{◌≤◌, ◌-◌}
-use native.Mathlib.Omega.{arith}
 use lib.Dec.{eqb}
 use lib.ListN.{length, drop}
 use Rattle.rules.specs.Block.{zeros}
-use Rattle.blocks.proofs.Remaining.{most-more, most-same, most-end}
 use Rattle.blocks.proofs.slices.all_zero.Given as goal
 
 abbrev pub invariant-loop-i : goal.invariant-loop-i

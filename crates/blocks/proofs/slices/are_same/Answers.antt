@@ -1,11 +1,7 @@
-use mathlib.Core.Path.{◌≡◌, refl, sym, ◌∙◌}
-use Prim.Native.Nat.{◌≤◌, ◌-◌}
+use mathlib.Core.Path.{◌∙◌}
 use native.Mathlib.Omega.{arith}
-use lib.ListN.{length, drop}
-use Rattle.rules.specs.Block.{same_bytes}
 use Rattle.blocks.proofs.Remaining.{same_next, same_stop, same_end, same_length}
 use Rattle.blocks.proofs.slices.are_same.Goals as goal
-
 
 pub returns-then-a-b : goal.returns-then-a-b
 returns-then-a-b c = same_length _ _ c.if-a-b.true

@@ -1,9 +1,7 @@
-use mathlib.Core.Path.{◌≡◌, refl, sym, ◌∙◌}
+use mathlib.Core.Path.{◌≡◌}
 use Prim.Native.Nat.{◌≤◌, ◌-◌}
-use native.Mathlib.Omega.{arith}
 use lib.ListN.{length, drop}
 use Rattle.rules.specs.Block.{same_bytes}
-use Rattle.blocks.proofs.Remaining.{same_next, same_stop, same_end, same_length}
 use Rattle.blocks.proofs.slices.are_same.Given as goal
 
 abbrev pub invariant-loop-i : goal.invariant-loop-i

@@ -1,11 +1,7 @@
-use mathlib.Core.Path.{◌≡◌, refl, sym, ◌∙◌}
-use Prim.Native.Nat.{◌≤◌, ◌-◌}
+use mathlib.Core.Path.{◌∙◌}
 use native.Mathlib.Omega.{arith}
-use lib.ListN.{length, drop}
-use Rattle.rules.specs.Order.{order}
 use Rattle.blocks.proofs.Remaining.{order-next, order_below, order-above, order-short, order-end}
 use Rattle.blocks.proofs.slices.order_of.Goals as goal
-
 
 pub returns-then-b-i : goal.returns-then-b-i
 returns-then-b-i c = order-short _ _ _ c.loop-i-test.true c.if-b-i.true ∙ c.loop-i.invariant.1

@@ -1,9 +1,7 @@
-use mathlib.Core.Path.{◌≡◌, refl, sym, ◌∙◌}
+use mathlib.Core.Path.{◌≡◌}
 use Prim.Native.Nat.{◌≤◌, ◌-◌}
-use native.Mathlib.Omega.{arith}
 use lib.ListN.{length, drop}
 use Rattle.rules.specs.Order.{order}
-use Rattle.blocks.proofs.Remaining.{order-next, order_below, order-above, order-short, order-end}
 use Rattle.blocks.proofs.slices.order_of.Given as goal
 
 abbrev pub invariant-loop-i : goal.invariant-loop-i

@@ -1,7 +1,5 @@
 use Rattle.rules.specs.Catalogue.{length_of}
-use borrow.Author.Rules.{rules}
 use Rattle.catalogue.proofs.entries.data_length.Goals as goal
-
 
 pub returns : goal.returns
 unfolding length_of

@@ -1,8 +1,6 @@
 use native.Mathlib.Omega.{arith}
-use borrow.Author.Rules.{rules}
 use Rattle.catalogue.proofs.Hierarchy.{type-range, header-facts}
 use Rattle.catalogue.proofs.entries.entry_of.Goals as goal
-
 
 pub returns : goal.returns
 returns c = (

@@ -1,7 +1,5 @@
 use Rattle.rules.specs.Catalogue.{key_value}
-use borrow.Author.Rules.{rules}
 use Rattle.catalogue.proofs.entries.key_value.Goals as goal
-
 
 pub returns : goal.returns
 unfolding key_value

@@ -1,7 +1,5 @@
 use Rattle.rules.specs.Catalogue.{field_byte}
-use borrow.Author.Rules.{rules}
 use Rattle.catalogue.proofs.entry_bytes.field_byte.Goals as goal
-
 
 pub returns : goal.returns
 unfolding field_byte

@@ -1,7 +1,5 @@
 use Rattle.rules.specs.Catalogue.{fields}
-use borrow.Author.Rules.{rules}
 use Rattle.catalogue.proofs.entry_bytes.fields.Goals as goal
-
 
 pub returns : goal.returns
 unfolding fields

@@ -1,7 +1,5 @@
 use Rattle.rules.specs.Catalogue.{type_byte}
-use borrow.Author.Rules.{rules}
 use Rattle.catalogue.proofs.entry_bytes.type_byte.Goals as goal
-
 
 pub returns : goal.returns
 unfolding type_byte

@@ -1,7 +1,5 @@
 use Rattle.rules.specs.Catalogue.{types}
-use borrow.Author.Rules.{rules}
 use Rattle.catalogue.proofs.entry_bytes.types.Goals as goal
-
 
 pub returns : goal.returns
 unfolding types

@@ -1,9 +1,7 @@
 use native.Mathlib.Omega.{arith}
-use borrow.Author.Rules.{rules}
 use Rattle.rules.specs.Catalogue.{types}
 use Rattle.catalogue.proofs.Hierarchy.{header-facts}
 use Rattle.catalogue.proofs.fields.entry_of.Goals as goal
-
 
 pub bounds-cat-5 : goal.bounds-cat-5
 bounds-cat-5 c = omega (arith, (header-facts c.args.cat.now c.requires.0).size)

@@ -1,7 +1,5 @@
 use Rattle.rules.specs.Catalogue.{field_length}
-use borrow.Author.Rules.{rules}
 use Rattle.catalogue.proofs.fields.field_length.Goals as goal
-
 
 pub returns : goal.returns
 unfolding field_length

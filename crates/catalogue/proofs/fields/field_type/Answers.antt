@@ -1,9 +1,7 @@
 use mathlib.Core.Path.{ap}
 use Rattle.terms.specs.Names.{code}
 use Rattle.rules.specs.Catalogue.{field_type}
-use borrow.Author.Rules.{rules}
 use Rattle.catalogue.proofs.fields.field_type.Goals as goal
-
 
 pub returns : goal.returns
 unfolding field_type

@@ -1,12 +1,9 @@
-use mathlib.Core.Path.{◌≡◌, refl, ap, sym, ◌∙◌}
-use native.Mathlib.Omega.{arith}
-use borrow.Author.Rules.{rules}
+use mathlib.Core.Path.{ap, sym, ◌∙◌}
 use Rattle.forest.specs.Numbers.{is_in}
 use Rattle.forest.specs.Types.{lineage as lineage_over}
 use Rattle.rules.specs.Catalogue.{lineage}
-use Rattle.catalogue.proofs.Climbing.{climbed, climbed-none, climbed-top, above_step, above-here}
+use Rattle.catalogue.proofs.Climbing.{climbed-none, climbed-top, above_step, above-here}
 use Rattle.catalogue.proofs.lineage.is_above.Goals as goal
-
 
 pub returns-then-u-eq0 : goal.returns-then-u-eq0
 unfolding lineage lineage_over

@@ -1,10 +1,6 @@
-use mathlib.Core.Path.{◌≡◌, refl, ap, sym, ◌∙◌}
-use native.Mathlib.Omega.{arith}
-use borrow.Author.Rules.{rules}
+use mathlib.Core.Path.{◌≡◌}
 use Rattle.forest.specs.Numbers.{is_in}
-use Rattle.forest.specs.Types.{lineage as lineage_over}
-use Rattle.rules.specs.Catalogue.{lineage}
-use Rattle.catalogue.proofs.Climbing.{climbed, climbed-none, climbed-top, above_step, above-here}
+use Rattle.catalogue.proofs.Climbing.{climbed}
 use Rattle.catalogue.proofs.lineage.is_above.Given as goal
 
 abbrev pub invariant-loop-left : goal.invariant-loop-left

@@ -1,10 +1,8 @@
-use mathlib.Core.Path.{◌≡◌, ap, ◌∙◌}
+use mathlib.Core.Path.{ap, ◌∙◌}
 use Rattle.terms.specs.declared.TypeCode.{TypeCode}
 use Rattle.forest.specs.Numbers.{is_in}
 use Rattle.rules.specs.Catalogue.{lineage, type_beneath}
-use borrow.Author.Rules.{rules}
 use Rattle.catalogue.proofs.lineage.is_beneath.Goals as goal
-
 
 pub returns : goal.returns
 unfolding type_beneath

@@ -1,12 +1,7 @@
-use mathlib.Core.Path.{◌≡◌, ap, refl, sym, ◌∙◌}
-use Prim.Native.Nat.{ℕ, ◌+◌, ◌*◌, ◌≤◌}
-use native.Mathlib.Omega.{arith}
-use borrow.Author.Rules.{rules}
+use mathlib.Core.Path.{◌≡◌}
+use Prim.Native.Nat.{◌+◌, ◌≤◌}
 use Rattle.terms.specs.Names.{code}
-use Rattle.rules.specs.Block.{byte}
 use Rattle.rules.specs.Catalogue.{types, level}
-use Rattle.catalogue.proofs.Hierarchy.{type-range}
-use Rattle.catalogue.proofs.Levels.{ordered, level-none, counted-few, up-less, counted-more}
 use Rattle.catalogue.proofs.lineage.level.Given as goal
 
 abbrev pub invariant-loop-u : goal.invariant-loop-u

@@ -1,7 +1,5 @@
 use Rattle.catalogue.proofs.Levels.{type-few, type-level}
-use borrow.Author.Rules.{rules}
 use Rattle.catalogue.proofs.lineage.level_by.Goals as goal
-
 
 pub bounds-row-wide : goal.bounds-row-wide
 bounds-row-wide c = type-few c.args.cat.now c.requires.0 c.args.row.now c.requires.2 c.args.t c.requires.1 c.wide.result

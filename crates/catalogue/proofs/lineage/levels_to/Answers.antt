@@ -1,10 +1,8 @@
 use mathlib.Core.Path.{◌≡◌}
-use Prim.Native.Nat.{◌+◌, ◌-◌, ◌≤◌}
+use Prim.Native.Nat.{◌+◌, ◌-◌}
 use native.Mathlib.Omega.{arith}
-use Rattle.catalogue.specs.Levels.{Levels}
-use Rattle.catalogue.proofs.Levels.{ordered, levels-less}
+use Rattle.catalogue.proofs.Levels.{ordered}
 use Rattle.catalogue.proofs.lineage.levels_to.Goals as goal
-
 
 pub add_level-requires : goal.add_level-requires
 add_level-requires c = (

@@ -1,8 +1,5 @@
-use mathlib.Core.Path.{◌≡◌}
-use Prim.Native.Nat.{◌+◌, ◌-◌, ◌≤◌}
-use native.Mathlib.Omega.{arith}
+use Prim.Native.Nat.{◌-◌, ◌≤◌}
 use Rattle.catalogue.specs.Levels.{Levels}
-use Rattle.catalogue.proofs.Levels.{ordered, levels-less}
 use Rattle.catalogue.proofs.lineage.levels_to.Given as goal
 
 abbrev pub invariant-loop-k : goal.invariant-loop-k

@@ -1,10 +1,7 @@
-use mathlib.Core.Path.{◌≡◌, ap, sym, ◌∙◌}
 use native.Mathlib.Omega.{arith}
 use borrow.Author.Tests.{le-leb, lt-leb}
 use Rattle.rules.specs.Catalogue.{is_type}
-use borrow.Author.Rules.{rules}
 use Rattle.catalogue.proofs.type_range.is_type.Goals as goal
-
 
 pub returns-then-t-eq0 : goal.returns-then-t-eq0
 unfolding is_type

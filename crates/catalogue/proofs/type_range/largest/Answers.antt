@@ -1,11 +1,8 @@
-use mathlib.Core.Path.{◌≡◌, refl, ap, sym, ◌∙◌}
-use Prim.Native.Nat.{◌+◌, ◌-◌, ◌≤◌, ◌<◌}
+use mathlib.Core.Path.{refl, sym, ◌∙◌}
 use native.Mathlib.Omega.{arith}
-use borrow.Author.Rules.{rules}
-use Rattle.rules.specs.Catalogue.{types, largest}
+use Rattle.rules.specs.Catalogue.{largest}
 use Rattle.catalogue.proofs.Largest.{largest-more, largest-same}
 use Rattle.catalogue.proofs.type_range.largest.Goals as goal
-
 
 pub loop-k-init : goal.loop-k-init
 unfolding largest

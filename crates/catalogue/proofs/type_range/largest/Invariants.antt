@@ -1,9 +1,6 @@
-use mathlib.Core.Path.{◌≡◌, refl, ap, sym, ◌∙◌}
-use Prim.Native.Nat.{◌+◌, ◌-◌, ◌≤◌, ◌<◌}
-use native.Mathlib.Omega.{arith}
-use borrow.Author.Rules.{rules}
-use Rattle.rules.specs.Catalogue.{types, largest}
-use Rattle.catalogue.proofs.Largest.{largest-more, largest-same}
+use mathlib.Core.Path.{◌≡◌}
+use Prim.Native.Nat.{◌-◌, ◌≤◌}
+use Rattle.rules.specs.Catalogue.{largest}
 use Rattle.catalogue.proofs.type_range.largest.Given as goal
 
 abbrev pub invariant-loop-k : goal.invariant-loop-k

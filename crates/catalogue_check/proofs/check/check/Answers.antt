@@ -1,8 +1,6 @@
 use mathlib.Core.Path.{sym, ◌∙◌}
 use Rattle.rules.specs.Outcome.{check_catalogue}
-use borrow.Author.Rules.{rules}
 use Rattle.catalogue_check.proofs.check.check.Goals as goal
-
 
 pub returns-then-is_good : goal.returns-then-is_good
 unfolding check_catalogue

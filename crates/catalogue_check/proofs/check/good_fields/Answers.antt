@@ -1,14 +1,12 @@
-use mathlib.Core.Path.{◌≡◌, ap, ◌∙◌}
-use Prim.Native.Nat.{ℕ, ◌+◌, ◌-◌, ◌≤◌}
+use mathlib.Core.Path.{ap, ◌∙◌}
+use Prim.Native.Nat.{ℕ}
 use native.Mathlib.Omega.{arith}
-use borrow.Author.Rules.{rules}
 use Rattle.forest.specs.Numbers.{range}
 use Rattle.rules.specs.Block.{every}
-use Rattle.rules.specs.Catalogue.{fields, good_field}
+use Rattle.rules.specs.Catalogue.{good_field}
 use Rattle.blocks.proofs.Negated.{told-no, told-yes}
 use Rattle.catalogue_check.proofs.LeftToTest.{every-next, every-stop, every-done}
 use Rattle.catalogue_check.proofs.check.good_fields.Goals as goal
-
 
 pub returns-then-not-good_field : goal.returns-then-not-good_field
 returns-then-not-good_field c = every-stop (good_field c.args.cat.now) c.loop-f.f c.fields-last.result c.loop-f-test.true

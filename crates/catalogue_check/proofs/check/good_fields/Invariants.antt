@@ -1,12 +1,8 @@
-use mathlib.Core.Path.{◌≡◌, ap, ◌∙◌}
-use Prim.Native.Nat.{ℕ, ◌+◌, ◌-◌, ◌≤◌}
-use native.Mathlib.Omega.{arith}
-use borrow.Author.Rules.{rules}
+use mathlib.Core.Path.{◌≡◌}
+use Prim.Native.Nat.{◌+◌, ◌-◌, ◌≤◌}
 use Rattle.forest.specs.Numbers.{range}
 use Rattle.rules.specs.Block.{every}
 use Rattle.rules.specs.Catalogue.{fields, good_field}
-use Rattle.blocks.proofs.Negated.{told-no, told-yes}
-use Rattle.catalogue_check.proofs.LeftToTest.{every-next, every-stop, every-done}
 use Rattle.catalogue_check.proofs.check.good_fields.Given as goal
 
 abbrev pub invariant-loop-f : goal.invariant-loop-f

@@ -1,14 +1,9 @@
-use Rattle.catalogue_check.proofs.Levelled.{ready-none, next_of}
 use Rattle.catalogue_check.specs.Levelled.{Ready}
-use mathlib.Core.Path.{◌≡◌, refl, ap, ◌∙◌}
-use Prim.Native.Nat.{ℕ, ◌+◌, ◌-◌, ◌≤◌}
-use native.Mathlib.Omega.{arith}
-use borrow.Author.Rules.{rules}
+use mathlib.Core.Path.{◌≡◌}
+use Prim.Native.Nat.{◌+◌, ◌-◌, ◌≤◌}
 use Rattle.forest.specs.Numbers.{range}
 use Rattle.rules.specs.Block.{every}
 use Rattle.rules.specs.Catalogue.{types, good_type}
-use Rattle.blocks.proofs.Negated.{told-no, told-yes}
-use Rattle.catalogue_check.proofs.LeftToTest.{every-next, every-stop, every-done}
 use Rattle.catalogue_check.proofs.check.good_types.Given as goal
 
 abbrev pub invariant-loop-k : goal.invariant-loop-k

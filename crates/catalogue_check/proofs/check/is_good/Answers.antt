@@ -1,8 +1,6 @@
 use Rattle.rules.specs.Catalogue.{good_catalogue}
 use Rattle.blocks.proofs.Negated.{told-no, told-yes}
-use borrow.Author.Rules.{rules}
 use Rattle.catalogue_check.proofs.check.is_good.Goals as goal
-
 
 pub returns-then-not-good_header : goal.returns-then-not-good_header
 unfolding good_catalogue
@@ -15,7 +13,7 @@ returns-then-not-good_types c = simp (told-yes c.good_header.ensures c.if-not-go
 pub returns : goal.returns
 unfolding good_catalogue
 returns c = simp (
-      told-yes c.good_header.ensures c.if-not-good_header.false,
-      told-yes c.good_types.ensures c.if-not-good_types.false,
-      c.good_fields.ensures,
-    )
+  told-yes c.good_header.ensures c.if-not-good_header.false,
+  told-yes c.good_types.ensures c.if-not-good_types.false,
+  c.good_fields.ensures,
+)

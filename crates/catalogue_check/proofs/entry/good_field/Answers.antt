@@ -1,8 +1,6 @@
 use Rattle.blocks.proofs.Negated.{told-no, told-yes}
 use Rattle.catalogue_check.proofs.EntryTests.{field-no-type, field-no-span, field-last}
-use borrow.Author.Rules.{rules}
 use Rattle.catalogue_check.proofs.entry.good_field.Goals as goal
-
 
 pub returns-then-not-is_type : goal.returns-then-not-is_type
 returns-then-not-is_type c = field-no-type c.args.cat.now c.args.f.0 c.field_type-t.result c.field_type-t.ensures

@@ -1,8 +1,6 @@
 use Rattle.blocks.proofs.Negated.{told-no, told-yes}
 use Rattle.catalogue_check.proofs.EntryTests.{none-start, none-length, none_last, key-no-kind, key-no-span, key-last}
-use borrow.Author.Rules.{rules}
 use Rattle.catalogue_check.proofs.entry.good_key.Goals as goal
-
 
 pub returns-then-start-ne0 : goal.returns-then-start-ne0
 returns-then-start-ne0 c = none-start c.args.cat.now c.args.t _ _ _ _ c.key_kind-kind.ensures c.key_start-start.ensures c.key_length-long.ensures

@@ -1,7 +1,5 @@
 use Rattle.catalogue_check.proofs.EntryTests.{parent-none, parent-root, parent-later}
-use borrow.Author.Rules.{rules}
 use Rattle.catalogue_check.proofs.entry.good_parent.Goals as goal
-
 
 pub returns-then-t-eq0 : goal.returns-then-t-eq0
 returns-then-t-eq0 c = parent-none c.args.cat.now c.args.t.0 c.if-t-eq0.true

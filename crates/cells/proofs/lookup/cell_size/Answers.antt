@@ -1,8 +1,6 @@
 use Rattle.rules.specs.Table.{cell_size}
 use native.Mathlib.Omega.{arith}
-use borrow.Author.Rules.{rules}
 use Rattle.cells.proofs.lookup.cell_size.Goals as goal
-
 
 pub returns : goal.returns
 unfolding cell_size

@@ -1,7 +1,5 @@
 use Rattle.rules.specs.Table.{count}
-use borrow.Author.Rules.{rules}
 use Rattle.cells.proofs.lookup.count.Goals as goal
-
 
 pub returns : goal.returns
 unfolding count

@@ -1,8 +1,6 @@
 use native.Mathlib.Omega.{arith}
 use Rattle.cells.proofs.Data.{cell-inside, data-in, data_of}
-use borrow.Author.Rules.{rules}
 use Rattle.cells.proofs.lookup.data_part.Goals as goal
-
 
 pub start_of-requires : goal.start_of-requires
 start_of-requires c = cell-inside c.requires.sized c.args.c.0 c.requires.cell

@@ -4,7 +4,6 @@ use mathlib.Core.Path.{ap, ◌∙◌}
 use Rattle.rules.specs.Cells.{level_at}
 use Rattle.cells.proofs.lookup.level_at.Goals as goal
 
-
 pub level_by-requires : goal.level_by-requires
 level_by-requires c = (c.requires.0.catalogue, rw c.code_at.ensures (sound-known c.requires.0 c.args.c.0 c.requires.1), c.requires.2)
 

@@ -4,7 +4,6 @@ use Rattle.rules.specs.Cells.{level_at}
 use Rattle.cells.proofs.Ancestry.{sound-known}
 use Rattle.cells.proofs.lookup.level_of.Goals as goal
 
-
 pub level-requires : goal.level-requires
 level-requires c = (c.requires.0.catalogue, rw c.code_at.ensures (sound-known c.requires.0 c.args.c.0 c.requires.1))
 

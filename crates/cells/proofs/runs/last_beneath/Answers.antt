@@ -1,27 +1,21 @@
-use mathlib.Core.Path.{◌≡◌, refl, sym, ◌∙◌}
-use Prim.Native.Nat.{◌≤◌, ◌-◌}
 use native.Mathlib.Omega.{arith}
-use Rattle.rules.specs.Catalogue.{types}
-use Rattle.catalogue.proofs.Hierarchy.{header-facts}
-use Rattle.cells.proofs.Ancestry.{InnerTypes, inner_start, inner-next, outer-stop}
-use borrow.Author.Rules.{rules}
+use Rattle.cells.proofs.Ancestry.{inner-next, outer-stop}
 use Rattle.cells.proofs.runs.last_beneath.Goals as goal
-
 
 pub returns-then-parent-t : goal.returns-then-parent-t
 returns-then-parent-t c = record {
-      least = c.loop-last.invariant.0;
-      most =
-          c.loop-last.invariant.1;
-      inner = c.loop-last.invariant.2;
-      outer =
-          outer-stop c.args.cat.now c.requires.0 c.args.t
-          c.requires.1
-          c.requires.2 c.loop-last.last
-          c.parent.result c.loop-last.invariant.0
-          (omega (arith, c.types-top.ensures)) c.parent.ensures
-          c.if-parent-t.true;
-    }
+  least = c.loop-last.invariant.0;
+  most =
+      c.loop-last.invariant.1;
+  inner = c.loop-last.invariant.2;
+  outer =
+      outer-stop c.args.cat.now c.requires.0 c.args.t
+      c.requires.1
+      c.requires.2 c.loop-last.last
+      c.parent.result c.loop-last.invariant.0
+      (omega (arith, c.types-top.ensures)) c.parent.ensures
+      c.if-parent-t.true;
+}
 
 pub loop-last-preserved : goal.loop-last-preserved
 loop-last-preserved c = (

@@ -1,10 +1,6 @@
-use mathlib.Core.Path.{◌≡◌, refl, sym, ◌∙◌}
 use Prim.Native.Nat.{◌≤◌, ◌-◌}
-use native.Mathlib.Omega.{arith}
 use Rattle.rules.specs.Catalogue.{types}
-use Rattle.catalogue.proofs.Hierarchy.{header-facts}
-use Rattle.cells.proofs.Ancestry.{InnerTypes, inner_start, inner-next, outer-stop}
-use borrow.Author.Rules.{rules}
+use Rattle.cells.proofs.Ancestry.{InnerTypes}
 use Rattle.cells.proofs.runs.last_beneath.Given as goal
 
 abbrev pub invariant-loop-last : goal.invariant-loop-last

@@ -1,13 +1,6 @@
-use mathlib.Core.Path.{◌≡◌, refl, sym, ◌∙◌}
-use Prim.Native.Nat.{◌≤◌}
 use native.Mathlib.Omega.{arith}
-use Rattle.rules.specs.Cells.{level_at}
-use Rattle.rules.specs.Table.{listing}
-use Rattle.cells.specs.Lent.{climbed, parent_at}
 use Rattle.cells.proofs.Ancestry.{parent-root, parent-start, parent-none, parent-here, parent-more}
-use borrow.Author.Rules.{rules}
 use Rattle.cells.proofs.runs.parent_of.Goals as goal
-
 
 pub returns-then-above-eq0 : goal.returns-then-above-eq0
 returns-then-above-eq0 c = parent-root c.requires.0 c.args.c.0 c.requires.1 c.code_at.result c.parent-above.result c.code_at.ensures

@@ -1,11 +1,8 @@
-use mathlib.Core.Path.{◌≡◌, refl, sym, ◌∙◌}
+use mathlib.Core.Path.{◌≡◌}
 use Prim.Native.Nat.{◌≤◌}
-use native.Mathlib.Omega.{arith}
 use Rattle.rules.specs.Cells.{level_at}
 use Rattle.rules.specs.Table.{listing}
 use Rattle.cells.specs.Lent.{climbed, parent_at}
-use Rattle.cells.proofs.Ancestry.{parent-root, parent-start, parent-none, parent-here, parent-more}
-use borrow.Author.Rules.{rules}
 use Rattle.cells.proofs.runs.parent_of.Given as goal
 
 abbrev pub invariant-loop-k : goal.invariant-loop-k

@@ -1,12 +1,9 @@
-use mathlib.Core.Path.{◌≡◌, refl, ap, ◌∙◌}
-use Prim.Native.Nat.{◌≤◌, ◌-◌}
+use mathlib.Core.Path.{ap, ◌∙◌}
 use native.Mathlib.Omega.{arith}
 use Rattle.rules.specs.Block.{byte}
-use Rattle.cells.specs.Lent.{end_from}
 use Rattle.cells.proofs.Start.{inside-less, start-in}
 use Rattle.cells.proofs.Located.{behind-in, behind-low, behind-high, end_none, end-here, end_more}
 use Rattle.cells.proofs.runs.passed.Goals as goal
-
 
 pub start_of-at-requires : goal.start_of-at-requires
 start_of-at-requires c = inside-less c.requires.0 c.loop-i.i

@@ -1,10 +1,6 @@
-use mathlib.Core.Path.{◌≡◌, refl, ap, ◌∙◌}
+use mathlib.Core.Path.{◌≡◌}
 use Prim.Native.Nat.{◌≤◌, ◌-◌}
-use native.Mathlib.Omega.{arith}
-use Rattle.rules.specs.Block.{byte}
 use Rattle.cells.specs.Lent.{end_from}
-use Rattle.cells.proofs.Start.{inside-less, start-in}
-use Rattle.cells.proofs.Located.{behind-in, behind-low, behind-high, end_none, end-here, end_more}
 use Rattle.cells.proofs.runs.passed.Given as goal
 
 abbrev pub invariant-loop-i : goal.invariant-loop-i

@@ -1,13 +1,11 @@
-use mathlib.Core.Path.{ap, sym, ◌∙◌}
+use mathlib.Core.Path.{ap, ◌∙◌}
 use native.Mathlib.Omega.{arith}
-use Prim.Native.Nat.{ℕ, ◌≤◌}
 use Rattle.terms.specs.declared.TypeCode.{TypeCode}
 use Rattle.rules.proofs.Cells.{listing-length}
 use Rattle.cells.proofs.Start.{inside-less, inside-sized}
 use Rattle.cells.proofs.Ancestry.{sound-listing, own-type, end-run}
 use borrow.Author.Rules.{rules}
 use Rattle.cells.proofs.runs.run_end.Goals as goal
-
 
 pub code_at-t-requires : goal.code_at-t-requires
 code_at-t-requires c = search rules

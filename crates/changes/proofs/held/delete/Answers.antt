@@ -4,9 +4,7 @@ use native.Mathlib.Omega.{arith}
 use Rattle.rules.specs.Block.{Bytes}
 use Rattle.changes.proofs.Changed.{held-cell, run-bounds, delete-ready, delete-done}
 use Rattle.changes.proofs.Told.{told-made}
-use borrow.Author.Rules.{rules}
 use Rattle.changes.proofs.held.delete.Goals as goal
-
 
 pub code_at-t-requires : goal.code_at-t-requires
 code_at-t-requires c = (c.requires.sound.sized, held-cell c.requires c.cell-c.ensures)

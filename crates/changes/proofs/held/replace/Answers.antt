@@ -5,9 +5,7 @@ use Rattle.blocks.proofs.Negated.{told-no, told-yes}
 use Rattle.answers.specs.Ready.{made}
 use Rattle.changes.proofs.Changed.{held-cell, replace-differs, replace-ready, replace-done}
 use Rattle.changes.proofs.Told.{told-made}
-use borrow.Author.Rules.{rules}
 use Rattle.changes.proofs.held.replace.Goals as goal
-
 
 pub code_at-t-requires : goal.code_at-t-requires
 code_at-t-requires c = (c.requires.0.sound.sized, held-cell c.requires.0 c.cell-c.ensures)
@@ -25,12 +23,11 @@ replace_cell_sound-requires c =
     replace-ready c.requires.0 c.cell-c.ensures c.code_at-t.ensures c.args.area.now c.requires.1
 
 pub told-requires : goal.told-requires
-told-requires c =
-    (
-      c.requires.0.sound.catalogue,
-      rw c.code_at-t.ensures
-          (sound-known c.requires.0.sound _ (held-cell c.requires.0 c.cell-c.ensures)),
-    )
+told-requires c = (
+  c.requires.0.sound.catalogue,
+  rw c.code_at-t.ensures
+      (sound-known c.requires.0.sound _ (held-cell c.requires.0 c.cell-c.ensures)),
+)
 
 pub returns : goal.returns
 returns c = told-made _ _ _ _ _ c.told.ensures c.hold_dropped.ensures c.replace_cell_sound.ensures ∙

@@ -5,9 +5,7 @@ use Rattle.rules.specs.Table.{listing}
 use native.Mathlib.Omega.{arith}
 use mathlib.Core.Path.{sym, ◌∙◌}
 use Rattle.search.proofs.OneList.{asking-alone, along-alone}
-use borrow.Author.Rules.{rules}
 use Rattle.changes.proofs.insert.found_parent.Goals as goal
-
 
 pub returns-then-t-eq1 : goal.returns-then-t-eq1
 returns-then-t-eq1 c = parented-top c.args.cat.now (listing c.args.cat.now c.args.tab.now) c.args.pos c.args.t _
@@ -26,20 +24,18 @@ returns-in_default c = parented-none c.args.cat.now (listing c.args.cat.now c.ar
     (sym c.in_default.is ∙ along-alone _ _ _ _ _ c.along.ensures))
 
 pub run_end-end-requires : goal.run_end-end-requires
-run_end-end-requires c =
-    (
-      c.requires.0.sound,
-      parent_in c.requires.0 c.requires.1 c.requires.2 c.parent.ensures c.if-t-eq1.false
-          (sym c.in-At.is ∙ along-alone _ _ _ _ _ c.along.ensures),
-    )
+run_end-end-requires c = (
+  c.requires.0.sound,
+  parent_in c.requires.0 c.requires.1 c.requires.2 c.parent.ensures c.if-t-eq1.false
+      (sym c.in-At.is ∙ along-alone _ _ _ _ _ c.along.ensures),
+)
 
 pub is_one_of_row-beneath-requires : goal.is_one_of_row-beneath-requires
-is_one_of_row-beneath-requires c =
-    (
-      c.requires.0.sound,
-      parent_in c.requires.0 c.requires.1 c.requires.2 c.parent.ensures c.if-t-eq1.false
-          (sym c.in-At.is ∙ along-alone _ _ _ _ _ c.along.ensures),
-    )
+is_one_of_row-beneath-requires c = (
+  c.requires.0.sound,
+  parent_in c.requires.0 c.requires.1 c.requires.2 c.parent.ensures c.if-t-eq1.false
+      (sym c.in-At.is ∙ along-alone _ _ _ _ _ c.along.ensures),
+)
 
 pub overflow_add-result : goal.overflow_add-result
 overflow_add-result c = omega (

@@ -6,9 +6,7 @@ use Rattle.answers.specs.Ready.{made}
 use Rattle.terms.specs.declared.Argument.{Argument}
 use Rattle.terms.specs.declared.Answer.{Answer}
 use mathlib.Core.Path.{ap, sym, ◌∙◌}
-use borrow.Author.Rules.{rules}
 use Rattle.changes.proofs.insert.insert.Goals as goal
-
 
 pub returns-in_default : goal.returns-in_default
 returns-in_default c =
@@ -29,13 +27,12 @@ returns-then-not-is_keyed c =
     (sym c.in-Among.is ∙ c.found_parent.ensures)
 
 pub spot_sound-spot-requires : goal.spot_sound-spot-requires
-spot_sound-spot-requires c =
-    (
-      (new-ready c.requires.0 c.requires.2 (ap (λ (a : Argument). a.code) c.last_of.ensures) c.requires.1),
-      (told-yes c.is_keyed.ensures c.if-not-is_keyed.false),
-      (parented-beneath c.requires.0 c.requires.2 (ap (λ (a : Argument). a.code) c.last_of.ensures)
-          (sym c.in-Among.is ∙ c.found_parent.ensures)),
-    )
+spot_sound-spot-requires c = (
+  (new-ready c.requires.0 c.requires.2 (ap (λ (a : Argument). a.code) c.last_of.ensures) c.requires.1),
+  (told-yes c.is_keyed.ensures c.if-not-is_keyed.false),
+  (parented-beneath c.requires.0 c.requires.2 (ap (λ (a : Argument). a.code) c.last_of.ensures)
+      (sym c.in-Among.is ∙ c.found_parent.ensures)),
+)
 
 pub returns-then-number-ne0 : goal.returns-then-number-ne0
 returns-then-number-ne0 c =

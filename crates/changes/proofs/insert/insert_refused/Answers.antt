@@ -1,9 +1,6 @@
-use native.Mathlib.Omega.{arith}
 use Rattle.changes.proofs.Spots.{status-full, status-none}
 use Rattle.changes.specs.Among.{insert_status}
-use borrow.Author.Rules.{rules}
 use Rattle.changes.proofs.insert.insert_refused.Goals as goal
-
 
 pub returns-then-spot : goal.returns-then-spot
 unfolding insert_status

@@ -1,8 +1,5 @@
-use native.Mathlib.Omega.{arith}
 use Rattle.changes.proofs.Spots.{above-later, above_within}
-use borrow.Author.Rules.{rules}
 use Rattle.changes.proofs.insert.is_one_of_row.Goals as goal
-
 
 pub returns-then-p-q : goal.returns-then-p-q
 returns-then-p-q c = above-later c.args.cat.now c.args.tab.now c.args.p.0 c.requires.1 c.args.parentage _ c.in-Of.is

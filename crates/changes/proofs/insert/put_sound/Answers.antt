@@ -1,9 +1,7 @@
 use Rattle.changes.proofs.Spots.{put-done}
 use Rattle.changes.proofs.Told.{told-made}
 use mathlib.Core.Path.{◌∙◌}
-use borrow.Author.Rules.{rules}
 use Rattle.changes.proofs.insert.put_sound.Goals as goal
-
 
 pub returns : goal.returns
 returns c = told-made _ _ _ _ _ c.told.ensures c.after_insert.ensures c.insert_cell_sound.ensures ∙ put-done

@@ -1,7 +1,5 @@
 use native.Mathlib.Omega.{arith}
-use mathlib.Core.Path.{◌∙◌}
 use Rattle.listing.proofs.Written.{wrote_none, wrote_then, wrote_as, digits-none, digits-one, digits_more}
-use Prim.Native.Nat.{ℕ, ◌<◌}
 use Rattle.listing.proofs.text.+put_digits.Goals as goal
 
 pub returns-then-k-eq0 : goal.returns-then-k-eq0

@@ -1,8 +1,6 @@
 use borrow.Author.Tests.{lt-ltb, le-ltb}
 use Rattle.rules.specs.Listing.{hex_digit}
-use borrow.Author.Rules.{rules}
 use Rattle.listing.proofs.text.hex_digit.Goals as goal
-
 
 pub returns-then-n-lt10 : goal.returns-then-n-lt10
 unfolding hex_digit

@@ -1,7 +1,5 @@
 use Rattle.rules.specs.Listing.{decimal}
-use borrow.Author.Rules.{rules}
 use Rattle.listing.proofs.text.put_decimal.Goals as goal
-
 
 pub returns : goal.returns
 unfolding decimal

@@ -1,10 +1,8 @@
 use mathlib.Core.Path.{◌≡◌}
 use Prim.Native.Nat.{◌≤◌, ◌+◌, ◌*◌, ◌-◌}
-use native.Mathlib.Omega.{arith}
 use lib.ListN.{length, take}
 use Rattle.rules.specs.Listing.{hex}
 use Rattle.listing.specs.Written.{Wrote}
-use Rattle.listing.proofs.Written.{wrote_none, wrote_then, wrote_as, hex-turn, hex-none, hex-all}
 use Rattle.listing.proofs.text.put_hex.Given as goal
 
 abbrev pub invariant-loop-i : goal.invariant-loop-i

@@ -1,7 +1,5 @@
 use Rattle.parts.proofs.Headers.{type-none, type-some}
-use borrow.Author.Rules.{rules}
 use Rattle.parts.proofs.blocks_read.umbristal_cell_type.Goals as goal
-
 
 pub returns-then-count-cell : goal.returns-then-count-cell
 returns-then-count-cell c = type-none c.args.tab.now c.args.cell c.count.result c.count.ensures.0 c.if-count-cell.true

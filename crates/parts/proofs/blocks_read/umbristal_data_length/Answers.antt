@@ -1,10 +1,7 @@
 use Rattle.parts.proofs.Headers.{long-none, long-cut, long-some}
 use native.Mathlib.Omega.{arith}
 use mathlib.Core.Path.{sym, ◌∙◌}
-use borrow.Author.Tests.{not-true, not-false}
-use borrow.Author.Rules.{rules}
 use Rattle.parts.proofs.blocks_read.umbristal_data_length.Goals as goal
-
 
 pub returns-then-not-is_type : goal.returns-then-not-is_type
 returns-then-not-is_type c = long-none c.args.cat.now c.args.tab.now c.args.cell c.umbristal_cell_type.result

@@ -3,7 +3,6 @@ use native.Mathlib.Omega.{arith}
 use borrow.Author.Rules.{rules}
 use Rattle.parts.proofs.blocks_read.umbristal_data_start.Goals as goal
 
-
 pub returns-then-cell-count : goal.returns-then-cell-count
 returns-then-cell-count c = (
   start_none c.args.tab.now c.args.cell c.count.result c.count.ensures.0

@@ -1,8 +1,5 @@
-use Rattle.parts.proofs.Headers.{small, size_none, size-some}
-use native.Mathlib.Omega.{arith}
-use borrow.Author.Rules.{rules}
+use Rattle.parts.proofs.Headers.{size_none, size-some}
 use Rattle.parts.proofs.blocks_read.umbristal_table_size.Goals as goal
-
 
 pub returns-then-cells-gt4096 : goal.returns-then-cells-gt4096
 returns-then-cells-gt4096 c = size_none c.args.cat.now c.args.cells c.if-cells-gt4096.true

@@ -1,9 +1,5 @@
 use Rattle.parts.proofs.Written.{two-written}
-use native.Mathlib.Omega.{arith}
-use lib.ListN.{length-set}
-use borrow.Author.Rules.{rules}
 use Rattle.parts.proofs.lists.put_all.Goals as goal
-
 
 pub returns : goal.returns
 returns c = two-written c.args.list.now c.args.used c.args.code 0 c.requires

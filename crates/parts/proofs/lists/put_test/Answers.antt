@@ -1,12 +1,5 @@
-use Rattle.parts.proofs.Written.{test-room, test-length}
-use mathlib.Core.Path.{ap, ◌∙◌}
-use lib.ListN.{length}
 use Rattle.parts.proofs.Written.{test-written}
-use native.Mathlib.Omega.{arith}
-use lib.ListN.{length-set}
-use borrow.Author.Rules.{rules}
 use Rattle.parts.proofs.lists.put_test.Goals as goal
-
 
 pub returns : goal.returns
 returns c = test-written c.args.list.now c.args.used c.args.code c.args.operator c.args.field c.args.value.now

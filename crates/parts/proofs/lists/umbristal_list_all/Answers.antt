@@ -1,7 +1,5 @@
 use Rattle.parts.proofs.Written.{all_none, all-some}
-use borrow.Author.Rules.{rules}
 use Rattle.parts.proofs.lists.umbristal_list_all.Goals as goal
-
 
 pub returns-then-used-gt1843 : goal.returns-then-used-gt1843
 returns-then-used-gt1843 c = rw (c.spoil.ensures.0, c.spoil.ensures.1)

@@ -1,9 +1,7 @@
 use Rattle.parts.proofs.Written.{test-none, test-unlike, test-cut, test-some}
 use native.Mathlib.Omega.{arith}
 use mathlib.Core.Path.{◌∙◌}
-use borrow.Author.Rules.{rules}
 use Rattle.parts.proofs.lists.umbristal_list_test.Goals as goal
-
 
 pub returns-then-operator-eq0 : goal.returns-then-operator-eq0
 returns-then-operator-eq0 c = rw (c.spoil.ensures.0, c.spoil.ensures.1)

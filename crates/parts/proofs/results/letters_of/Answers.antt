@@ -1,9 +1,7 @@
 use Rattle.parts.proofs.Letters.{letters-of, letters-none}
 use Rattle.terms.specs.Paper.{printed_statuses}
 use Rattle.terms.specs.declared.Status.TheVariants.{Blank, GA, GK, GB, GE, GP, CX, TX, PX, AD, AC, AJ, AK, AH, AB, DJ, DA, II, FX, PD}
-use borrow.Author.Rules.{rules}
 use Rattle.parts.proofs.results.letters_of.Goals as goal
-
 
 pub returns-in-0 : goal.returns-in-0
 returns-in-0 c = letters-of Blank c.in-0.is c.letters.ensures

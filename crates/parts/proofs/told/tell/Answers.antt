@@ -2,7 +2,6 @@ use Rattle.parts.proofs.Letters.{told-whole}
 use borrow.Author.Rules.{rules}
 use Rattle.parts.proofs.told.tell.Goals as goal
 
-
 pub returns : goal.returns
 returns c = told-whole c.args.res c.umbristal_status-status.result _ _ _
     c.umbristal_removed-removed.result

@@ -1,8 +1,6 @@
 use Rattle.blocks.proofs.Negated.{told-no, told-yes}
 use Rattle.position.proofs.Parts.{position-bad, position-good}
-use borrow.Author.Rules.{rules}
 use Rattle.position.proofs.block.position_of.Goals as goal
-
 
 pub returns-then-not-good_block : goal.returns-then-not-good_block
 returns-then-not-good_block c = position-bad c.args.block.now (told-no c.good_block.ensures c.if-not-good_block.true)

@@ -1,11 +1,5 @@
-use mathlib.Core.Path.{ap}
-use native.Mathlib.Omega.{arith}
-use lib.ListN.{length-set}
-use Rattle.terms.specs.declared.CellNumber.{CellNumber}
 use Rattle.position.proofs.Parts.{position-put}
-use borrow.Author.Rules.{rules}
 use Rattle.position.proofs.block.put_position.Goals as goal
-
 
 pub returns : goal.returns
 returns c = position-put c.args.block.now c.args.p _ _ _ _ _ c.requires c.cell-c.ensures c.parentage_number-j.ensures

@@ -1,16 +1,10 @@
-use borrow.Author.Rules.{rules}
-use mathlib.Core.Path.{◌≡◌, refl}
-use Prim.Native.Nat.{◌-◌}
+use mathlib.Core.Path.{refl}
 use native.Mathlib.Omega.{arith}
-use lib.ListN.{length}
-use Rattle.terms.specs.Moves.{after_place}
-use Rattle.rules.specs.Table.{listing}
 use Rattle.rules.proofs.Cells.{listing-length}
-use Rattle.reports.proofs.Steps.{Stands, stands-fresh, stands-under, get-ready, next-none, next_one}
-use Rattle.reports.proofs.Outer.{Outer, outer_start, outer-done, outer-next}
+use Rattle.reports.proofs.Steps.{stands-fresh, stands-under, get-ready, next-none, next_one}
+use Rattle.reports.proofs.Outer.{outer_start, outer-done, outer-next}
 use Rattle.gets.proofs.OneList.{ready-alone, next-alone}
 use Rattle.reports.proofs.nesting.nested_sound.Goals as goal
-
 
 pub loop-area-init : goal.loop-area-init
 loop-area-init c = rw c.fresh-at.ensures (outer_start c.requires _, stands-fresh c.requires.first _ refl, refl)

@@ -1,14 +1,10 @@
-use borrow.Author.Rules.{rules}
-use mathlib.Core.Path.{◌≡◌, refl}
+use mathlib.Core.Path.{◌≡◌}
 use Prim.Native.Nat.{◌-◌}
-use native.Mathlib.Omega.{arith}
 use lib.ListN.{length}
 use Rattle.terms.specs.Moves.{after_place}
 use Rattle.rules.specs.Table.{listing}
-use Rattle.rules.proofs.Cells.{listing-length}
-use Rattle.reports.proofs.Steps.{Stands, stands-fresh, stands-under, get-ready, next-none, next_one}
-use Rattle.reports.proofs.Outer.{Outer, outer_start, outer-done, outer-next}
-use Rattle.gets.proofs.OneList.{ready-alone, next-alone}
+use Rattle.reports.proofs.Steps.{Stands}
+use Rattle.reports.proofs.Outer.{Outer}
 use Rattle.reports.proofs.nesting.nested_sound.Given as goal
 
 abbrev pub invariant-loop-area : goal.invariant-loop-area

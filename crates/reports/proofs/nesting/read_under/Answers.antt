@@ -1,19 +1,10 @@
-use borrow.Author.Rules.{rules}
-use mathlib.Core.Path.{◌≡◌, refl, sym, ◌∙◌}
-use mathlib.Core.Bool.{false}
-use Prim.Native.Nat.{suc, ◌-◌}
+use mathlib.Core.Path.{refl, ◌∙◌}
 use native.Mathlib.Omega.{arith}
-use lib.ListN.{length}
-use Rattle.terms.specs.declared.Parentage.TheVariants.{Of}
-use Rattle.terms.specs.Moves.{moved_onto}
-use Rattle.rules.specs.Cells.{end_at}
-use Rattle.rules.specs.Table.{listing}
 use Rattle.cells.proofs.Located.{end_after}
-use Rattle.reports.proofs.Steps.{Stands, stands-under, get-ready, within_none, within-one}
-use Rattle.reports.proofs.OneList.{Way, way-start, way-went, way_next}
+use Rattle.reports.proofs.Steps.{stands-under, get-ready, within_none, within-one}
+use Rattle.reports.proofs.OneList.{way-start, way-went, way_next}
 use Rattle.gets.proofs.OneList.{ready-alone, within-alone}
 use Rattle.reports.proofs.nesting.read_under.Goals as goal
-
 
 pub loop-p-init : goal.loop-p-init
 loop-p-init c = (

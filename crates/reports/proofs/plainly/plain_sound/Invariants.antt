@@ -1,16 +1,9 @@
-use native.Mathlib.Omega.{arith}
-use borrow.Author.Rules.{rules}
-use mathlib.Core.Path.{◌≡◌, refl}
+use mathlib.Core.Path.{◌≡◌}
 use mathlib.Core.List.{◌++◌}
-use mathlib.Core.Logic.{inl, inr, ⊎_elim}
 use Prim.Native.Nat.{◌-◌}
 use Rattle.rules.specs.Table.{listing}
-use Rattle.catalogue.proofs.Levels.{levels-none}
 use Rattle.search.specs.Stretch.{levels, stretch_before}
-use Rattle.search.proofs.Branches.{carried-cell, before-next}
-use Rattle.reports.proofs.Given.{given-good, both-pair}
-use Rattle.reports.proofs.Tested.{Passed, passed_none, passed-small, passed-next, passed-all}
-use Rattle.reports.proofs.Pass.{last-known, met-stretch}
+use Rattle.reports.proofs.Tested.{Passed}
 use Rattle.reports.proofs.plainly.plain_sound.Given as goal
 
 abbrev pub invariant-loop-i : goal.invariant-loop-i

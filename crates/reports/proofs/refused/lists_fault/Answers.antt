@@ -1,9 +1,7 @@
 use mathlib.Core.Path.{ap}
 use Rattle.terms.specs.declared.Argument.{Argument}
-use Rattle.reports.proofs.Lists.{lists-first, lists-no-first, lists-no-second, lists-sound, lists-behind}
-use borrow.Author.Rules.{rules}
+use Rattle.reports.proofs.Lists.{lists-first, lists-no-first, lists-no-second, lists-behind}
 use Rattle.reports.proofs.refused.lists_fault.Goals as goal
-
 
 pub returns-then-number-ne0 : goal.returns-then-number-ne0
 returns-then-number-ne0 c = lists-first _ _ _ _ _ c.fault-f.ensures c.number.ensures c.if-number-ne0.true

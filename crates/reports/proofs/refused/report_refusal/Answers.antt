@@ -1,7 +1,5 @@
 use Rattle.reports.proofs.Lists.{refused-blocks, refused-lists, blocks-good}
-use borrow.Author.Rules.{rules}
 use Rattle.reports.proofs.refused.report_refusal.Goals as goal
-
 
 pub returns-then-number-ne0 : goal.returns-then-number-ne0
 returns-then-number-ne0 c = refused-blocks _ _ _ _ c.check-s.ensures c.number.ensures _ _ c.if-number-ne0.true

@@ -1,8 +1,6 @@
 use mathlib.Core.Path.{sym}
 use Rattle.reports.proofs.Written.{put-room, put-none}
-use borrow.Author.Rules.{rules}
 use Rattle.reports.proofs.shown.put_hit.Goals as goal
-
 
 pub returns-then-at-out : goal.returns-then-at-out
 returns-then-at-out c = sym (put-room _ _ _ c.if-at-out.true)

@@ -1,17 +1,8 @@
-use borrow.Author.Rules.{rules}
-use mathlib.Core.Path.{◌≡◌, refl}
-use mathlib.Core.List.{◌++◌}
-use Prim.Native.Nat.{◌-◌}
+use mathlib.Core.Path.{refl}
 use native.Mathlib.Omega.{arith}
-use lib.ListN.{length}
-use Rattle.terms.specs.Moves.{after_place}
-use Rattle.rules.specs.Table.{listing}
-use Rattle.answers.specs.Ready.{Again}
-use Rattle.reports.proofs.Steps.{Stands, stands-fresh, stands_on, again-cell, get-ready, next-none, next_one}
-use Rattle.reports.proofs.OneList.{Way, way-start, way-picked, way_next}
-use Rattle.reports.proofs.Given.{both-pair}
+use Rattle.reports.proofs.Steps.{stands-fresh, stands_on, again-cell, next-none, next_one}
+use Rattle.reports.proofs.OneList.{way-start, way-picked, way_next}
 use Rattle.reports.proofs.single.joined_sound.Goals as goal
-
 
 pub loop-area-init : goal.loop-area-init
 loop-area-init c = rw c.fresh-at.ensures (

@@ -1,15 +1,12 @@
-use borrow.Author.Rules.{rules}
-use mathlib.Core.Path.{◌≡◌, refl}
+use mathlib.Core.Path.{◌≡◌}
 use mathlib.Core.List.{◌++◌}
 use Prim.Native.Nat.{◌-◌}
-use native.Mathlib.Omega.{arith}
 use lib.ListN.{length}
 use Rattle.terms.specs.Moves.{after_place}
 use Rattle.rules.specs.Table.{listing}
 use Rattle.answers.specs.Ready.{Again}
-use Rattle.reports.proofs.Steps.{Stands, stands-fresh, stands_on, again-cell, get-ready, next-none, next_one}
-use Rattle.reports.proofs.OneList.{Way, way-start, way-picked, way_next}
-use Rattle.reports.proofs.Given.{both-pair}
+use Rattle.reports.proofs.Steps.{Stands}
+use Rattle.reports.proofs.OneList.{Way}
 use Rattle.reports.proofs.single.joined_sound.Given as goal
 
 abbrev pub invariant-loop-area : goal.invariant-loop-area

@@ -1,7 +1,5 @@
 use Rattle.search.proofs.Heeded.{code-few, agrees-not, told-heeding, agrees-heeds}
-use borrow.Author.Rules.{rules}
 use Rattle.search.proofs.agree.agrees.Goals as goal
-
 
 pub asked_of-e-requires : goal.asked_of-e-requires
 asked_of-e-requires c = (c.requires.0.entries.long, code-few c.requires.0 c.args.c.0 c.requires.1 c.code_at.result c.code_at.ensures)

@@ -1,7 +1,5 @@
 use Rattle.search.proofs.Heeded.{heeds-free, first-testable, heeds-first, second-testable, heeds-second}
-use borrow.Author.Rules.{rules}
 use Rattle.search.proofs.agree.heeds.Goals as goal
-
 
 pub returns-then-e-lt3 : goal.returns-then-e-lt3
 returns-then-e-lt3 c = heeds-free c.requires c.if-e-lt3.true

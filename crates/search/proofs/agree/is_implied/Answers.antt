@@ -1,7 +1,5 @@
 use Rattle.search.proofs.Heeded.{code-few, told-implied}
-use borrow.Author.Rules.{rules}
 use Rattle.search.proofs.agree.is_implied.Goals as goal
-
 
 pub asked_of-requires : goal.asked_of-requires
 asked_of-requires c = (c.requires.0.entries.long, code-few c.requires.0 c.args.c.0 c.requires.1 c.code_at.result c.code_at.ensures)

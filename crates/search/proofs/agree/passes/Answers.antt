@@ -1,9 +1,7 @@
 use native.Mathlib.Omega.{arith}
 use Rattle.cells.proofs.Data.{cell-inside}
 use Rattle.search.proofs.Fields.{field-data, value_in, places-in, packed-holds, bytes-hold}
-use borrow.Author.Rules.{rules}
 use Rattle.search.proofs.agree.passes.Goals as goal
-
 
 pub start_of-requires : goal.start_of-requires
 start_of-requires c =

@@ -1,16 +1,10 @@
-use mathlib.Core.Path.{◌≡◌, refl, ◌∙◌}
+use mathlib.Core.Path.{◌≡◌}
 use mathlib.Core.List.{◌++◌}
 use Prim.Native.Nat.{◌-◌, ◌<◌, ◌≤◌}
-use native.Mathlib.Omega.{arith}
-use borrow.Author.Tests.{not-true, not-false}
 use Rattle.rules.specs.Cells.{end_at}
 use Rattle.rules.specs.Matching.{first_match}
 use Rattle.rules.specs.Table.{listing}
 use Rattle.search.specs.Stretch.{levels}
-use Rattle.search.proofs.Branches.{first-none, end-in}
-use Rattle.search.proofs.Plain.{alone-here, alone-next}
-use Rattle.search.proofs.Within.{sound-good, in-run, past-run}
-use borrow.Author.Rules.{rules}
 use Rattle.search.proofs.alone.beneath_alone.Given as goal
 
 abbrev pub invariant-loop-i : goal.invariant-loop-i

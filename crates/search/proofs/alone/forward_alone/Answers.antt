@@ -1,15 +1,7 @@
-use mathlib.Core.Path.{◌≡◌, refl, ◌∙◌}
-use mathlib.Core.List.{◌++◌}
-use Prim.Native.Nat.{◌-◌}
-use native.Mathlib.Omega.{arith}
-use Rattle.rules.specs.Matching.{first_match}
-use Rattle.rules.specs.Table.{listing}
-use Rattle.search.specs.Stretch.{levels}
+use mathlib.Core.Path.{◌∙◌}
 use Rattle.search.proofs.Branches.{first-none}
 use Rattle.search.proofs.Plain.{alone-here, alone-next}
-use borrow.Author.Rules.{rules}
 use Rattle.search.proofs.alone.forward_alone.Goals as goal
-
 
 pub returns-then-matches_alone : goal.returns-then-matches_alone
 returns-then-matches_alone c = alone-here c.requires.0.good c.requires.2 c.requires.1.plain c.loop-i.i c.args.to c.loop-i-test.true c.requires.3

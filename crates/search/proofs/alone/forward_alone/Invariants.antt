@@ -1,13 +1,9 @@
-use mathlib.Core.Path.{◌≡◌, refl, ◌∙◌}
+use mathlib.Core.Path.{◌≡◌}
 use mathlib.Core.List.{◌++◌}
 use Prim.Native.Nat.{◌-◌}
-use native.Mathlib.Omega.{arith}
 use Rattle.rules.specs.Matching.{first_match}
 use Rattle.rules.specs.Table.{listing}
 use Rattle.search.specs.Stretch.{levels}
-use Rattle.search.proofs.Branches.{first-none}
-use Rattle.search.proofs.Plain.{alone-here, alone-next}
-use borrow.Author.Rules.{rules}
 use Rattle.search.proofs.alone.forward_alone.Given as goal
 
 abbrev pub invariant-loop-i : goal.invariant-loop-i

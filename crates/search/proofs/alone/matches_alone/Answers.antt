@@ -1,9 +1,7 @@
 use mathlib.Core.List.{◌++◌}
 use Rattle.search.proofs.Plain.{alone-type}
-use Rattle.search.proofs.Heeded.{lone-heeding, alone-heeds}
-use borrow.Author.Rules.{rules}
+use Rattle.search.proofs.Heeded.{alone-heeds}
 use Rattle.search.proofs.alone.matches_alone.Goals as goal
-
 
 pub returns-then-code_at-t : goal.returns-then-code_at-t
 returns-then-code_at-t c = alone-type c.args.cat.now (c.args.one.now ++ c.args.two.now) c.args.t _ c.code_at.result

@@ -2,9 +2,7 @@ use Rattle.catalogue.proofs.Hierarchy.{range-type}
 use native.Mathlib.Omega.{arith}
 use mathlib.Core.Path.{sym, ◌∙◌}
 use Rattle.search.proofs.Branches.{good-sound, kept-place, kept-list, kept-before, kept-beneath, along-none, along-here, along-beneath}
-use borrow.Author.Rules.{rules}
 use Rattle.search.proofs.along.along_by.Goals as goal
-
 
 pub returns-in_default : goal.returns-in_default
 returns-in_default c = c.first_of_all.ensures ∙ along-none c.requires.0.good c.args.place
@@ -12,18 +10,18 @@ returns-in_default c = c.first_of_all.ensures ∙ along-none c.requires.0.good c
 
 pub level_of-l-requires : goal.level_of-l-requires
 level_of-l-requires c = (
-      good-sound c.requires.0.good,
-      (kept-place c.requires.0.good c.args.place _ c.requires.1
-          (sym c.in-At.is ∙ c.kept.ensures)).0,
-    )
+  good-sound c.requires.0.good,
+  (kept-place c.requires.0.good c.args.place _ c.requires.1
+      (sym c.in-At.is ∙ c.kept.ensures)).0,
+)
 
 pub level-requires : goal.level-requires
 level-requires c = (
-      c.requires.0.good.catalogue,
-      range-type c.args.cat.now c.args.t
-          (kept-list c.requires.0.good _ (kept-place c.requires.0.good c.args.place _ c.requires.1
-          (sym c.in-At.is ∙ c.kept.ensures))) c.requires.0.good.known,
-    )
+  c.requires.0.good.catalogue,
+  range-type c.args.cat.now c.args.t
+      (kept-list c.requires.0.good _ (kept-place c.requires.0.good c.args.place _ c.requires.1
+      (sym c.in-At.is ∙ c.kept.ensures))) c.requires.0.good.known,
+)
 
 pub returns-then-l-level : goal.returns-then-l-level
 returns-then-l-level c =

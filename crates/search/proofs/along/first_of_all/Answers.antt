@@ -1,10 +1,7 @@
-use mathlib.Core.Path.{refl, ◌∙◌}
 use native.Mathlib.Omega.{arith}
 use Rattle.search.proofs.Branches.{first-none, all-match}
 use Rattle.search.proofs.Plain.{lone-own}
-use borrow.Author.Rules.{rules}
 use Rattle.search.proofs.along.first_of_all.Goals as goal
-
 
 pub returns-then-n-eq0 : goal.returns-then-n-eq0
 returns-then-n-eq0 c = first-none _ _ _ _ _ (omega (arith, c.if-n-eq0.true, c.count-n.ensures.0))

@@ -1,7 +1,5 @@
-use Rattle.search.proofs.Branches.{on-cell, kept-gap, kept-path}
-use borrow.Author.Rules.{rules}
+use Rattle.search.proofs.Branches.{on-cell, kept-path}
 use Rattle.search.proofs.along.kept.Goals as goal
-
 
 pub path_to-reached-requires : goal.path_to-reached-requires
 path_to-reached-requires c = (c.requires.0, on-cell c.requires.0.good c.args.place _ c.requires.1 c.in-On.is)

@@ -1,18 +1,10 @@
-use Rattle.catalogue.proofs.Levels.{levels-none}
-use Rattle.catalogue.proofs.Hierarchy.{range-type}
-use mathlib.Core.Logic.{⊎_elim}
-use native.Mathlib.Omega.{arith}
-use borrow.Author.Rules.{rules}
-use borrow.Author.Tests.{not-true, not-false}
-use mathlib.Core.Path.{◌≡◌, refl, ◌∙◌}
+use mathlib.Core.Path.{◌≡◌}
 use mathlib.Core.List.{◌++◌}
 use Prim.Native.Nat.{◌-◌, ◌<◌, ◌≤◌}
 use Rattle.rules.specs.Cells.{end_at}
 use Rattle.rules.specs.Matching.{first_match}
 use Rattle.rules.specs.Table.{listing}
 use Rattle.search.specs.Stretch.{levels, stretch_before}
-use Rattle.search.proofs.Branches.{good-sound, carried-cell, before-next, turn-found, turn-next, first-none, end-in}
-use Rattle.search.proofs.Within.{sound-good, in-run, past-run}
 use Rattle.search.proofs.beneath.forward_beneath.Given as goal
 
 abbrev pub invariant-loop-i : goal.invariant-loop-i

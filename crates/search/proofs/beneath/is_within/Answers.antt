@@ -1,8 +1,6 @@
 use Rattle.search.proofs.Within.{within_none, within-type}
 use native.Mathlib.Omega.{arith}
-use borrow.Author.Rules.{rules}
 use Rattle.search.proofs.beneath.is_within.Goals as goal
-
 
 pub returns-then-count-i : goal.returns-then-count-i
 returns-then-count-i c = within_none c.requires.0 c.args.p.0 c.args.i

@@ -1,8 +1,5 @@
-use native.Mathlib.Omega.{arith}
-use borrow.Author.Rules.{rules}
 use Rattle.search.proofs.Begins.{begins-short, begins-plain, begins-test}
 use Rattle.search.proofs.forward.begins_above.Goals as goal
-
 
 pub returns-then-list-lt2 : goal.returns-then-list-lt2
 returns-then-list-lt2 c = begins-short c.args.list.now c.args.t c.if-list-lt2.true

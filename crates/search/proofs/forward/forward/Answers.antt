@@ -1,29 +1,20 @@
 use Rattle.catalogue.proofs.Levels.{levels-none}
 use Rattle.catalogue.proofs.Hierarchy.{range-type}
-use mathlib.Core.Logic.{⊎_elim}
 use native.Mathlib.Omega.{arith}
-use mathlib.Core.Path.{◌≡◌, refl, ap, ◌∙◌}
-use borrow.Author.Rules.{rules}
-use Rattle.terms.specs.Choice.{pick}
-use mathlib.Core.List.{◌++◌}
-use Prim.Native.Nat.{ℕ, ◌-◌}
-use Rattle.rules.specs.Matching.{first_match}
-use Rattle.rules.specs.Table.{listing}
-use Rattle.search.specs.Stretch.{levels, stretch_before}
-use Rattle.search.proofs.Branches.{good-sound, carried-cell, before-next, turn-found, turn-next, first-none}
+use mathlib.Core.Path.{◌∙◌}
+use Rattle.search.proofs.Branches.{carried-cell, before-next, turn-found, turn-next, first-none}
 use Rattle.search.proofs.forward.forward.Goals as goal
 use Rattle.search.proofs.forward.forward.Goals.{then-l-last+else-long-last, else-l-last}
-
 
 pub levels-requires : goal.levels-requires
 levels-requires c = (c.requires.0.good.catalogue, levels-none c.args.cat.now)
 
 pub level_by-last-requires : goal.level_by-last-requires
 level_by-last-requires c = (
-      c.requires.0.good.catalogue,
-      range-type c.args.cat.now c.args.t c.requires.1 c.requires.0.good.known,
-      c.levels.ensures,
-    )
+  c.requires.0.good.catalogue,
+  range-type c.args.cat.now c.args.t c.requires.1 c.requires.0.good.known,
+  c.levels.ensures,
+)
 
 pub returns-then-to-i : goal.returns-then-to-i
 returns-then-to-i c = first-none _ _ _ _ _ c.if-to-i.true ∙ c.upcoming-i.ensures.3 ∙ c.loop-i.invariant.1
@@ -54,14 +45,13 @@ returns-then-long-last c =
     c.if-l-last.true c.if-long-last.true ∙ c.upcoming-i.ensures.3 ∙ c.loop-i.invariant.1
 
 pub loop-i-preserved : goal.loop-i-preserved
-loop-i-preserved c =
-    (
-      before-next c.requires.0.good c.upcoming-i.result c.stretched-long.result c.stretched-long.ensures,
-      turn-next c.requires.0.good c.upcoming-i.result c.level_at-l.result c.stretched-long.result c.level_by-last.result
-          c.args.to c.if-to-i.false c.requires.2 c.requires.1 c.level_at-l.ensures c.stretched-long.ensures
-          c.level_by-last.ensures (λ a b. elim c.if-l-last.branch [ then-l-last+else-long-last w ↦ w.if-long-last.false b | else-l-last w ↦ w.if-l-last.false a ]) ∙ c.upcoming-i.ensures.3 ∙
-          c.loop-i.invariant.1,
-    )
+loop-i-preserved c = (
+  before-next c.requires.0.good c.upcoming-i.result c.stretched-long.result c.stretched-long.ensures,
+  turn-next c.requires.0.good c.upcoming-i.result c.level_at-l.result c.stretched-long.result c.level_by-last.result
+      c.args.to c.if-to-i.false c.requires.2 c.requires.1 c.level_at-l.ensures c.stretched-long.ensures
+      c.level_by-last.ensures (λ a b. elim c.if-l-last.branch [ then-l-last+else-long-last w ↦ w.if-long-last.false b | else-l-last w ↦ w.if-l-last.false a ]) ∙ c.upcoming-i.ensures.3 ∙
+      c.loop-i.invariant.1,
+)
 
 pub returns : goal.returns
 returns c = first-none _ _ _ _ _ c.loop-i-test.false ∙ c.loop-i.invariant.1

@@ -1,16 +1,9 @@
-use Rattle.catalogue.proofs.Levels.{levels-none}
-use Rattle.catalogue.proofs.Hierarchy.{range-type}
-use mathlib.Core.Logic.{⊎_elim}
-use native.Mathlib.Omega.{arith}
-use mathlib.Core.Path.{◌≡◌, refl, ap, ◌∙◌}
-use borrow.Author.Rules.{rules}
-use Rattle.terms.specs.Choice.{pick}
+use mathlib.Core.Path.{◌≡◌}
 use mathlib.Core.List.{◌++◌}
-use Prim.Native.Nat.{ℕ, ◌-◌}
+use Prim.Native.Nat.{◌-◌}
 use Rattle.rules.specs.Matching.{first_match}
 use Rattle.rules.specs.Table.{listing}
 use Rattle.search.specs.Stretch.{levels, stretch_before}
-use Rattle.search.proofs.Branches.{good-sound, carried-cell, before-next, turn-found, turn-next, first-none}
 use Rattle.search.proofs.forward.forward.Given as goal
 
 abbrev pub invariant-loop-i : goal.invariant-loop-i

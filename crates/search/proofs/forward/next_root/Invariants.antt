@@ -1,7 +1,6 @@
-use native.Mathlib.Omega.{arith}
 use Prim.Native.Nat.{◌-◌, ◌≤◌}
 use Rattle.rules.specs.Table.{listing}
-use Rattle.search.proofs.Branches.{NoRoot, no-root-next}
+use Rattle.search.proofs.Branches.{NoRoot}
 use Rattle.search.proofs.forward.next_root.Given as goal
 
 abbrev pub invariant-loop-i : goal.invariant-loop-i

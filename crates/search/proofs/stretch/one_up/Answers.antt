@@ -1,20 +1,17 @@
 use native.Mathlib.Omega.{arith}
 use mathlib.Core.Path.{sym, ◌∙◌}
-use borrow.Author.Tests.{not-true, not-false}
 use Rattle.search.proofs.Branches.{level-some}
 use Rattle.search.proofs.Climb.{turn-off, turn-kept, turn-named, turn-implied}
-use borrow.Author.Rules.{rules}
 use Rattle.search.proofs.stretch.one_up.Goals as goal
-
 
 pub overflow_sub-above : goal.overflow_sub-above
 overflow_sub-above c = omega (
-      arith,
-      c.requires.2,
-      level-some
-          c.requires.0.good c.args.c.0
-          c.requires.1,
-    )
+  arith,
+  c.requires.2,
+  level-some
+      c.requires.0.good c.args.c.0
+      c.requires.1,
+)
 
 pub returns-then-not-agrees : goal.returns-then-not-agrees
 returns-then-not-agrees c = turn-off c.requires.0.good c.args.c.0 c.args.l c.args.below

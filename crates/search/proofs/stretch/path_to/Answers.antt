@@ -1,16 +1,8 @@
 use native.Mathlib.Omega.{arith}
-use mathlib.Core.Path.{◌≡◌, sym, ◌∙◌}
-use mathlib.Core.List.{◌++◌}
-use Prim.Native.Nat.{◌<◌}
-use borrow.Author.Rules.{rules}
-use Rattle.rules.specs.Cells.{level_at}
-use Rattle.rules.specs.Table.{count, listing}
-use Rattle.search.specs.Stretch.{levels}
-use Rattle.search.specs.Good.{reached, from_cell}
-use Rattle.search.proofs.Branches.{good-sound, parent-some}
+use mathlib.Core.Path.{sym, ◌∙◌}
+use Rattle.search.proofs.Branches.{parent-some}
 use Rattle.search.proofs.Climb.{climb-start, climb-end, climb-up, parent-level}
 use Rattle.search.proofs.stretch.path_to.Goals as goal
-
 
 pub loop-p-init : goal.loop-p-init
 loop-p-init c = (c.requires.1, c.level_of-l.ensures, climb-start c.requires.0.good c.args.c.0 c.requires.1 _ c.level_of-l.ensures)

@@ -1,14 +1,10 @@
-use native.Mathlib.Omega.{arith}
-use mathlib.Core.Path.{◌≡◌, sym, ◌∙◌}
+use mathlib.Core.Path.{◌≡◌}
 use mathlib.Core.List.{◌++◌}
 use Prim.Native.Nat.{◌<◌}
-use borrow.Author.Rules.{rules}
 use Rattle.rules.specs.Cells.{level_at}
 use Rattle.rules.specs.Table.{count, listing}
 use Rattle.search.specs.Stretch.{levels}
 use Rattle.search.specs.Good.{reached, from_cell}
-use Rattle.search.proofs.Branches.{good-sound, parent-some}
-use Rattle.search.proofs.Climb.{climb-start, climb-end, climb-up, parent-level}
 use Rattle.search.proofs.stretch.path_to.Given as goal
 
 abbrev pub invariant-loop-p : goal.invariant-loop-p

@@ -1,10 +1,6 @@
-use native.Mathlib.Omega.{arith}
 use mathlib.Core.Path.{sym, ◌∙◌}
-use Rattle.search.proofs.Branches.{level-some, stretch-short, stretch-on, stretch-off}
-use borrow.Author.Tests.{not-true, not-false}
-use borrow.Author.Rules.{rules}
+use Rattle.search.proofs.Branches.{stretch-short, stretch-on, stretch-off}
 use Rattle.search.proofs.stretch.stretched.Goals as goal
-
 
 pub returns-then-k-above : goal.returns-then-k-above
 returns-then-k-above c = stretch-short c.requires.0.good c.args.c.0 c.args.k c.args.l c.requires.1 c.requires.2 c.requires.3 c.if-k-above.true

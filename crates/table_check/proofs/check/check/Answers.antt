@@ -1,8 +1,6 @@
 use Rattle.rules.specs.Outcome.{check_table}
 use Rattle.blocks.proofs.Negated.{told-no, told-yes}
-use borrow.Author.Rules.{rules}
 use Rattle.table_check.proofs.check.check.Goals as goal
-
 
 pub returns-then-not-is_good : goal.returns-then-not-is_good
 unfolding check_table

@@ -1,16 +1,9 @@
-use borrow.Author.Rules.{rules}
-use mathlib.Core.Path.{◌≡◌, ◌∙◌}
-use Prim.Native.Nat.{◌-◌, ◌≤◌}
+use mathlib.Core.Path.{◌∙◌}
 use native.Mathlib.Omega.{arith}
-use Rattle.forest.specs.Numbers.{range}
-use Rattle.rules.specs.Block.{every}
-use Rattle.rules.specs.Table.{listing}
 use Rattle.blocks.proofs.Negated.{told-no, told-yes}
-use Rattle.table_check.specs.Keys.{keyed_cell}
 use Rattle.table_check.proofs.Unused.{cells-next, cells-stop, cells-done}
 use Rattle.table_check.proofs.Stored.{keyed_at, cells-keyed}
 use Rattle.table_check.proofs.keys.all_keyed.Goals as goal
-
 
 pub loop-i-init : goal.loop-i-init
 loop-i-init c = (omega arith, cells-keyed c.args.cat.now c.args.tab.now c.count-n.result c.count-n.ensures.0)

@@ -1,14 +1,10 @@
-use borrow.Author.Rules.{rules}
-use mathlib.Core.Path.{◌≡◌, ◌∙◌}
+use mathlib.Core.Path.{◌≡◌}
 use Prim.Native.Nat.{◌-◌, ◌≤◌}
-use native.Mathlib.Omega.{arith}
 use Rattle.forest.specs.Numbers.{range}
 use Rattle.rules.specs.Block.{every}
 use Rattle.rules.specs.Table.{listing}
-use Rattle.blocks.proofs.Negated.{told-no, told-yes}
 use Rattle.table_check.specs.Keys.{keyed_cell}
-use Rattle.table_check.proofs.Unused.{cells-next, cells-stop, cells-done}
-use Rattle.table_check.proofs.Stored.{keyed_at, cells-keyed}
+use Rattle.table_check.proofs.Stored.{keyed_at}
 use Rattle.table_check.proofs.keys.all_keyed.Given as goal
 
 abbrev pub invariant-loop-i : goal.invariant-loop-i

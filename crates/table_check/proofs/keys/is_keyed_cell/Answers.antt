@@ -1,10 +1,8 @@
-use borrow.Author.Rules.{rules}
 use mathlib.Core.Path.{◌∙◌}
 use Rattle.blocks.proofs.Negated.{told-no, told-yes}
 use Rattle.cells.proofs.Data.{key-data}
 use Rattle.table_check.proofs.Stored.{cell-unknown, cell-known}
 use Rattle.table_check.proofs.keys.is_keyed_cell.Goals as goal
-
 
 pub returns-then-not-is_type : goal.returns-then-not-is_type
 returns-then-not-is_type c = cell-unknown c.requires.1 c.requires.2 c.code_at-t.ensures (told-no c.is_type.ensures c.if-not-is_type.true)

@@ -1,28 +1,23 @@
-use borrow.Author.Rules.{rules}
-use mathlib.Core.Path.{◌≡◌, ◌∙◌}
-use Prim.Native.Nat.{◌+◌, ◌-◌, ◌≤◌}
+use mathlib.Core.Path.{◌∙◌}
+use Prim.Native.Nat.{◌+◌}
 use native.Mathlib.Omega.{arith}
 use borrow.Author.Tests.{eq-eqb, ne_eqb}
-use Rattle.forest.specs.Numbers.{range}
-use Rattle.rules.specs.Block.{every}
 use Rattle.rules.specs.Catalogue.{type_byte, key_value}
 use Rattle.catalogue.proofs.Hierarchy.{header-facts}
-use Rattle.table_check.specs.Keys.{plain_keys}
 use Rattle.table_check.proofs.Unused.{cells-next, cells-stop, cells-done}
 use Rattle.table_check.proofs.Stored.{plain_key, plain-start}
 use Rattle.table_check.proofs.keys.plain_keys.Goals as goal
-
 
 pub loop-k-init : goal.loop-k-init
 loop-k-init c = (omega arith, plain-start c.args.cat.now c.wide-top.result (c.wide-top.ensures.0 ∙ c.types.ensures))
 
 pub bounds-cat-k : goal.bounds-cat-k
 bounds-cat-k c = omega (
-      arith,
-      (header-facts c.args.cat.now c.requires).size,
-      c.types.ensures,
-      c.wide-top.ensures.0,
-    )
+  arith,
+  (header-facts c.args.cat.now c.requires).size,
+  c.types.ensures,
+  c.wide-top.ensures.0,
+)
 
 pub returns-then-cat-k-ne0 : goal.returns-then-cat-k-ne0
 unfolding key_value type_byte

@@ -1,15 +1,9 @@
-use borrow.Author.Rules.{rules}
-use mathlib.Core.Path.{◌≡◌, ◌∙◌}
+use mathlib.Core.Path.{◌≡◌}
 use Prim.Native.Nat.{◌+◌, ◌-◌, ◌≤◌}
-use native.Mathlib.Omega.{arith}
-use borrow.Author.Tests.{eq-eqb, ne_eqb}
 use Rattle.forest.specs.Numbers.{range}
 use Rattle.rules.specs.Block.{every}
-use Rattle.rules.specs.Catalogue.{type_byte, key_value}
-use Rattle.catalogue.proofs.Hierarchy.{header-facts}
 use Rattle.table_check.specs.Keys.{plain_keys}
-use Rattle.table_check.proofs.Unused.{cells-next, cells-stop, cells-done}
-use Rattle.table_check.proofs.Stored.{plain_key, plain-start}
+use Rattle.table_check.proofs.Stored.{plain_key}
 use Rattle.table_check.proofs.keys.plain_keys.Given as goal
 
 abbrev pub invariant-loop-k : goal.invariant-loop-k

@@ -1,10 +1,6 @@
 use mathlib.Core.Path.{◌∙◌}
-use native.Mathlib.Omega.{arith}
-use Rattle.cells.proofs.Start.{inside-sized, inside-less}
 use Rattle.table_check.proofs.Unused.{free-is}
-use borrow.Author.Rules.{rules}
 use Rattle.table_check.proofs.padding.all_free.Goals as goal
-
 
 pub returns : goal.returns
 returns c = c.all_zero.ensures ∙ free-is c.requires c.count.result c.start_of-from.result c.count.ensures.0

@@ -1,6 +1,5 @@
-use mathlib.Core.Path.{◌≡◌, ap, ◌∙◌}
-use Prim.Native.Nat.{ℕ, ◌-◌, ◌≤◌}
-use borrow.Author.Rules.{rules}
+use mathlib.Core.Path.{ap, ◌∙◌}
+use Prim.Native.Nat.{ℕ}
 use native.Mathlib.Omega.{arith}
 use Rattle.forest.specs.Numbers.{range}
 use Rattle.rules.specs.Block.{every}
@@ -8,7 +7,6 @@ use Rattle.rules.specs.Table.{padded}
 use Rattle.blocks.proofs.Negated.{told-no, told-yes}
 use Rattle.table_check.proofs.Unused.{cells-next, cells-stop, cells-done}
 use Rattle.table_check.proofs.padding.all_padded.Goals as goal
-
 
 pub returns-then-not-is_padded : goal.returns-then-not-is_padded
 returns-then-not-is_padded c = cells-stop (padded c.args.cat.now c.args.tab.now) c.loop-i.i c.count-n.result c.loop-i-test.true

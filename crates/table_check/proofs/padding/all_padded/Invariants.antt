@@ -1,12 +1,8 @@
-use mathlib.Core.Path.{◌≡◌, ap, ◌∙◌}
-use Prim.Native.Nat.{ℕ, ◌-◌, ◌≤◌}
-use borrow.Author.Rules.{rules}
-use native.Mathlib.Omega.{arith}
+use mathlib.Core.Path.{◌≡◌}
+use Prim.Native.Nat.{◌-◌, ◌≤◌}
 use Rattle.forest.specs.Numbers.{range}
 use Rattle.rules.specs.Block.{every}
 use Rattle.rules.specs.Table.{padded}
-use Rattle.blocks.proofs.Negated.{told-no, told-yes}
-use Rattle.table_check.proofs.Unused.{cells-next, cells-stop, cells-done}
 use Rattle.table_check.proofs.padding.all_padded.Given as goal
 
 abbrev pub invariant-loop-i : goal.invariant-loop-i

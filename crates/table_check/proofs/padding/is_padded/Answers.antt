@@ -2,9 +2,7 @@ use mathlib.Core.Path.{◌∙◌}
 use native.Mathlib.Omega.{arith}
 use Rattle.cells.proofs.Data.{cell-inside, cell-ends}
 use Rattle.table_check.proofs.Unused.{pad-none, pad-some}
-use borrow.Author.Rules.{rules}
 use Rattle.table_check.proofs.padding.is_padded.Goals as goal
-
 
 pub returns-then-size-used : goal.returns-then-size-used
 returns-then-size-used c = pad-none c.requires.0 c.args.i c.requires.1 c.code_at.ensures (c.wide-used.ensures.0 ∙ c.data_length.ensures)
@@ -15,11 +13,11 @@ start_of-at-requires c = cell-inside c.requires.0 c.args.i c.requires.1
 
 pub slice_bounds-all_zero-end : goal.slice_bounds-all_zero-end
 slice_bounds-all_zero-end c = omega (
-      arith,
-      c.start_of-at.ensures.0,
-      cell-ends c.requires.0
-          c.args.i c.requires.1,
-    )
+  arith,
+  c.start_of-at.ensures.0,
+  cell-ends c.requires.0
+      c.args.i c.requires.1,
+)
 
 pub returns : goal.returns
 returns c = c.all_zero.ensures ∙ pad-some c.requires.0 c.args.i c.requires.1 c.code_at.ensures

@@ -1,4 +1,4 @@
-use Rattle.std.proofs.Common.{◌-◌, ◌≤◌, sym, arith}
+use Rattle.std.proofs.Common.{◌-◌, arith}
 use Rattle.table_check.proofs.Before.{fits-less}
 use Rattle.table_check.proofs.Reading.{group-starts, group-ends, group-stops, group-goes}
 use Rattle.table_check.proofs.Reading.{segment-starts, segment-ends, segment-low, segment-high, segment-other, segment-goes}

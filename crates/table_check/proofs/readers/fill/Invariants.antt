@@ -1,12 +1,6 @@
-use borrow.Author.Rules.{rules}
-use mathlib.Core.Path.{◌≡◌}
-use Prim.Native.Nat.{◌≤◌, ◌+◌, ◌-◌}
-use native.Mathlib.Omega.{arith}
+use Prim.Native.Nat.{◌≤◌, ◌-◌}
 use Rattle.rules.specs.Catalogue.{types}
-use Rattle.catalogue.proofs.Hierarchy.{header-facts}
 use Rattle.table_check.specs.Readers.{Filled}
-use Rattle.table_check.proofs.Types.{kind-bytes}
-use Rattle.table_check.proofs.Row.{row_sized, row_next}
 use Rattle.table_check.proofs.readers.fill.Given as goal
 
 abbrev pub invariant-loop-v : goal.invariant-loop-v

@@ -1,11 +1,6 @@
-use borrow.Author.Rules.{rules}
-use mathlib.Core.Path.{sym}
-use lib.Seq.{length-take-le}
-use Rattle.cells.proofs.Start.{inside-sized}
 use Rattle.table_check.proofs.Told.{told-by}
 use Rattle.table_check.proofs.Top.{listing_none, listing-other, listing-headed, listing-read}
 use Rattle.table_check.proofs.readers.is_listing.Goals as goal
-
 
 pub returns-then-n-eq0 : goal.returns-then-n-eq0
 returns-then-n-eq0 c = listing_none c.args.cat.now c.args.tab.now c.requires.0 c.count-n.result c.count-n.ensures.0

@@ -1,8 +1,6 @@
-use borrow.Author.Rules.{rules}
 use mathlib.Core.Path.{◌∙◌}
 use Rattle.table_check.proofs.Before.{fits_next, last-in, next-in, both-cut}
 use Rattle.table_check.proofs.readers.key_order.Goals as goal
-
 
 pub start_before-requires-2 : goal.start_before-requires-2
 start_before-requires-2 c = fits_next c.requires

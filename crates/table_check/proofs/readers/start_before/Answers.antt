@@ -1,8 +1,5 @@
-use native.Mathlib.Omega.{arith}
-use Rattle.table_check.proofs.Before.{cells_in, start-worked}
-use borrow.Author.Rules.{rules}
+use Rattle.table_check.proofs.Before.{cells_in}
 use Rattle.table_check.proofs.readers.start_before.Goals as goal
-
 
 pub overflow_sub-result : goal.overflow_sub-result
 overflow_sub-result c = cells_in c.requires c.wide.result c.wide.ensures.0

@@ -1,9 +1,7 @@
-use borrow.Author.Rules.{rules}
 use mathlib.Core.Path.{sym, ◌∙◌}
 use Rattle.table_check.proofs.Before.{fits_next}
 use Rattle.table_check.proofs.Twins.{other-type, no_key, packed-key, smaller-key, equal-key, greater-key}
 use Rattle.table_check.proofs.readers.twin.Goals as goal
-
 
 pub code_before-requires : goal.code_before-requires
 code_before-requires c = (fits_next c.requires, c.requires.some)

@@ -4,9 +4,7 @@ use native.Mathlib.Omega.{arith}
 use lib.ListN.{length}
 use Rattle.rules.specs.Table.{cell_size, room}
 use Rattle.table_check.proofs.Space.{room-none}
-use borrow.Author.Rules.{rules}
 use Rattle.table_check.proofs.room.room.Goals as goal
-
 
 pub returns-then-tab-lt8 : goal.returns-then-tab-lt8
 unfolding cell_size room

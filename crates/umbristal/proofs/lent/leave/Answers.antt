@@ -1,8 +1,5 @@
-use native.Mathlib.Omega.{arith}
 use Rattle.umbristal.proofs.Left.{block-kept, block-put}
-use borrow.Author.Rules.{rules}
 use Rattle.umbristal.proofs.lent.leave.Goals as goal
-
 
 pub returns-then-number-ge20 : goal.returns-then-number-ge20
 returns-then-number-ge20 c = (
@@ -13,7 +10,7 @@ returns-then-number-ge20 c = (
 
 pub returns : goal.returns
 returns c = (
-      c.packed-2.ensures,
-      block-put c.args.block.now c.args.a c.number.result c.number.ensures c.if-number-ge20.false _
-          c.put_position.ensures,
-    )
+  c.packed-2.ensures,
+  block-put c.args.block.now c.args.a c.number.result c.number.ensures c.if-number-ge20.false _
+      c.put_position.ensures,
+)

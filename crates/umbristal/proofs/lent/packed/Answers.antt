@@ -1,8 +1,6 @@
 use native.Mathlib.Omega.{arith}
 use Rattle.umbristal.specs.Face.{packed}
-use borrow.Author.Rules.{rules}
 use Rattle.umbristal.proofs.lent.packed.Goals as goal
-
 
 pub returns : goal.returns
 unfolding packed

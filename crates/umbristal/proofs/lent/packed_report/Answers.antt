@@ -1,8 +1,6 @@
 use Rattle.umbristal.specs.Face.{packed_report}
 use native.Mathlib.Omega.{arith}
-use borrow.Author.Rules.{rules}
 use Rattle.umbristal.proofs.lent.packed_report.Goals as goal
-
 
 pub returns : goal.returns
 unfolding packed_report

@@ -3,9 +3,7 @@ use native.Mathlib.Omega.{arith}
 use mathlib.Core.Path.{◌∙◌}
 use Prim.Native.Nat.{ℕ}
 use Rattle.update.proofs.Tables.{new-inside, insert-end, insert-fits, insert-is}
-use borrow.Author.Rules.{rules}
 use Rattle.update.proofs.edits.insert_cell_sound.Goals as goal
-
 
 pub start_of-start-requires : goal.start_of-start-requires
 start_of-start-requires c = new-inside c.requires _

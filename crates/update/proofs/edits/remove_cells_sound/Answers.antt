@@ -3,9 +3,7 @@ use native.Mathlib.Omega.{arith}
 use mathlib.Core.Path.{refl}
 use Prim.Native.Nat.{ℕ}
 use Rattle.update.proofs.Tables.{used-inside, remove-end, remove-is}
-use borrow.Author.Rules.{rules}
 use Rattle.update.proofs.edits.remove_cells_sound.Goals as goal
-
 
 pub start_of-start-requires : goal.start_of-start-requires
 start_of-start-requires c = used-inside c.requires.sound _

@@ -1,11 +1,8 @@
-use lib.ListN.{length-take, length-drop}
 use native.Mathlib.Omega.{arith}
 use mathlib.Core.Path.{◌∙◌}
 use Prim.Native.Nat.{ℕ}
 use Rattle.update.proofs.Tables.{used-inside, replace-end, replace-is}
-use borrow.Author.Rules.{rules}
 use Rattle.update.proofs.edits.replace_cell_sound.Goals as goal
-
 
 pub start_of-start-requires : goal.start_of-start-requires
 start_of-start-requires c = used-inside c.requires.sound

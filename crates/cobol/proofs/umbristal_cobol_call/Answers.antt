@@ -1,0 +1,5 @@
+use Rattle.cobol.proofs.Whole.{call-told}
+use Rattle.cobol.proofs.umbristal_cobol_call.Goals as goal
+
+pub returns : goal.returns
+returns c = call-told _ _ _ _ _ _ c.tell.ensures c.called.ensures

@@ -1,0 +1,5 @@
+use Rattle.cobol.proofs.Whole.{report-told}
+use Rattle.cobol.proofs.umbristal_cobol_report_plain.Goals as goal
+
+pub returns : goal.returns
+returns c = report-told _ _ _ _ c.tell.ensures c.plain.ensures
