@@ -6,7 +6,7 @@ measure = cargo run --offline --release --quiet --manifest-path rust/Cargo.toml 
 
 help:
 	@echo 'make run         the listing of the bench table, by the proved program'
-	@echo 'make test        the gate: all is proved from nothing, wrong answers are tried, examples and tests run'
+	@echo 'make test        the gate: all is proved, wrong answers are tried, examples and tests run'
 	@echo 'make install     header, libraries, pkg-config file, copybook, programs and manual below PREFIX=$(PREFIX); DESTDIR is honoured'
 	@echo 'make uninstall   takes the same files away'
 	@echo 'make dist        the same as a tarball in target/, for a machine without the prover'
