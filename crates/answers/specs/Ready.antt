@@ -1,8 +1,7 @@
 -- What the calls ask of blocks, position, list and area once these have been tested. Assumes nothing: these are definitions.
-use Rattle.std.specs.Prelude.{◌≡◌, Bool, true, List, ℕ, ◌-◌, ◌<◌}
-use Rattle.std.proofs.Math.Option.{none}
+use Rattle.terms.specs.Names.{Parentage}
+use Rattle.std.specs.Prelude.{◌≡◌, Bool, true, List, ℕ, ◌-◌, ◌<◌, None}
 use Rattle.terms.specs.declared.Position.{Position}
-use Rattle.terms.specs.declared.Parentage.{Parentage}
 use Rattle.terms.specs.declared.Status.{Status}
 use Rattle.terms.specs.declared.Status.TheVariants.{Blank}
 use Rattle.terms.specs.declared.Answer.{Answer}
@@ -49,7 +48,7 @@ pub record Held (cat tab : Bytes) (size : ℕ) (pos : Position) : Type 0 where
 
 -- what a get leaves: its answer and the area; the cells stay
 abbrev pub left : Answer → Bytes → After
-left r area = record { answer = r; change = nothing; cells = none; area = area }
+left r area = record { answer = r; change = nothing; cells = None; area = area }
 
 -- a get that found cell i
 abbrev pub got_at : Bytes → List Segment → Status → Parentage → Bool → ℕ → Bytes → After

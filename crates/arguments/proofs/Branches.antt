@@ -1,4 +1,5 @@
 -- One argument, by the tests it passes: what each leaves of `argument_at`. Assumes nothing.
+use Rattle.std.specs.Prelude.{Err, Ok}
 use mathlib.Core.Path.{◌≡◌, ap, sym, ◌∙◌}
 use mathlib.Core.Bool.{Bool, true, false, not, ◌&&◌}
 use Prim.Native.Nat.{ℕ, ◌+◌, ◌-◌, ◌<◌, ◌≤◌}
@@ -9,7 +10,6 @@ use borrow.Author.Tests.{lt-ltb, le-ltb, le-leb, lt-leb, leb-true, eq-eqb, ne_eq
 use Rattle.terms.specs.declared.TypeCode.{TypeCode}
 use Rattle.terms.specs.declared.Argument.{Argument}
 use Rattle.terms.specs.declared.Status.TheVariants.{AC, AJ, AK}
-use Rattle.terms.specs.declared.ArgumentRead.TheVariants.{Got, Fault}
 use Rattle.terms.specs.Choice.{pick}
 use Rattle.terms.specs.Names.{code, field}
 use Rattle.forest.specs.Forest.{inside, outside, side}
@@ -71,47 +71,47 @@ module _ (w : ℕ) (list : Bytes) (from to : ℕ) where
     value-number e = sym (of-value ∙ is-packed w (part list from (to - from)) (eq-eqb w 1 e))
 
 module _ (cat list : Bytes) (before : TypeCode) (at : ℕ) where
-  pub type-bad : good_next cat list before (code (byte list at)) ≡ false → Fault AC ≡ argument_at cat list before at
+  pub type-bad : good_next cat list before (code (byte list at)) ≡ false → Err AC ≡ argument_at cat list before at
   unfolding argument_at
   type-bad n = simp n
 
   -- past the end there is no type
-  pub type-missing : length list ≤ at → Fault AC ≡ argument_at cat list before at
+  pub type-missing : length list ≤ at → Err AC ≡ argument_at cat list before at
   unfolding good_next is_type
   type-missing h = type-bad (simp (sym (byte_past list at h)))
 
   module _ (n : good_next cat list before (code (byte list at)) ≡ true) where
-    pub operator-missing : length list ≤ at + 1 → Fault AJ ≡ argument_at cat list before at
+    pub operator-missing : length list ≤ at + 1 → Err AJ ≡ argument_at cat list before at
     unfolding argument_at
     operator-missing h = simp (n, le-leb (length list) (at + 1) h)
 
     module _ (h : at + 1 < length list) where
-      pub operator-none : {a : Argument} → byte list (at + 1) ≡ 0 → a ≡ untested cat list at → Got a ≡ argument_at cat list before at
+      pub operator-none : {a : Argument} → byte list (at + 1) ≡ 0 → a ≡ untested cat list at → Ok a ≡ argument_at cat list before at
       unfolding argument_at qualification_at next_at
       operator-none z e =
-          let y : Got (untested cat list at) ≡ argument_at cat list before at = simp (n, lt-leb (length list) (at + 1) h, eq-eqb (byte list (at + 1)) 0 z) in
-          ap Got e ∙ y
+          let y : Ok (untested cat list at) ≡ argument_at cat list before at = simp (n, lt-leb (length list) (at + 1) h, eq-eqb (byte list (at + 1)) 0 z) in
+          ap Ok e ∙ y
 
       module _ (z : byte list (at + 1) ≡ 0 → ⊥) where
-        pub operator-bad : 6 < byte list (at + 1) → Fault AJ ≡ argument_at cat list before at
+        pub operator-bad : 6 < byte list (at + 1) → Err AJ ≡ argument_at cat list before at
         unfolding argument_at
         operator-bad o = simp (n, lt-leb (length list) (at + 1) h, ne_eqb (byte list (at + 1)) 0 z, lt-ltb 6 (byte list (at + 1)) o)
 
         module _ (o : byte list (at + 1) ≤ 6) where
-          pub field-missing : length list ≤ at + 2 → Fault AJ ≡ argument_at cat list before at
+          pub field-missing : length list ≤ at + 2 → Err AJ ≡ argument_at cat list before at
           unfolding argument_at
           field-missing k = simp (n, lt-leb (length list) (at + 1) h, ne_eqb (byte list (at + 1)) 0 z, le-ltb 6 (byte list (at + 1)) o, le-leb (length list) (at + 2) k)
 
           module _ (k : at + 2 < length list) where
-            pub field-bad : is_field_of cat list (code (byte list at)) (field (byte list (at + 2))) ≡ false → Fault AK ≡ argument_at cat list before at
+            pub field-bad : is_field_of cat list (code (byte list at)) (field (byte list (at + 2))) ≡ false → Err AK ≡ argument_at cat list before at
             unfolding argument_at
             field-bad f = simp (n, lt-leb (length list) (at + 1) h, ne_eqb (byte list (at + 1)) 0 z, le-ltb 6 (byte list (at + 1)) o, lt-leb (length list) (at + 2) k, f)
 
             module _ (f : is_field_of cat list (code (byte list at)) (field (byte list (at + 2))) ≡ true) where
               -- behind the field number: what the tests of the value leave
               behind-field : argument_at cat list before at
-                  ≡ pick (ltb (length list) (at + 3 + field_length cat (field (byte list (at + 2))))) (Fault AJ)
-                  (pick (not (value_at cat list at)) (Fault AJ) (Got (untested cat list at)))
+                  ≡ pick (ltb (length list) (at + 3 + field_length cat (field (byte list (at + 2))))) (Err AJ)
+                  (pick (not (value_at cat list at)) (Err AJ) (Ok (untested cat list at)))
               unfolding argument_at qualification_at next_at
               behind-field = simp (
                 n,
@@ -124,7 +124,7 @@ module _ (cat list : Bytes) (before : TypeCode) (at : ℕ) where
 
               -- as a test of one thing
               pub behind-value : argument_at cat list before at
-                  ≡ pick (has_value (field_value cat (field (byte list (at + 2)))) list (at + 3) (next_at cat list at)) (Got (untested cat list at)) (Fault AJ)
+                  ≡ pick (has_value (field_value cat (field (byte list (at + 2)))) list (at + 3) (next_at cat list at)) (Ok (untested cat list at)) (Err AJ)
               unfolding has_value
               behind-value =
                   let x : next_at cat list at ≡ at + 3 + field_length cat (field (byte list (at + 2))) = next-test cat list at z in
@@ -142,8 +142,8 @@ module _ (cat list : Bytes) (before : TypeCode) (at : ℕ) where
                 asked : has_value (field_value cat (field (byte list (at + 2)))) list (at + 3) (next_at cat list at) ≡ r
                 asked = sym (q ∙ rw (g, e))
 
-                pub value-bad : r ≡ false → Fault AJ ≡ argument_at cat list before at
+                pub value-bad : r ≡ false → Err AJ ≡ argument_at cat list before at
                 value-bad v = sym (behind-value ∙ rw (asked ∙ v))
 
-                pub value-good : r ≡ true → Got a ≡ argument_at cat list before at
-                value-good v = ap Got e ∙ sym (behind-value ∙ rw (asked ∙ v))
+                pub value-good : r ≡ true → Ok a ≡ argument_at cat list before at
+                value-good v = ap Ok e ∙ sym (behind-value ∙ rw (asked ∙ v))

@@ -1,5 +1,7 @@
 -- A list cut in two between two of its arguments: its arguments are those of the first part, and then those of the second with their offsets moved on.
 -- Assumes nothing.
+use Rattle.terms.specs.declared.Status.{Status}
+use Rattle.std.specs.Prelude.{Err, Ok, None, Result, Some}
 use mathlib.Core.Path.{◌≡◌, refl, ap, sym, ◌∙◌}
 use mathlib.Core.Bool.{Bool, true, false, not}
 use mathlib.Core.List.{List, [], ◌∷◌, ◌++◌, map}
@@ -11,14 +13,10 @@ use lib.Seq.{take-append-le, drop-append-le, drop-append-add, get_or-append-add}
 use borrow.Author.Tests.{lt-ltb, le-ltb, le-leb, lt-leb, eqb-false}
 use Rattle.terms.specs.declared.TypeCode.{TypeCode}
 use Rattle.terms.specs.declared.FieldNumber.{FieldNumber}
-use Rattle.terms.specs.declared.Qualification.{Qualification}
-use Rattle.terms.specs.declared.Qualification.TheVariants.{None, Test}
 use Rattle.terms.specs.declared.Argument.{Argument}
 use Rattle.terms.specs.declared.Status.TheVariants.{Blank, AC, AJ, AK}
-use Rattle.terms.specs.declared.ArgumentRead.{ArgumentRead}
-use Rattle.terms.specs.declared.ArgumentRead.TheVariants.{Got, Fault}
 use Rattle.terms.specs.Choice.{pick}
-use Rattle.terms.specs.Names.{code, field}
+use Rattle.terms.specs.Names.{code, field, Qualification, test}
 use Rattle.forest.specs.Forest.{inside, outside, side}
 use Rattle.forest.specs.Good.{on, off, is}
 use Rattle.rules.specs.Block.{Bytes, byte, part}
@@ -32,14 +30,14 @@ use Rattle.arguments.proofs.Above.{next-type}
 -- an argument, k bytes further on
 abbrev pub moved_test : ℕ → Qualification → Qualification
 moved_test k None = None
-moved_test k (Test o f v) = Test o f (k + v)
+moved_test k (Some x) = test x.operator x.field (k + x.value)
 
 abbrev pub moved : ℕ → Argument → Argument
 moved k a = record { code = a.code; qualification = moved_test k a.qualification; next = k + a.next }
 
-abbrev moved_read : ℕ → ArgumentRead → ArgumentRead
-moved_read k (Got a) = Got (moved k a)
-moved_read k (Fault s) = Fault s
+abbrev moved_read : ℕ → Result Argument Status → Result Argument Status
+moved_read k (Ok a) = Ok (moved k a)
+moved_read k (Err s) = Err s
 
 through : {A : Type 0} (f : A → A) (a b c d e g h k : Bool) (p q r s t u v w x : A)
     → f (pick a p (pick b q (pick c r (pick d s (pick e t (pick g u (pick h v (pick k w x))))))))
@@ -98,17 +96,17 @@ module _ (cat one two : Bytes) (before : TypeCode) (at : ℕ) where
       )
       (sym (through (moved_read k) (not (good_next cat two before (code (byte two at)))) (leb (length two) (at + 1)) (eqb (byte two (at + 1)) 0) (ltb 6 (byte two (at + 1)))
       (leb (length two) (at + 2)) (not (is_field_of cat two (code (byte two at)) f)) (ltb (length two) (at + 3 + w)) (not (value_at cat two at))
-      (Fault AC) (Fault AJ) (Got (record { code = code (byte two at); qualification = None; next = at + 2 }))
-      (Fault AJ) (Fault AJ) (Fault AK) (Fault AJ) (Fault AJ)
-      (Got (record { code = code (byte two at); qualification = Test (operator_of (byte two (at + 1))) f (at + 3); next = at + 3 + w }))))
+      (Err AC) (Err AJ) (Ok (record { code = code (byte two at); qualification = None; next = at + 2 }))
+      (Err AJ) (Err AJ) (Err AK) (Err AJ) (Err AJ)
+      (Ok (record { code = code (byte two at); qualification = test (operator_of (byte two (at + 1))) f (at + 3); next = at + 3 + w }))))
 
   -- and found sound there
   shift-sound : Sound cat (one ++ two) before (length one + at) → Sound cat two before at × (untested cat (one ++ two) (length one + at) ≡ moved (length one) (untested cat two at))
   shift-sound s =
       let J : Argument = untested cat (one ++ two) (length one + at) in
       elim (read cat two before at) [
-        | sound g ↦ (let z : Got J ≡ Got (moved (length one) (untested cat two at)) = sym s.answer ∙ shift ∙ ap (moved_read (length one)) g.answer in (g, cc))
-        | faulty t f e ↦ absurd (let z : Got J ≡ Fault t = sym s.answer ∙ shift ∙ ap (moved_read (length one)) e in let y : ◌≡◌ {A = ℕ} 0 1 = cc in omega arith)
+        | sound g ↦ (let z : Ok J ≡ Ok (moved (length one) (untested cat two at)) = sym s.answer ∙ shift ∙ ap (moved_read (length one)) g.answer in (g, cc))
+        | faulty t f e ↦ absurd (let z : Ok J ≡ Err t = sym s.answer ∙ shift ∙ ap (moved_read (length one)) e in let y : ◌≡◌ {A = ℕ} 0 1 = cc in omega arith)
       ]
 
   -- an argument of the first part, read in the whole list
@@ -128,7 +126,7 @@ module _ (cat list : Bytes) (before : TypeCode) (at : ℕ) (s : Sound cat list b
   unfolding good_next
   free-next = rw (next-type cat list before (code (byte list at)) s.type)
 
-  free-answer : argument_at cat list (code 0) at ≡ Got (untested cat list at)
+  free-answer : argument_at cat list (code 0) at ≡ Ok (untested cat list at)
   unfolding argument_at
   free-answer = rw free-next (rw s.type at s.answer)
 
@@ -288,8 +286,8 @@ module _ (cat one two : Bytes) where
 module _ (cat one two : Bytes) where
   pub same-meant : (t : TypeCode) (q : Qualification) → GoodQualification cat one t q → meant cat (one ++ two) q ≡ meant cat one q
   same-meant t None h = refl
-  same-meant t (Test o f v) h = rw (same-part one two v (field_length cat f) h.within)
+  same-meant t (Some x) h = rw (same-part one two x.value (field_length cat x.field) h.within)
 
   pub moved-meant : (q : Qualification) → meant cat (one ++ two) (moved_test (length one) q) ≡ meant cat two q
   moved-meant None = refl
-  moved-meant (Test o f v) = rw (drop-append-add one two v)
+  moved-meant (Some x) = rw (drop-append-add one two x.value)

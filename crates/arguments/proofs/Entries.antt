@@ -1,4 +1,5 @@
 -- What an entry says of its type, for those who ask by it. Assumes nothing.
+use Rattle.std.specs.Prelude.{None, Some}
 use mathlib.Core.Path.{◌≡◌, refl, ap, sym, ◌∙◌, subst}
 use mathlib.Core.Bool.{true, false, not}
 use mathlib.Core.List.{List, [], ◌∷◌, ◌++◌, append-nil}
@@ -10,9 +11,7 @@ use lib.ListN.{length}
 use borrow.Author.Tests.{ne_eqb, eqb-true, eqb-false}
 use Rattle.terms.specs.declared.TypeCode.{TypeCode}
 use Rattle.terms.specs.declared.Argument.{Argument}
-use Rattle.terms.specs.declared.Qualification.{Qualification}
-use Rattle.terms.specs.declared.Qualification.TheVariants.{None, Test}
-use Rattle.terms.specs.Names.{same_type}
+use Rattle.terms.specs.Names.{same_type, Qualification}
 use Rattle.forest.specs.Good as Good
 use Rattle.rules.specs.Block.{Bytes, every}
 use Rattle.rules.specs.Catalogue.{good_catalogue}
@@ -23,7 +22,6 @@ use Rattle.catalogue.proofs.Hierarchy.{field-facts}
 use Rattle.arguments.specs.Sound.{SoundList, GoodQualification, Wanted, Implied, Named, wanted_of, meaning}
 use Rattle.arguments.specs.Asked.{Pair, entry_for, test_at}
 use Rattle.arguments.specs.Alone.{is_alone, alone_of}
-use Rattle.arguments.specs.declared.alone.Tests.TheVariants.{Own}
 use Rattle.arguments.proofs.Sound.{list-empty}
 use Rattle.arguments.proofs.Walk.{wanted-here, wanted-next}
 use Rattle.arguments.proofs.Complete.{asked-wanted}
@@ -44,17 +42,17 @@ module _ (cat list : Bytes) where
   wanted-least : (w : Wanted) → PlacedWanted list w → 1 ≤ entry_for 0 w
   wanted-least Implied h = omega arith
   wanted-least (Named None) h = omega arith
-  wanted-least (Named (Test o f v)) h = omega (arith, h.0)
+  wanted-least (Named (Some x)) h = omega (arith, h.0)
 
   wanted-implied : (w : Wanted) → PlacedWanted list w → eqb (entry_for 0 w) 1 ≡ is_implied (meaning cat list w)
   wanted-implied Implied h = refl
   wanted-implied (Named None) h = refl
-  wanted-implied (Named (Test o f v)) h = ne_eqb (0 + v) 1 (λ z. omega (arith, h.0))
+  wanted-implied (Named (Some x)) h = ne_eqb (0 + x.value) 1 (λ z. omega (arith, h.0))
 
   wanted-free : (w : Wanted) → PlacedWanted list w → entry_for 0 w < 3 → (s : Segment) → true ≡ satisfies cat s (meaning cat list w)
   wanted-free Implied h l s = refl
   wanted-free (Named None) h l s = refl
-  wanted-free (Named (Test o f v)) h l s = absurd (omega (arith, h.0))
+  wanted-free (Named (Some x)) h l s = absurd (omega (arith, h.0))
 
 -- what two lists want, a and b, as one list: a test of the first has its value, of a byte at least, within it, and one of the second lies behind
 module _ (cat one two : Bytes) (g : good_catalogue cat ≡ true) (u : TypeCode) where
@@ -62,27 +60,27 @@ module _ (cat one two : Bytes) (g : good_catalogue cat ≡ true) (u : TypeCode) 
       → e < length one
       → GoodQualification cat one u (test_at one e) × (meant cat one (test_at one e) ≡ meaning cat (one ++ two) (or_else a (moved_wanted (length one) b)))
   first_of (Named None) b h p q e i l m = absurd (omega arith)
-  first_of (Named (Test o f v)) b h p q e i l m =
-      let z : v ≡ e = omega arith in
-      subst (λ (t : Qualification). GoodQualification cat one u t × (meant cat one t ≡ meant cat (one ++ two) (Test o f v))) (p.1 ∙ ap (test_at one) z)
-      (h, sym (same-meant cat one two u (Test o f v) h))
+  first_of (Named (Some x)) b h p q e i l m =
+      let z : x.value ≡ e = omega arith in
+      subst (λ (t : Qualification). GoodQualification cat one u t × (meant cat one t ≡ meant cat (one ++ two) (Some x))) (p.1 ∙ ap (test_at one) z)
+      (h, sym (same-meant cat one two u (Some x) h))
   first_of Implied Implied h p q e i l m = absurd (omega arith)
   first_of Implied (Named None) h p q e i l m = absurd (omega arith)
-  first_of Implied (Named (Test o f v)) h p q e i l m = absurd (omega arith)
+  first_of Implied (Named (Some x)) h p q e i l m = absurd (omega arith)
 
   second-of : (a b : Wanted) → GoodWanted cat one u a → GoodWanted cat two u b → PlacedWanted two b → (e : ℕ) → e ≡ entry_for 0 (or_else a (moved_wanted (length one) b)) → 3 ≤ e
       → length one ≤ e
       → (3 ≤ e - length one) × GoodQualification cat two u (test_at two (e - length one))
       × (meant cat two (test_at two (e - length one)) ≡ meaning cat (one ++ two) (or_else a (moved_wanted (length one) b)))
   second-of (Named None) b h k q e i l m = absurd (omega arith)
-  second-of (Named (Test o f v)) b h k q e i l m = absurd (omega (arith, h.within, (field-facts cat g f h.first h.last).long-least))
+  second-of (Named (Some x)) b h k q e i l m = absurd (omega (arith, h.within, (field-facts cat g x.field h.first h.last).long-least))
   second-of Implied Implied h k q e i l m = absurd (omega arith)
   second-of Implied (Named None) h k q e i l m = absurd (omega arith)
-  second-of Implied (Named (Test o f v)) h k q e i l m =
-      let z : v ≡ e - length one = omega arith in (
+  second-of Implied (Named (Some x)) h k q e i l m =
+      let z : x.value ≡ e - length one = omega arith in (
         omega (arith, q.0),
         subst (λ (t : Qualification). GoodQualification cat two u t) (q.1 ∙ ap (test_at two) z) k,
-        ap (meant cat two) (sym (q.1 ∙ ap (test_at two) z)) ∙ sym (moved-meant cat one two (Test o f v)),
+        ap (meant cat two) (sym (q.1 ∙ ap (test_at two) z)) ∙ sym (moved-meant cat one two (Some x)),
       )
 
 -- what the two lists want as one
@@ -122,7 +120,7 @@ not_tested t a h n = free a.qualification (rw (ne_eqb a.code.0 t.0 n) at h)
   where
     free : (q : Qualification) → (not (is_qualified q) ≡ true) → q ≡ None
     free None e = refl
-    free (Test o f v) e = absurd (let z : ◌≡◌ {A = ℕ} 0 1 = cc in omega arith)
+    free (Some x) e = absurd (let z : ◌≡◌ {A = ℕ} 0 1 = cc in omega arith)
 
 -- each argument for another type tests nothing, so the first one for it does not either
 others : (t u : TypeCode) (ar : List Argument) → every (is_alone t) ar ≡ true → (u.0 ≡ t.0 → ⊥) → (wanted_of ar u ≡ Implied) ⊎ (wanted_of ar u ≡ Named None)
@@ -139,7 +137,7 @@ others t u (a ∷ ar) h n = elim (Good.is (is_alone t a)) [
 ]
 
 -- LAW: where nothing but type t is tested, the answer is its entry, and every other type is left out or named only
-module _ (t : TypeCode) (ar : List Argument) (e : ℕ) (is : alone_of t ar ≡ Own e) where
+module _ (t : TypeCode) (ar : List Argument) (e : ℕ) (is : alone_of t ar ≡ Some e) where
   alone-told : (every (is_alone t) ar ≡ true) × (e ≡ entry_for 0 (wanted_of ar t))
   unfolding alone_of
   alone-told = elim (Good.is (every (is_alone t) ar)) [

@@ -1,4 +1,5 @@
 -- A type's entry, one argument at a time: the first that names the type sets it, and no later one changes it. Assumes nothing.
+use Rattle.std.specs.Prelude.{None, Some}
 use mathlib.Core.Path.{◌≡◌, sym}
 use mathlib.Core.List.{List, [], ◌∷◌}
 use Prim.Native.Nat.{ℕ, ◌+◌, ◌<◌}
@@ -7,10 +8,8 @@ use lib.Dec.{eqb}
 use lib.ListN.{length}
 use borrow.Author.Tests.{eq-eqb, ne_eqb, eqb-true, eqb-false}
 use Rattle.terms.specs.declared.Argument.{Argument}
-use Rattle.terms.specs.declared.Qualification.{Qualification}
-use Rattle.terms.specs.declared.Qualification.TheVariants.{None, Test}
 use Rattle.terms.specs.Choice.{pick}
-use Rattle.terms.specs.Names.{code}
+use Rattle.terms.specs.Names.{code, Qualification}
 use Rattle.forest.specs.Good.{on, off, is}
 use Rattle.rules.specs.Block.{Bytes, byte}
 use Rattle.arguments.specs.Sound.{Wanted, Implied, Named, Room, qualification_at, untested, wanted_of}
@@ -21,7 +20,7 @@ use Rattle.arguments.proofs.Placed.{Placed, PlacedWanted, or_else, moved_wanted,
 -- a value begins at byte 3 at least, so that an argument's entry is never 1
 pub marked_other : (list : Bytes) (base : ℕ) (q : Qualification) → Placed list q → marked base q ≡ 1 → ⊥
 marked_other list base None h e = omega arith
-marked_other list base (Test o f v) h e = omega (arith, h.0)
+marked_other list base (Some x) h e = omega (arith, h.0)
 
 fits-at : (list : Bytes) (base at : ℕ) → base + length list < 65536 → Room list at → marked base (qualification_at list at) < 65536
 unfolding qualification_at

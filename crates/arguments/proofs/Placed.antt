@@ -1,4 +1,5 @@
 -- Where the value of a test stands: behind its operator and its field number; and what two lists as one want of a type. Assumes nothing.
+use Rattle.std.specs.Prelude.{None, Some}
 use mathlib.Core.Path.{◌≡◌, refl, ap, sym, ◌∙◌}
 use mathlib.Core.List.{List, [], ◌∷◌, ◌++◌, map, append-nil}
 use Prim.Native.Nat.{ℕ, zero, suc, ◌+◌, ◌-◌, ◌≤◌}
@@ -8,10 +9,8 @@ use lib.ListN.{length}
 use borrow.Author.Tests.{eqb-true, eqb-false}
 use Rattle.terms.specs.declared.TypeCode.{TypeCode}
 use Rattle.terms.specs.declared.Argument.{Argument}
-use Rattle.terms.specs.declared.Qualification.{Qualification}
-use Rattle.terms.specs.declared.Qualification.TheVariants.{None, Test}
 use Rattle.terms.specs.declared.Status.TheVariants.{Blank}
-use Rattle.terms.specs.Names.{code, same_type}
+use Rattle.terms.specs.Names.{code, same_type, Qualification}
 use Rattle.forest.specs.Forest.{inside, outside, side}
 use Rattle.forest.specs.Good.{on, off, is}
 use Rattle.rules.specs.Block.{Bytes, byte}
@@ -26,7 +25,7 @@ use Rattle.arguments.proofs.Cut.{moved_test, moved, parts}
 -- a test is told whole by where its value begins
 abbrev pub Placed : Bytes → Qualification → Type 0
 Placed list None = Unit {0}
-Placed list (Test o f v) = (3 ≤ v) × (Test o f v ≡ test_at list v)
+Placed list (Some x) = (3 ≤ x.value) × (Some x ≡ test_at list x.value)
 
 -- since an argument's operator and field number are read from the two bytes before its value
 pub placed_at : (list : Bytes) (at : ℕ) → Placed list (qualification_at list at)
@@ -111,7 +110,7 @@ wanted-moved k (a ∷ m) t = elim (is (same_type a.code t)) [
 pub entry-moved : (k : ℕ) (w : Wanted) → entry_for 0 (moved_wanted k w) ≡ entry_for k w
 entry-moved k Implied = refl
 entry-moved k (Named None) = refl
-entry-moved k (Named (Test o f v)) = omega arith
+entry-moved k (Named (Some x)) = omega arith
 
 -- LAW: the arguments of two lists as one; the second may be empty
 pub pair-arguments : (cat one two : Bytes) → Pair cat one two

@@ -1,4 +1,5 @@
 -- From one argument to the next: what is left of the list there, as it is read and as a sound list is walked. Assumes nothing.
+use Rattle.std.specs.Prelude.{Err, Ok, Result}
 use mathlib.Core.Path.{◌≡◌, refl, ap, sym, ◌∙◌}
 use mathlib.Core.Bool.{true, ◌&&◌}
 use mathlib.Core.List.{[], ◌∷◌}
@@ -12,15 +13,15 @@ use Rattle.terms.specs.declared.FieldNumber.{FieldNumber}
 use Rattle.terms.specs.declared.Argument.{Argument}
 use Rattle.terms.specs.declared.Status.{Status}
 use Rattle.terms.specs.declared.Status.TheVariants.{Blank, AC, AJ, AK}
-use Rattle.terms.specs.declared.ArgumentRead.{ArgumentRead}
-use Rattle.terms.specs.declared.ArgumentRead.TheVariants.{Got, Fault}
 use Rattle.terms.specs.Names.{code, field, same_type}
+use Rattle.terms.specs.Statuses.{verdict}
+use Rattle.terms.proofs.Verdict.{verdict-fault}
 use Rattle.forest.specs.Good.{on, off, is, both_left, both_right}
 use Rattle.forest.specs.Forest.{inside, outside, side}
 use Rattle.rules.specs.Block.{Bytes, byte}
 use Rattle.rules.specs.Catalogue.{fields, field_type, field_length, field_value}
 use Rattle.rules.specs.Arguments.{ListRead, operator_of, good_next, is_field_of, argument_at, arguments_from, list_read}
-use Rattle.arguments.specs.Sound.{status_of, GoodTest, GoodQualification, rest, qualification_at, next_at, untested, Room}
+use Rattle.arguments.specs.Sound.{GoodTest, GoodQualification, rest, qualification_at, next_at, untested, Room}
 use Rattle.arguments.proofs.Branches.{type-bad, operator-missing, operator-none, operator-bad, field-missing, field-bad}
 use Rattle.arguments.proofs.Branches.{value_at, has_value, value-bad, value-good, value_in, room-none, room-test, next-test}
 
@@ -33,7 +34,7 @@ ended s = record { fault = s; arguments = [] }
 
 -- what is known of an argument that has no fault
 pub record Sound (cat list : Bytes) (before : TypeCode) (at : ℕ) : Type 0 where
-  pub answer : argument_at cat list before at ≡ Got (untested cat list at)
+  pub answer : argument_at cat list before at ≡ Ok (untested cat list at)
   pub type : good_next cat list before (code (byte list at)) ≡ true
   pub room : Room list at
   pub onward : at + 2 ≤ next_at cat list at
@@ -41,7 +42,7 @@ pub record Sound (cat list : Bytes) (before : TypeCode) (at : ℕ) : Type 0 wher
 
 pub data Read (cat list : Bytes) (before : TypeCode) (at : ℕ) : Type 0 where
   sound : Sound cat list before at → Read cat list before at
-  faulty : (s : Status) → (s ≡ Blank → ⊥) → argument_at cat list before at ≡ Fault s → Read cat list before at
+  faulty : (s : Status) → (s ≡ Blank → ⊥) → argument_at cat list before at ≡ Err s → Read cat list before at
 
 ac-fault : AC ≡ Blank → ⊥
 ac-fault e = let z : ◌≡◌ {A = ℕ} 0 1 = cc in omega arith
@@ -128,11 +129,11 @@ module _ (cat list : Bytes) where
   from_end zero before at h = refl
   from_end (suc n) before at h = rw (arguments_from, le-leb (length list) at h)
 
-  from-fault : (n : ℕ) (before : TypeCode) (at : ℕ) (s : Status) → at < length list → argument_at cat list before at ≡ Fault s → arguments_from cat list (suc n) before at ≡ ended s
+  from-fault : (n : ℕ) (before : TypeCode) (at : ℕ) (s : Status) → at < length list → argument_at cat list before at ≡ Err s → arguments_from cat list (suc n) before at ≡ ended s
   unfolding arguments_from
   from-fault n before at s h e = rw (arguments_from, lt-leb (length list) at h, e)
 
-  from-got : (n : ℕ) (before : TypeCode) (at : ℕ) (a : Argument) → at < length list → argument_at cat list before at ≡ Got a
+  from-got : (n : ℕ) (before : TypeCode) (at : ℕ) (a : Argument) → at < length list → argument_at cat list before at ≡ Ok a
       → arguments_from cat list (suc n) before at ≡ added a (arguments_from cat list n a.code a.next)
   unfolding arguments_from
   from-got n before at a h e = rw (arguments_from, lt-leb (length list) at h, e)
@@ -163,7 +164,7 @@ module _ (cat list : Bytes) where
     unfolding rest
     rest_end h = from_end cat list (length list - at) before at h
 
-    pub rest-fault : (s : Status) → at < length list → argument_at cat list before at ≡ Fault s → rest cat list before at ≡ ended s
+    pub rest-fault : (s : Status) → at < length list → argument_at cat list before at ≡ Err s → rest cat list before at ≡ ended s
     unfolding rest
     rest-fault s h e = let z : length list - at ≡ suc (length list - at - 1) = omega arith in rw z (from-fault cat list (length list - at - 1) before at s h e)
 
@@ -190,18 +191,24 @@ module _ (cat list : Bytes) where
     step-fault h e = sym (ap (λ (l : ListRead). l.fault) (step-rest h e)) ∙ e
 
     -- the same for an argument that was read
-    module _ {r : ArgumentRead} (h : at < length list) (e : r ≡ argument_at cat list before at) where
-      got-is : {a : Argument} → r ≡ Got a → (a ≡ untested cat list at) × Sound cat list before at
+    module _ {r : Result Argument Status} (h : at < length list) (e : r ≡ argument_at cat list before at) where
+      got-is : {a : Argument} → r ≡ Ok a → (a ≡ untested cat list at) × Sound cat list before at
       got-is g = elim (read cat list before at) [
         | sound s ↦ (let z = s.answer in (cc, s))
         | faulty s f z ↦ absurd (let y : ◌≡◌ {A = ℕ} 0 1 = cc in omega arith)
       ]
 
-      pub got-rest : {a : Argument} → r ≡ Got a → (rest cat list a.code a.next).fault ≡ (rest cat list before at).fault
+      pub got-rest : {a : Argument} → r ≡ Ok a → (rest cat list a.code a.next).fault ≡ (rest cat list before at).fault
       got-rest g = let s = got-is g in rw s.0 (sym (ap (λ (l : ListRead). l.fault) (rest-next h s.1)))
 
-      pub got-onward : {a : Argument} → r ≡ Got a → at < a.next
+      pub got-onward : {a : Argument} → r ≡ Ok a → at < a.next
       got-onward g = let s = got-is g in rw s.0 (omega (arith, s.1.onward))
 
-      pub got_fault : {s t : Status} → r ≡ Fault s → t ≡ status_of r → t ≡ (rest cat list before at).fault
-      got_fault {s} g q = q ∙ ap status_of g ∙ sym (ap (λ (l : ListRead). l.fault) (rest-fault s h (sym e ∙ g)))
+      pub got_fault : {s : Status} → r ≡ Err s → ◌≡◌ {A = Result (Unit {0}) Status} (Err s) (verdict (rest cat list before at).fault)
+      got_fault {s} g = elim (read cat list before at) [
+        | sound k ↦ absurd (let y : Ok (untested cat list at) ≡ Err s = sym k.answer ∙ sym e ∙ g in let z : ◌≡◌ {A = ℕ} 0 1 = cc in omega arith)
+        | faulty t f k ↦
+            let y : ◌≡◌ {A = Result Argument Status} (Err s) (Err t) = sym g ∙ e ∙ k in
+            let q : s ≡ t = cc in
+            rw (rest-fault s h (sym e ∙ g)) (sym (verdict-fault s (λ b. f (sym q ∙ b))))
+      ]

@@ -1,4 +1,6 @@
 -- Lists that test nothing but one type, one argument at a time, and two of them as one. Assumes nothing.
+use Rattle.terms.specs.Names.{Qualification}
+use Rattle.std.specs.Prelude.{None, Some, Option}
 use mathlib.Core.Path.{◌≡◌, refl, ap, sym, ◌∙◌}
 use mathlib.Core.Bool.{Bool, true, false, ◌&&◌}
 use mathlib.Core.List.{List, [], ◌∷◌, ◌++◌, map}
@@ -8,8 +10,6 @@ use lib.ListN.{length}
 use borrow.Author.Tests.{eq-eqb, ne_eqb}
 use Rattle.terms.specs.declared.TypeCode.{TypeCode}
 use Rattle.terms.specs.declared.Argument.{Argument}
-use Rattle.terms.specs.declared.Qualification.{Qualification}
-use Rattle.terms.specs.declared.Qualification.TheVariants.{None, Test}
 use Rattle.terms.specs.Choice.{pick}
 use Rattle.forest.specs.Good.{on, off, is}
 use Rattle.rules.specs.Block.{Bytes, every}
@@ -17,8 +17,6 @@ use Rattle.rules.specs.Arguments.{list_read, is_qualified}
 use Rattle.arguments.specs.Sound.{SoundList, untested, wanted_of}
 use Rattle.arguments.specs.Asked.{Pair, marked, entry_for, set_once}
 use Rattle.arguments.specs.Alone.{is_alone, alone_behind, alone_of}
-use Rattle.arguments.specs.declared.alone.Tests.{Tests}
-use Rattle.arguments.specs.declared.alone.Tests.TheVariants.{Others, Own}
 use Rattle.rules.proofs.Every.{every_in, every-out, every_append, every_map}
 use Rattle.arguments.proofs.Cut.{moved_test, moved}
 use Rattle.arguments.proofs.Walk.{Walked, left, walked_start, left-start, left_end, walked_next, left-next}
@@ -27,14 +25,14 @@ use Rattle.arguments.proofs.Once.{marked_other, once-end, once-here, once-kept, 
 
 module _ (base : ℕ) (t : TypeCode) (e : ℕ) where
   -- where no argument is left, nothing more is tested
-  pub alone-end : Own e ≡ alone_behind base t [] e
+  pub alone-end : Some e ≡ alone_behind base t [] e
   unfolding alone_behind every
-  alone-end = ap Own (sym (once-end base t.0 e))
+  alone-end = ap Some (sym (once-end base t.0 e))
 
   module _ (a : Argument) (ar : List Argument) where
     -- another type: tested, or named only
     module _ (n : a.code.0 ≡ t.0 → ⊥) where
-      pub alone-other : is_qualified a.qualification ≡ true → Others ≡ alone_behind base t (a ∷ ar) e
+      pub alone-other : is_qualified a.qualification ≡ true → None ≡ alone_behind base t (a ∷ ar) e
       unfolding alone_behind
       alone-other q = rw (every-out (is_alone t) a ar (rw (ne_eqb a.code.0 t.0 n, q)))
 
@@ -65,7 +63,7 @@ module _ (cat list : Bytes) (base : ℕ) (t : TypeCode) (first : ℕ) where
   telling-start s = record { walk = walked_start cat list s; same = rw (left-start cat list s) }
 
   module _ (e : ℕ) (at : ℕ) (m : Telling cat list base t first e at) where
-    pub telling-end : length list ≤ at → Own e ≡ alone_behind base t (list_read cat list).arguments first
+    pub telling-end : length list ≤ at → Some e ≡ alone_behind base t (list_read cat list).arguments first
     telling-end h = alone-end base t e ∙ sym (ap (λ (ar : List Argument). alone_behind base t ar e) (left_end cat list at h m.walk)) ∙ m.same
 
     onward : at < length list → List Argument
@@ -82,7 +80,7 @@ module _ (cat list : Bytes) (base : ℕ) (t : TypeCode) (first : ℕ) where
       unfolding onward
       told v z = let q = z ∙ taken in rw y (record { walk = walked_next cat list at h m.walk; same = q })
 
-      pub telling-other : (a.code.0 ≡ t.0 → ⊥) → is_qualified a.qualification ≡ true → Others ≡ alone_behind base t (list_read cat list).arguments first
+      pub telling-other : (a.code.0 ≡ t.0 → ⊥) → is_qualified a.qualification ≡ true → None ≡ alone_behind base t (list_read cat list).arguments first
       telling-other n q = alone-other base t e a (onward h) n q ∙ taken
 
       pub telling-passed : (a.code.0 ≡ t.0 → ⊥) → is_qualified a.qualification ≡ false → Telling cat list base t first e a.next
@@ -98,7 +96,7 @@ module _ (cat list : Bytes) (base : ℕ) (t : TypeCode) (first : ℕ) where
 -- moved arguments test what they tested
 moved-tested : (k : ℕ) (q : Qualification) → is_qualified (moved_test k q) ≡ is_qualified q
 moved-tested k None = refl
-moved-tested k (Test o f v) = refl
+moved-tested k (Some x) = refl
 
 -- LAW: two lists as one test nothing but type t where each does
 module _ (cat one two : Bytes) (t : TypeCode) (p : Pair cat one two) where
@@ -111,15 +109,15 @@ module _ (cat one two : Bytes) (t : TypeCode) (p : Pair cat one two) where
       ∙ every_append (is_alone t) l (map (moved (length one)) m)
       ∙ ap (λ (b : Bool). every (is_alone t) l && b) (every_map (is_alone t) (moved (length one)) m (λ a. rw (moved-tested (length one) a.qualification)))
 
-  module _ {r : Tests} (e : r ≡ alone_behind 0 t (list_read cat one).arguments 1) where
-    pub joined-others : r ≡ Others → Others ≡ alone_of t (list_read cat (one ++ two)).arguments
+  module _ {r : Option ℕ} (e : r ≡ alone_behind 0 t (list_read cat one).arguments 1) where
+    pub joined-others : r ≡ None → None ≡ alone_of t (list_read cat (one ++ two)).arguments
     unfolding alone_behind alone_of
     joined-others o = elim (is (every (is_alone t) (list_read cat one).arguments)) [
       | on y ↦ absurd (let z = rw y at e in let k : ◌≡◌ {A = ℕ} 0 1 = cc in omega arith)
       | off y ↦ rw (all-joined, y)
     ]
 
-    own-joined : {n : ℕ} → r ≡ Own n → alone_behind (length one) t (list_read cat two).arguments n ≡ alone_of t (list_read cat (one ++ two)).arguments
+    own-joined : {n : ℕ} → r ≡ Some n → alone_behind (length one) t (list_read cat two).arguments n ≡ alone_of t (list_read cat (one ++ two)).arguments
     unfolding alone_behind alone_of set_once
     own-joined {n} o = elim (is (every (is_alone t) (list_read cat one).arguments)) [
       | off y ↦ absurd (let z = rw y at e in let k : ◌≡◌ {A = ℕ} 0 1 = cc in omega arith)
@@ -127,9 +125,9 @@ module _ (cat one two : Bytes) (t : TypeCode) (p : Pair cat one two) where
           let z = rw y at e in
           let k : n ≡ entry_for 0 (wanted_of (list_read cat one).arguments t) = cc in
           rw (all-joined, y, k, pair-wanted cat one two t p)
-          (ap (λ (x : ℕ). pick (every (is_alone t) (list_read cat two).arguments) (Own x) Others)
+          (ap (λ (x : ℕ). pick (every (is_alone t) (list_read cat two).arguments) (Some x) None)
           (once-joined one (length one) (wanted_of (list_read cat one).arguments t) (wanted_of (list_read cat two).arguments t) (wanted-placed cat one t p.first)))
     ]
 
-    pub joined-own : {n : ℕ} → r ≡ Own n → {s : Tests} → s ≡ alone_behind (length one) t (list_read cat two).arguments n → s ≡ alone_of t (list_read cat (one ++ two)).arguments
+    pub joined-own : {n : ℕ} → r ≡ Some n → {s : Option ℕ} → s ≡ alone_behind (length one) t (list_read cat two).arguments n → s ≡ alone_of t (list_read cat (one ++ two)).arguments
     joined-own o h = h ∙ own-joined o

@@ -10,10 +10,8 @@ use Rattle.terms.specs.declared.TypeCode.{TypeCode}
 use Rattle.terms.specs.declared.FieldNumber.{FieldNumber}
 use Rattle.terms.specs.declared.Operator.{Operator}
 use Rattle.terms.specs.declared.Argument.{Argument}
-use Rattle.terms.specs.declared.Qualification.{Qualification}
-use Rattle.terms.specs.declared.Qualification.TheVariants.{Test}
 use Rattle.terms.specs.declared.Status.TheVariants.{Blank}
-use Rattle.terms.specs.Names.{code, same_type}
+use Rattle.terms.specs.Names.{code, same_type, Qualification, test}
 use Rattle.forest.specs.Forest.{inside, outside, side}
 use Rattle.forest.specs.Good.{on, off, is, is_nil}
 use Rattle.forest.specs.Numbers.{is_in}
@@ -138,8 +136,8 @@ module _ (cat list : Bytes) where
       pub wanted-asks : (q : Qualification) → wanted_of (list_read cat list).arguments t ≡ Named q → Asks (last_argument (list_read cat list).arguments).code t q
       wanted-asks q w = down-named s.catalogue (code 0) (list_read cat list).arguments t q (sound-down s) w
 
-      pub wanted-test : (o : Operator) (f : FieldNumber) (v : ℕ) → wanted_of (list_read cat list).arguments t ≡ Named (Test o f v) → GoodTest cat list t o f v
-      wanted-test o f v w = (wanted-asks (Test o f v) w).test
+      pub wanted-test : (o : Operator) (f : FieldNumber) (v : ℕ) → wanted_of (list_read cat list).arguments t ≡ Named (test o f v) → GoodTest cat list t o f v
+      wanted-test o f v w = (wanted-asks (test o f v) w).test
 
       outside_of : (w : Wanted) → wanted_of (list_read cat list).arguments t ≡ w → is_in t.0 (lineage cat (last_argument (list_read cat list).arguments).code) ≡ false → w ≡ Implied
       outside_of Implied e o = refl

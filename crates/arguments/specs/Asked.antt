@@ -1,11 +1,9 @@
 -- What two lists ask as one list, type by type, in a row of entries. Assumes nothing: these are definitions.
-use Rattle.std.specs.Prelude.{◌≡◌, List, ◌++◌, ℕ, ◌+◌, ◌-◌, ◌<◌, eqb, length}
+use Rattle.std.specs.Prelude.{◌≡◌, List, ◌++◌, ℕ, ◌+◌, ◌-◌, ◌<◌, eqb, length, None, Some}
 use Rattle.terms.specs.declared.TypeCode.{TypeCode}
-use Rattle.terms.specs.declared.Qualification.{Qualification}
-use Rattle.terms.specs.declared.Qualification.TheVariants.{None, Test}
 use Rattle.terms.specs.declared.Argument.{Argument}
 use Rattle.terms.specs.Choice.{pick}
-use Rattle.terms.specs.Names.{code, field}
+use Rattle.terms.specs.Names.{code, field, Qualification, test}
 use Rattle.forest.specs.Numbers.{is_in}
 use Rattle.rules.specs.Block.{Bytes, byte}
 use Rattle.rules.specs.Catalogue.{lineage}
@@ -21,7 +19,7 @@ pub record Pair (cat one two : Bytes) : Type 0 where
 -- the entry of an argument in a list that begins this many bytes further on: 2, for it tests nothing; else where the value of its test begins
 abbrev pub marked : ℕ → Qualification → ℕ
 marked base None = 2
-marked base (Test o f v) = base + v
+marked base (Some x) = base + x.value
 
 -- an offset that fits
 abbrev pub InLists : ℕ → Qualification → Type 0
@@ -34,7 +32,7 @@ entry_for base (Named q) = marked base q
 
 -- the test whose value begins at byte v: operator and field number stand before it
 abbrev pub test_at : Bytes → ℕ → Qualification
-test_at list v = Test (operator_of (byte list (v - 2))) (field (byte list (v - 1))) v
+test_at list v = test (operator_of (byte list (v - 2))) (field (byte list (v - 1))) v
 
 -- a level of the completed list, and nothing named yet
 unfoldable pub above_entry : Bytes → TypeCode → ℕ → ℕ

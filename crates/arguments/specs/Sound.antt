@@ -1,17 +1,12 @@
 -- A list that has no fault: its arguments as they stand, and what it asks of a type. Assumes nothing: these are definitions.
-use Rattle.std.specs.Prelude.{◌≡◌, true, false, List, [], ◌∷◌, ℕ, ◌+◌, ◌-◌, ◌<◌, ◌≤◌, eqb, length}
+use Rattle.std.specs.Prelude.{◌≡◌, true, false, List, [], ◌∷◌, ℕ, ◌+◌, ◌-◌, ◌<◌, ◌≤◌, eqb, length, None, Some}
 use Rattle.terms.specs.declared.TypeCode.{TypeCode}
 use Rattle.terms.specs.declared.FieldNumber.{FieldNumber}
 use Rattle.terms.specs.declared.Operator.{Operator}
-use Rattle.terms.specs.declared.Qualification.{Qualification}
-use Rattle.terms.specs.declared.Qualification.TheVariants.{None, Test}
 use Rattle.terms.specs.declared.Argument.{Argument}
-use Rattle.terms.specs.declared.Status.{Status}
 use Rattle.terms.specs.declared.Status.TheVariants.{Blank}
-use Rattle.terms.specs.declared.ArgumentRead.{ArgumentRead}
-use Rattle.terms.specs.declared.ArgumentRead.TheVariants.{Got, Fault}
 use Rattle.terms.specs.Choice.{pick}
-use Rattle.terms.specs.Names.{code, field, same_type}
+use Rattle.terms.specs.Names.{code, field, same_type, Qualification, test}
 use Rattle.rules.specs.Block.{Bytes, byte, part}
 use Rattle.rules.specs.Order.{is_value}
 use Rattle.rules.specs.Catalogue.{fields, field_type, field_length, field_value, good_catalogue}
@@ -32,12 +27,7 @@ pub record GoodTest (cat list : Bytes) (t : TypeCode) (o : Operator) (f : FieldN
 
 abbrev pub GoodQualification : Bytes → Bytes → TypeCode → Qualification → Type 0
 GoodQualification cat list t None = Unit {0}
-GoodQualification cat list t (Test o f v) = GoodTest cat list t o f v
-
--- what an argument's answer says of the list
-abbrev pub status_of : ArgumentRead → Status
-status_of (Got a) = Blank
-status_of (Fault s) = s
+GoodQualification cat list t (Some x) = GoodTest cat list t x.operator x.field x.value
 
 -- the list from byte `at` on: each argument takes at least two bytes, so as many as there are bytes left are enough
 unfoldable pub rest : Bytes → Bytes → TypeCode → ℕ → ListRead
@@ -45,7 +35,7 @@ rest cat list before at = arguments_from cat list (length list - at) before at
 
 -- an argument of a sound list, as it stands: what `argument_at` makes of it, without its tests
 unfoldable pub qualification_at : Bytes → ℕ → Qualification
-qualification_at list at = pick (eqb (byte list (at + 1)) 0) None (Test (operator_of (byte list (at + 1))) (field (byte list (at + 2))) (at + 3))
+qualification_at list at = pick (eqb (byte list (at + 1)) 0) None (test (operator_of (byte list (at + 1))) (field (byte list (at + 2))) (at + 3))
 
 unfoldable pub next_at : Bytes → Bytes → ℕ → ℕ
 next_at cat list at = pick (eqb (byte list (at + 1)) 0) (at + 2) (at + 3 + field_length cat (field (byte list (at + 2))))

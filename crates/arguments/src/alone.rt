@@ -6,19 +6,11 @@ ghost use Rattle.arguments.specs.Asked.{Pair};
 ghost use Rattle.arguments.specs.Alone.{alone_of, alone_behind};
 
 use crate::asked::entry_of;
-use crate::lookup::is_qualified;
 use crate::read::argument_at;
 use terms::TypeCode;
 
-// Another type is tested too; or none is, and this is the entry of the one.
-#[derive(Clone, Copy)]
-pub enum Tests {
-    Others,
-    Own(usize),
-}
-
-// One list's part, which begins `base` bytes behind the front of the first; e is the entry of t before it.
-fn alone_in(cat: &[u8], list: &[u8], base: usize, t: TypeCode, e: usize) -> Tests
+// One list's part, which begins `base` bytes behind the front of the first; e is the entry of t before it. None: another type is tested too.
+fn alone_in(cat: &[u8], list: &[u8], base: usize, t: TypeCode, e: usize) -> Option<usize>
     requires { SoundList cat.now list.now × (base + length list.now < 65536) }
     ensures { result ≡ alone_behind base t (list_read cat.now list.now).arguments e }
 {
@@ -28,25 +20,22 @@ fn alone_in(cat: &[u8], list: &[u8], base: usize, t: TypeCode, e: usize) -> Test
         let a = argument_at(cat, list, at);
         let q = a.qualification;
         if a.code.0 != t.0 {
-            if is_qualified(q) {
-                return Tests::Others;
+            if q.is_some() {
+                return None;
             }
         } else if own == 1 {
             own = entry_of(base, q);
         }
         at = a.next;
     }
-    Tests::Own(own)
+    Some(own)
 }
 
-// Of the two lists as one.
-pub fn alone(cat: &[u8], one: &[u8], two: &[u8], t: TypeCode) -> Tests
+// The entry of t in the two lists as one, if they test no other type.
+pub fn alone(cat: &[u8], one: &[u8], two: &[u8], t: TypeCode) -> Option<usize>
     requires { Pair cat.now one.now two.now }
     ensures { result ≡ alone_of t (list_read cat.now (one.now ++ two.now)).arguments }
 {
-    let first = alone_in(cat, one, 0, t, 1);
-    let Tests::Own(e) = first else {
-        return Tests::Others;
-    };
+    let e = alone_in(cat, one, 0, t, 1)?;
     alone_in(cat, two, one.len(), t, e)
 }

@@ -19,8 +19,8 @@ pub(crate) fn entry_of(base: usize, q: Qualification) -> usize
     ensures { result ≡ marked base q }
 {
     match q {
-        Qualification::None => 2,
-        Qualification::Test(_, _, v) => base + v,
+        None => 2,
+        Some(test) => base + test.value,
     }
 }
 

@@ -1,11 +1,11 @@
 // The last argument of a sound list, and of two lists as one.
 ghost use Rattle.std.specs.Prelude.{◌≡◌, ◌++◌, ◌+◌, eqb, length};
-ghost use Rattle.rules.specs.Arguments.{last_argument, is_qualified, list_read};
+ghost use Rattle.rules.specs.Arguments.{last_argument, list_read};
 ghost use Rattle.arguments.specs.Sound.{SoundList};
 ghost use Rattle.arguments.specs.Asked.{Pair};
 
 use crate::read::argument_at;
-use terms::{Argument, Qualification, TypeCode};
+use terms::{Argument, TypeCode};
 
 // The last argument; for the empty list, one of no type.
 pub fn last_of(cat: &[u8], list: &[u8]) -> Argument
@@ -14,7 +14,7 @@ pub fn last_of(cat: &[u8], list: &[u8]) -> Argument
 {
     let mut last = Argument {
         code: TypeCode(0),
-        qualification: Qualification::None,
+        qualification: None,
         next: 0,
     };
     while last.next < list.len() {
@@ -42,14 +42,4 @@ pub fn are_empty(one: &[u8], two: &[u8]) -> bool
         return false;
     }
     two.len() == 0
-}
-
-// Whether an argument tests anything.
-pub fn is_qualified(q: Qualification) -> bool
-    ensures { result ≡ is_qualified q }
-{
-    match q {
-        Qualification::None => false,
-        Qualification::Test(_, _, _) => true,
-    }
 }

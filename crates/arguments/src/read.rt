@@ -1,14 +1,15 @@
 // A list read argument by argument, up to its first fault (R26, R27).
 ghost use Rattle.std.specs.Prelude.{◌≡◌, []};
 ghost use Rattle.rules.specs.Arguments.{operator_of, good_next, is_field_of, argument_at, list_read};
-ghost use Rattle.arguments.specs.Sound.{Room, untested, rest, status_of};
+ghost use Rattle.terms.specs.Statuses.{verdict};
+ghost use Rattle.arguments.specs.Sound.{Room, untested, rest};
 
 use blocks::wide;
 use catalogue::entry_bytes::fields;
 use catalogue::fields::{field_length, field_type, field_value};
 use catalogue::lineage::is_beneath;
 use catalogue::type_range::is_type;
-use terms::{Argument, ArgumentRead, FieldNumber, Operator, Qualification, Status, TypeCode};
+use terms::{Argument, FieldNumber, Operator, Status, Test, TypeCode};
 use values::is_number;
 
 // R25: the operator of a number. A list with another has answered AJ before this is asked.
@@ -35,14 +36,18 @@ pub(crate) fn argument_at(cat: &[u8], list: &[u8], at: usize) -> Argument
     if o == 0 {
         return Argument {
             code: t,
-            qualification: Qualification::None,
+            qualification: None,
             next: at + 2,
         };
     }
     let f = FieldNumber(list[at + 2]);
     Argument {
         code: t,
-        qualification: Qualification::Test(operator_of(o), f, at + 3),
+        qualification: Some(Test {
+            operator: operator_of(o),
+            field: f,
+            value: at + 3,
+        }),
         next: at + 3 + wide(field_length(cat, f)),
     }
 }
@@ -75,78 +80,70 @@ fn is_field_of(cat: &[u8], t: TypeCode, f: FieldNumber) -> bool
 
 // The argument that begins at byte `at`. Past the end of the list there is no type. The field's value type is read while its entry is at hand; any bytes
 // are a value where it is not packed.
-pub fn read_argument(cat: &[u8], list: &[u8], before: TypeCode, at: usize) -> ArgumentRead
+pub fn read_argument(
+    cat: &[u8],
+    list: &[u8],
+    before: TypeCode,
+    at: usize,
+) -> Result<Argument, Status>
     ensures { result ≡ argument_at cat.now list.now before at }
 {
     if list.len() <= at {
-        return ArgumentRead::Fault(Status::AC);
+        return Err(Status::AC);
     }
     let t = TypeCode(list[at]);
     if !is_next(cat, before, t) {
-        return ArgumentRead::Fault(Status::AC);
+        return Err(Status::AC);
     }
     if list.len() <= at + 1 {
-        return ArgumentRead::Fault(Status::AJ);
+        return Err(Status::AJ);
     }
     let o = list[at + 1];
     if o == 0 {
-        return ArgumentRead::Got(argument_at(cat, list, at));
+        return Ok(argument_at(cat, list, at));
     }
     if 6 < o {
-        return ArgumentRead::Fault(Status::AJ);
+        return Err(Status::AJ);
     }
     if list.len() <= at + 2 {
-        return ArgumentRead::Fault(Status::AJ);
+        return Err(Status::AJ);
     }
     let f = FieldNumber(list[at + 2]);
     if !is_field_of(cat, t, f) {
-        return ArgumentRead::Fault(Status::AK);
+        return Err(Status::AK);
     }
     let w = field_value(cat, f);
     let a = argument_at(cat, list, at);
     let next = a.next;
     if list.len() < next {
-        return ArgumentRead::Fault(Status::AJ);
+        return Err(Status::AJ);
     }
     if w != 1 {
-        return ArgumentRead::Got(a);
+        return Ok(a);
     }
     if !is_number(&list[at + 3..next]) {
-        return ArgumentRead::Fault(Status::AJ);
+        return Err(Status::AJ);
     }
-    ArgumentRead::Got(a)
+    Ok(a)
 }
 
-// What a fault answers.
-fn status_of(read: ArgumentRead) -> Status
-    ensures { result ≡ status_of read }
-{
-    match read {
-        ArgumentRead::Got(_) => Status::Blank,
-        ArgumentRead::Fault(s) => s,
-    }
-}
-
-// The first fault of a list that is read on behind an argument of this type; Blank, if there is none.
-pub fn fault_behind(cat: &[u8], list: &[u8], last: TypeCode) -> Status
-    ensures { result ≡ (rest cat.now list.now last 0).fault }
+// The first fault of a list that is read on behind an argument of this type.
+pub fn fault_behind(cat: &[u8], list: &[u8], last: TypeCode) -> Result<(), Status>
+    ensures { result ≡ verdict (rest cat.now list.now last 0).fault }
 {
     let mut before = last;
     let mut at = 0;
     while at < list.len() {
-        let read = read_argument(cat, list, before, at);
-        let ArgumentRead::Got(a) = read else {
-            return status_of(read);
-        };
+        let a = read_argument(cat, list, before, at)?;
         before = a.code;
         at = a.next;
     }
-    Status::Blank
+    Ok(())
 }
 
-// R26: the list's first fault; Blank, if there is none.
-pub fn fault(cat: &[u8], list: &[u8]) -> Status
-    ensures { result ≡ (list_read cat.now list.now).fault }
+// R26: the list's first fault.
+pub fn fault(cat: &[u8], list: &[u8]) -> Result<(), Status>
+    ensures { result ≡ verdict (list_read cat.now list.now).fault }
 {
     fault_behind(cat, list, TypeCode(0))
 }

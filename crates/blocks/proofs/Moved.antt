@@ -1,23 +1,15 @@
 -- Bytes that are moved or written part by part. `paste d at s n`, of the kit, is d with the first n bytes of s from byte `at` on. Assumes nothing.
 use mathlib.Core.Path.{◌≡◌, sym, ap, ◌∙◌}
 use mathlib.Core.List.{[], ◌++◌, append_assoc, append-nil}
-use Prim.Native.Nat.{ℕ, suc, ◌+◌, ◌-◌, ◌≤◌, ◌<◌}
+use Prim.Native.Nat.{ℕ, ◌+◌, ◌-◌, ◌≤◌}
 use native.Mathlib.Nat.{add-zero, sub-zero, zero-add, add_assoc}
-use native.Mathlib.Numerals.{add-one}
 use native.Mathlib.Omega.{arith}
-use lib.ListN.{length, take, drop, set, length-drop, drop_of_length-le, take-append-drop}
-use lib.Seq.{paste, paste-zero, length_paste_head, drop-paste, drop-cons, append_snoc, set_split, take_all, length-take-le}
+use lib.ListN.{length, take, drop, length-drop, drop_of_length-le, take-append-drop}
+use lib.Seq.{paste, paste-zero, length_paste_head, drop-paste, take_all, length-take-le}
 use lib.Seq.{take-append-le, take-append-add, drop-append-le, take-take, drop-drop, take-add, drop_at}
-use borrow.Rule.Slice.PartMut.{mid_of, put_mid}
-use Rattle.rules.specs.Block.{Bytes, byte}
-use Rattle.blocks.proofs.Lent.{anew, put-part, lent-tail}
-
--- a byte that is copied is a part of one byte
-pub one_byte : (t : Bytes) (from to : ℕ) → from < length t → to < length t → set t to (byte t from) ≡ paste t to (drop from t) 1
-one_byte t from to h k =
-    set_split t to (byte t from) k
-    ∙ sym (append_snoc (take to t) (byte t from) (drop (suc to) t))
-    ∙ rw (add-one, drop-cons t from 0)
+use borrow.Rule.Slice.PartMut.{put_mid}
+use Rattle.rules.specs.Block.{Bytes}
+use Rattle.blocks.proofs.Lent.{lent-tail}
 
 -- where no byte is put nothing changes
 put-none : (d s : Bytes) (at n : ℕ) → d ≡ paste d at s (n - n)
@@ -57,19 +49,6 @@ lent-more s d t y i j k l m n e f =
     lent-tail (λ (u : Bytes). take k (take (length s - j) (drop j s)) ++ drop k u) t y j f
     ∙ simp (w, drop-drop, ← append_assoc)
     (ap (λ (u : Bytes). paste u j (drop j s) k) e ∙ simp zero-add at (put-more d s 0 i j k (omega arith) l m n))
-
--- k bytes are put over all of z, and then, as b, into another part of where they came from
-pub carried : (t z b y : Bytes) (from to k : ℕ) → from + k ≤ length t → to + k ≤ length t → length z ≡ k
-    → b ≡ mid_of from (from + k - from) t ++ drop (length (mid_of from (from + k - from) t)) z → y ≡ b ++ drop (length b) (mid_of to (to + k - to) t)
-    → put_mid to (to + k - to) t y ≡ paste t to (drop from t) k
-carried t z b y from to k h m l e f =
-    let q : from + k - from ≡ k = omega arith in
-    let n : length (take k (drop from t)) ≡ k = length-take-le k (drop from t) (simp length-drop (omega arith)) in
-    let a : b ≡ take k (drop from t) = anew (take k (drop from t)) z b (omega arith) (rw q at e) in
-    let o : length b ≡ k = ap length a ∙ n in
-    put-part t b y to (to + k) (omega arith) (omega arith) m f
-    ∙ ap (λ (u : Bytes). take to t ++ (u ++ drop (to + k) t)) a
-    ∙ sym (append_assoc (take to t) (take k (drop from t)) (drop (to + k) t))
 
 -- a part that lies within p is the same whatever lies behind p
 within : (p q r : Bytes) (j k : ℕ) → j + k ≤ length p → take k (drop j (p ++ q)) ≡ take k (drop j (p ++ r))

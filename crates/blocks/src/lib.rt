@@ -17,7 +17,7 @@ pub fn wide(b: u8) -> usize
 pub fn byte_at(b: &[u8], i: usize) -> u8
     ensures { result ≡ byte b.now i }
 {
-    if i < b.len() { b[i] } else { 0 }
+    b.get(i).copied().unwrap_or(0)
 }
 
 // The 16-bit number at byte i, high byte first.
@@ -34,17 +34,9 @@ pub fn word_at(b: &[u8], i: usize) -> usize
 }
 
 // Whether a block begins with H, D and this letter, and has version 1.
+#[tactic(auto, unfolding(rules::specs::Block::marked))]
 pub fn is_marked(letter: u8, b: &[u8]) -> bool
     ensures { result ≡ marked letter b.now }
 {
-    if byte_at(b, 0) != 0x48 {
-        return false;
-    }
-    if byte_at(b, 1) != 0x44 {
-        return false;
-    }
-    if byte_at(b, 2) != letter {
-        return false;
-    }
-    word_at(b, 3) == 1
+    byte_at(b, 0) == b'H' && byte_at(b, 1) == b'D' && byte_at(b, 2) == letter && word_at(b, 3) == 1
 }

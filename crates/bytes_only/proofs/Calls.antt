@@ -1,4 +1,6 @@
 -- The calls, on levels and a new segment of bytes: what they found, whether they put the segment there, and where. Assumes nothing.
+use Rattle.terms.specs.declared.CellNumber.{CellNumber}
+use Rattle.std.specs.Prelude.{Some, None, Option}
 use mathlib.Core.Path.{◌≡◌, refl, fun_ext}
 use mathlib.Core.Bool.{Bool, true}
 use mathlib.Core.List.{List, []}
@@ -8,8 +10,6 @@ use lib.ListN.{length}
 use Rattle.terms.specs.declared.TypeCode.{TypeCode}
 use Rattle.terms.specs.declared.Position.{Position}
 use Rattle.terms.specs.declared.Argument.{Argument}
-use Rattle.terms.specs.declared.Found.{Found}
-use Rattle.terms.specs.declared.Found.TheVariants.{At, Nothing}
 use Rattle.terms.specs.Moves.{after_place}
 use Rattle.rules.specs.Block.{Bytes, every}
 use Rattle.rules.specs.Catalogue.{key_value}
@@ -46,9 +46,9 @@ module _ (cat : Bytes) (cs : List Segment) (pos : Position) (area : Bytes) where
     unfolding insert_among Before.insert_among inserted Before.inserted
     among-before above i n = rw (bytes-keyed cat x bytes, taken-before i n, fun_ext (goes_before_lem cat x bytes))
 
-    under-before : (q : Found) → insert_under cat cs pos area m x q ≡ Before.insert_under cat cs pos area m x q
-    under-before Nothing = refl
-    under-before (At c) = among-before (row_at cat cs c.0) (suc c.0) (run_at cat cs c.0 - 1)
+    under-before : (q : Option CellNumber) → insert_under cat cs pos area m x q ≡ Before.insert_under cat cs pos area m x q
+    under-before None = refl
+    under-before (Some c) = among-before (row_at cat cs c.0) (suc c.0) (run_at cat cs c.0 - 1)
 
   -- beneath the parent that was found before
   insert-before : (m : ℕ) (t : TypeCode) (ls : List Level) → eqb (key_value cat t) 0 ≡ true → every (bytes_level cat) ls ≡ true

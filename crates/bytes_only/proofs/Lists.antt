@@ -1,4 +1,6 @@
 -- The list: it was read as it is read now, and what it asks is asked of keys and fields of bytes. Assumes nothing.
+use Rattle.terms.specs.declared.Status.{Status}
+use Rattle.std.specs.Prelude.{Err, Ok, None, Result}
 use mathlib.Core.Path.{◌≡◌, refl, ap, sym, ◌∙◌, fun_ext}
 use mathlib.Core.Bool.{Bool, true, false, ◌&&◌, ◌||◌, not}
 use mathlib.Core.List.{List, [], ◌∷◌, reverse}
@@ -7,13 +9,10 @@ use lib.Dec.{ltb, leb, eqb}
 use lib.ListN.{length}
 use Rattle.terms.specs.declared.TypeCode.{TypeCode}
 use Rattle.terms.specs.declared.FieldNumber.{FieldNumber}
-use Rattle.terms.specs.declared.Qualification.TheVariants.{None, Test}
 use Rattle.terms.specs.declared.Argument.{Argument}
-use Rattle.terms.specs.declared.ArgumentRead.{ArgumentRead}
-use Rattle.terms.specs.declared.ArgumentRead.TheVariants.{Got, Fault}
 use Rattle.terms.specs.declared.Status.TheVariants.{Blank, AC, AJ, AK}
 use Rattle.terms.specs.Choice.{pick}
-use Rattle.terms.specs.Names.{code, field, same_type}
+use Rattle.terms.specs.Names.{code, field, same_type, test}
 use Rattle.terms.specs.Operators.{operator_of}
 use Rattle.forest.specs.Good.{on, off, is, both_left, both_right}
 use Rattle.rules.specs.Block.{Bytes, byte, part, every}
@@ -27,12 +26,12 @@ use Rattle.bytes_only.proofs.Rows.{every-none, every-parts, every_made}
 use Rattle.bytes_only.proofs.Values.{type-bytes, field-bytes, bytes-value}
 
 -- the reading of a list from its next argument and from how the rest of it is read
-abbrev read_on : Bool → ArgumentRead → (TypeCode → ℕ → ListRead) → ListRead
+abbrev read_on : Bool → Result Argument Status → (TypeCode → ℕ → ListRead) → ListRead
 read_on end next rest = elim end [
   | true ↦ record { fault = Blank; arguments = [] }
   | false ↦ elim next [
-    | Fault s ↦ record { fault = s; arguments = [] }
-    | Got a ↦ (let r = rest a.code a.next in record { fault = r.fault; arguments = a ∷ r.arguments })
+    | Err s ↦ record { fault = s; arguments = [] }
+    | Ok a ↦ (let r = rest a.code a.next in record { fault = r.fault; arguments = a ∷ r.arguments })
   ]
 ]
 
@@ -53,7 +52,7 @@ module _ (cat : Bytes) (only : bytes_only cat ≡ true) (list : Bytes) where
   unfolding arguments_from Before.arguments_from
   arguments-before zero before at = refl
   arguments-before (suc n) before at =
-      ap (λ (r : ArgumentRead). read_on (leb (length list) at) r (arguments_from cat list n)) (argument-before before at)
+      ap (λ (r : Result Argument Status). read_on (leb (length list) at) r (arguments_from cat list n)) (argument-before before at)
       ∙ ap (read_on (leb (length list) at) (Before.argument_at cat list before at)) (fun_ext (λ t. fun_ext (λ i. arguments-before n t i)))
 
   pub list-before : list_read cat list ≡ Before.list_read cat list
@@ -78,15 +77,15 @@ module _ (cat : Bytes) (list : Bytes) where
   abbrev pub bytes_argument : Argument → Bool
   bytes_argument a = eqb (key_value cat a.code) 0 && bytes_asked cat (meant cat list a.qualification)
 
-  abbrev bytes_read : ArgumentRead → Type 0
-  bytes_read (Fault s) = Unit {0}
-  bytes_read (Got a) = bytes_argument a ≡ true
+  abbrev bytes_read : Result Argument Status → Type 0
+  bytes_read (Err s) = Unit {0}
+  bytes_read (Ok a) = bytes_argument a ≡ true
 
   -- the tests of an argument in their order: what is got, plain or with a test, has come by those that matter
   argument-of : (a b c d e f g : Bool) (plain test : Argument)
       → (a ≡ false → bytes_argument plain ≡ true) → (a ≡ false → f ≡ false → bytes_argument test ≡ true)
-      → bytes_read (pick a (Fault AC) (pick b (Fault AJ) (pick c (Got plain)
-      (pick d (Fault AJ) (pick e (Fault AJ) (pick f (Fault AK) (pick g (Fault AJ) (Got test))))))))
+      → bytes_read (pick a (Err AC) (pick b (Err AJ) (pick c (Ok plain)
+      (pick d (Err AJ) (pick e (Err AJ) (pick f (Err AK) (pick g (Err AJ) (Ok test))))))))
   argument-of true b c d e f g plain test p t = tt
   argument-of false true c d e f g plain test p t = tt
   argument-of false false true d e f g plain test p t = p refl
@@ -97,11 +96,11 @@ module _ (cat : Bytes) (list : Bytes) where
   argument-of false false false false false false false plain test p t = t refl refl
 
   -- an argument that is got and a rest of such
-  read-bytes : (end : Bool) (next : ArgumentRead) (rest : TypeCode → ℕ → ListRead) → bytes_read next
+  read-bytes : (end : Bool) (next : Result Argument Status) (rest : TypeCode → ℕ → ListRead) → bytes_read next
       → ((t : TypeCode) (at : ℕ) → every bytes_argument (rest t at).arguments ≡ true) → every bytes_argument (read_on end next rest).arguments ≡ true
   read-bytes true next rest h k = every-none bytes_argument
-  read-bytes false (Fault s) rest h k = every-none bytes_argument
-  read-bytes false (Got a) rest h k = every_in bytes_argument a (rest a.code a.next).arguments h ∙ k a.code a.next
+  read-bytes false (Err s) rest h k = every-none bytes_argument
+  read-bytes false (Ok a) rest h k = every_in bytes_argument a (rest a.code a.next).arguments h ∙ k a.code a.next
 
   module _ (only : bytes_only cat ≡ true) where
     -- what may come next is a type, and what is tested is a field of it
@@ -119,7 +118,7 @@ module _ (cat : Bytes) (list : Bytes) where
         argument-of (not (good_next cat list before t)) (leb (length list) (at + 1)) (eqb o 0) (ltb 6 o) (leb (length list) (at + 2))
         (not (is_field_of cat list t f)) (ltb (length list) (at + 3 + field_length cat f))
         (record { code = t; qualification = None; next = at + 2 })
-        (record { code = t; qualification = Test (operator_of o) f (at + 3); next = at + 3 + field_length cat f })
+        (record { code = t; qualification = test (operator_of o) f (at + 3); next = at + 3 + field_length cat f })
         (λ e. rw (next-bytes before t e))
         (λ e h. rw (next-bytes before t e, field-bytes cat only list t f (not-false (is_field_of cat list t f) h)))
 

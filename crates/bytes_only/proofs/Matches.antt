@@ -1,4 +1,6 @@
 -- Levels that ask of fields of bytes: the same segments matched them, so that the same one was found. Assumes nothing.
+use Rattle.terms.specs.declared.CellNumber.{CellNumber}
+use Rattle.std.specs.Prelude.{Some, None, Option}
 use mathlib.Core.Path.{◌≡◌, refl, ap, ◌∙◌}
 use mathlib.Core.Bool.{true}
 use mathlib.Core.List.{List, [], ◌∷◌}
@@ -6,8 +8,6 @@ use Prim.Native.Nat.{ℕ, zero, suc, ◌-◌}
 use lib.ListN.{length}
 use Rattle.terms.specs.declared.Place.{Place}
 use Rattle.terms.specs.declared.Place.TheVariants.{On, Before}
-use Rattle.terms.specs.declared.Found.{Found}
-use Rattle.terms.specs.declared.Found.TheVariants.{At, Nothing}
 use Rattle.terms.specs.Choice.{pick}
 use Rattle.terms.specs.Names.{cell}
 use Rattle.rules.specs.Block.{Bytes, every}
@@ -50,13 +50,13 @@ module _ (cat : Bytes) where
     matches-before (l ∷ ls) i e = agree-before (l ∷ ls) (path_to cat cs i) e
 
     -- what is kept of the position goes by the same tests
-    kept-on-before : (ls : List Level) (path : List ℕ) (q : Found) → every (bytes_level cat) ls ≡ true → kept_on cat cs ls path q ≡ Before.kept_on cat cs ls path q
+    kept-on-before : (ls : List Level) (path : List ℕ) (q : Option CellNumber) → every (bytes_level cat) ls ≡ true → kept_on cat cs ls path q ≡ Before.kept_on cat cs ls path q
     unfolding kept_on Before.kept_on
     kept-on-before [] path q e = refl
     kept-on-before (l ∷ ls) [] q e = refl
     kept-on-before (l ∷ ls) (i ∷ path) q e =
         let p = every-parts (bytes_level cat) l ls e in
-        branches (agrees-before l (segment cs i) p.0) (kept-on-before ls path (pick (is_implied l.asked) (At (cell i)) q) p.1) refl
+        branches (agrees-before l (segment cs i) p.0) (kept-on-before ls path (pick (is_implied l.asked) (Some (cell i)) q) p.1) refl
 
     module _ (ls : List Level) (bytes : every (bytes_level cat) ls ≡ true) where
       -- cell by cell
@@ -70,12 +70,12 @@ module _ (cat : Bytes) where
       first-before i e = seek-before i (e - i)
 
       kept-before : (q : Place) → kept cat cs ls q ≡ Before.kept cat cs ls q
-      kept-before (On c) = kept-on-before ls (path_to cat cs c.0) Nothing bytes
+      kept-before (On c) = kept-on-before ls (path_to cat cs c.0) None bytes
       kept-before (Before c) = refl
 
-      sought-before : (q : Found) → sought_beneath cat cs ls q ≡ Before.sought_beneath cat cs ls q
-      sought-before Nothing = first-before 0 (length cs)
-      sought-before (At c) = rw (first-before (suc c.0) (end_at cat cs c.0))
+      sought-before : (q : Option CellNumber) → sought_beneath cat cs ls q ≡ Before.sought_beneath cat cs ls q
+      sought-before None = first-before 0 (length cs)
+      sought-before (Some c) = rw (first-before (suc c.0) (end_at cat cs c.0))
 
       -- LAW: along the position the same one was found
       pub along-before : (q : Place) → along cat cs ls q ≡ Before.along cat cs ls q

@@ -1,26 +1,22 @@
 -- The base as it stood before there were value types other than bytes: the definitions of `rules` whose meaning could have moved since, each under its name
 -- and as it was, file by file; where it stands outside a section of `rules` it takes that section's arguments. Kept for the statements of AsBefore, and used
 -- by nothing else. All that did not move is taken from `rules`. Assumes nothing: these are definitions.
-use Rattle.std.specs.Prelude.{Bool, true, false, ◌&&◌, ◌||◌, not, List, [], ◌∷◌, ◌++◌, ℕ, zero, suc, ◌+◌, ◌-◌, ◌*◌, ltb, leb, eqb, length, drop, replicate}
+use Rattle.terms.specs.declared.CellNumber.{CellNumber}
+use Rattle.std.specs.declared.cmp.Ordering.{Ordering}
+use Rattle.std.specs.Prelude.{Bool, true, false, ◌&&◌, ◌||◌, not, List, [], ◌∷◌, ◌++◌, ℕ, zero, suc, ◌+◌, ◌-◌, ◌*◌, ltb, leb, eqb, length, drop, replicate, Err, Ok, Some, None, Option, Result}
 use Rattle.terms.specs.declared.TypeCode.{TypeCode}
 use Rattle.terms.specs.declared.FieldNumber.{FieldNumber}
 use Rattle.terms.specs.declared.Operator.{Operator}
-use Rattle.terms.specs.declared.Order.{Order}
-use Rattle.terms.specs.declared.Qualification.TheVariants.{None, Test}
-use Rattle.terms.specs.declared.ArgumentRead.{ArgumentRead}
-use Rattle.terms.specs.declared.ArgumentRead.TheVariants.{Got, Fault}
 use Rattle.terms.specs.declared.Argument.{Argument}
 use Rattle.terms.specs.declared.Place.{Place}
 use Rattle.terms.specs.declared.Place.TheVariants.{On, Before}
-use Rattle.terms.specs.declared.Parentage.TheVariants.{Of}
 use Rattle.terms.specs.declared.Position.{Position}
-use Rattle.terms.specs.declared.Found.{Found}
-use Rattle.terms.specs.declared.Found.TheVariants.{At, Nothing}
 use Rattle.terms.specs.declared.Status.{Status}
 use Rattle.terms.specs.declared.Status.TheVariants.{Blank, GE, GP, CX, TX, PX, AD, AC, AJ, AK, AH, AB, DJ, II, FX}
 use Rattle.terms.specs.Choice.{pick}
-use Rattle.terms.specs.Names.{code, field, cell, same_type}
-use Rattle.terms.specs.Operators.{is_smaller, is_equal, is_greater, holds, operator_of}
+use Rattle.terms.specs.Names.{code, field, cell, same_type, test}
+use Rattle.terms.specs.Operators.{holds, operator_of}
+use Rattle.std.specs.Ordering.{is_lt, is_eq, is_gt}
 use Rattle.terms.specs.Statuses.{number}
 use Rattle.terms.specs.Moves.{fresh, is_absent, after_place, after_insert}
 use Rattle.forest.specs.Forest.{forest_of}
@@ -44,7 +40,7 @@ use Rattle.rules.specs.Outcome.{Outcome, is_blank, is_gnp, is_isrt, is_dlet, is_
 use Rattle.rules.specs.Listing.{cell_line, last_line}
 
 -- ORDER. How a value stands to another of the same value type w: every value type there is compares bytes
-unfoldable pub value_order : ℕ → Bytes → Bytes → Order
+unfoldable pub value_order : ℕ → Bytes → Bytes → Ordering
 value_order w xs ys = order xs ys
 
 -- CATALOGUE
@@ -74,18 +70,18 @@ module _ (cat : Bytes) where
 -- CELLS
 module _ (cat : Bytes) where
   -- how the key of c stands to that of d, a segment of the same type
-  unfoldable pub key_order : Segment → Segment → Order
+  unfoldable pub key_order : Segment → Segment → Ordering
   key_order c d = value_order (key_value cat c.code) (key cat c) (key cat d)
 
   -- R15: c may stand before its twin d
   unfoldable pub twin_order : Segment → Segment → Bool
   twin_order c d =
       pick (eqb (key_kind cat c.code) 0) true
-      (pick (eqb (key_kind cat c.code) 1) (is_smaller (key_order c d)) (not (is_greater (key_order c d))))
+      (pick (eqb (key_kind cat c.code) 1) (is_lt (key_order c d)) (not (is_gt (key_order c d))))
 
   -- a twin with the same key
   unfoldable pub same_key : Segment → Segment → Bool
-  same_key c d = same_type c.code d.code && is_equal (key_order c d)
+  same_key c d = same_type c.code d.code && is_eq (key_order c d)
 
   -- R14, R15: d may stand behind its sibling c
   abbrev pub siblings : Segment → Segment → Bool
@@ -93,7 +89,7 @@ module _ (cat : Bytes) where
 
   -- R41: a new segment x stands before its sibling c, which is one of a later group or a twin of greater key
   unfoldable pub goes_before : Segment → Segment → Bool
-  goes_before x c = ltb (type_number x) (type_number c) || (same_type x.code c.code && is_smaller (key_order x c))
+  goes_before x c = ltb (type_number x) (type_number c) || (same_type x.code c.code && is_lt (key_order x c))
 
   -- R14: the cells list a forest whose top is of type 1
   unfoldable pub good_listing : List Segment → Bool
@@ -110,19 +106,19 @@ module _ (cat : Bytes) (tab : Bytes) where
 -- ARGUMENTS
 module _ (cat : Bytes) (list : Bytes) where
   -- one argument, which begins at this byte
-  unfoldable pub argument_at : TypeCode → ℕ → ArgumentRead
+  unfoldable pub argument_at : TypeCode → ℕ → Result Argument Status
   argument_at before at =
       let t = code (byte list at) in
       let o = byte list (at + 1) in
       let f = field (byte list (at + 2)) in
-      pick (not (good_next cat list before t)) (Fault AC)
-      (pick (leb (length list) (at + 1)) (Fault AJ)
-      (pick (eqb o 0) (Got (record { code = t; qualification = None; next = at + 2 }))
-      (pick (ltb 6 o) (Fault AJ)
-      (pick (leb (length list) (at + 2)) (Fault AJ)
-      (pick (not (is_field_of cat list t f)) (Fault AK)
-      (pick (ltb (length list) (at + 3 + field_length cat f)) (Fault AJ)
-      (Got (record { code = t; qualification = Test (operator_of o) f (at + 3); next = at + 3 + field_length cat f }))))))))
+      pick (not (good_next cat list before t)) (Err AC)
+      (pick (leb (length list) (at + 1)) (Err AJ)
+      (pick (eqb o 0) (Ok (record { code = t; qualification = None; next = at + 2 }))
+      (pick (ltb 6 o) (Err AJ)
+      (pick (leb (length list) (at + 2)) (Err AJ)
+      (pick (not (is_field_of cat list t f)) (Err AK)
+      (pick (ltb (length list) (at + 3 + field_length cat f)) (Err AJ)
+      (Ok (record { code = t; qualification = test (operator_of o) f (at + 3); next = at + 3 + field_length cat f }))))))))
 
   -- R26: read from byte `at` on, at most n arguments, up to the first fault
   unfoldable pub arguments_from : ℕ → TypeCode → ℕ → ListRead
@@ -130,8 +126,8 @@ module _ (cat : Bytes) (list : Bytes) where
   arguments_from (suc n) before at = elim (leb (length list) at) [
     | true ↦ record { fault = Blank; arguments = [] }
     | false ↦ elim (argument_at before at) [
-      | Fault s ↦ record { fault = s; arguments = [] }
-      | Got a ↦ (let r = arguments_from n a.code a.next in record { fault = r.fault; arguments = a ∷ r.arguments })
+      | Err s ↦ record { fault = s; arguments = [] }
+      | Ok a ↦ (let r = arguments_from n a.code a.next in record { fault = r.fault; arguments = a ∷ r.arguments })
     ]
   ]
 
@@ -168,35 +164,35 @@ module _ (cat : Bytes) where
     matches (l ∷ ls) i = agree (l ∷ ls) (path_to cat cs i)
 
     -- the first match among n cells from cell i on
-    unfoldable pub seek : List Level → ℕ → ℕ → Found
-    seek ls i zero = Nothing
-    seek ls i (suc n) = elim (matches ls i) [ true ↦ At (cell i) | false ↦ seek ls (suc i) n ]
+    unfoldable pub seek : List Level → ℕ → ℕ → Option CellNumber
+    seek ls i zero = None
+    seek ls i (suc n) = elim (matches ls i) [ true ↦ Some (cell i) | false ↦ seek ls (suc i) n ]
 
     -- the first match from cell i on that lies before cell e
-    unfoldable pub first_match : List Level → ℕ → ℕ → Found
+    unfoldable pub first_match : List Level → ℕ → ℕ → Option CellNumber
     first_match ls i e = seek ls i (e - i)
 
     -- R30: the cell at which what is kept of the stretch ends; q is what was kept so far
-    unfoldable pub kept_on : List Level → List ℕ → Found → Found
+    unfoldable pub kept_on : List Level → List ℕ → Option CellNumber → Option CellNumber
     kept_on [] path q = q
     kept_on (l ∷ ls) [] q = q
     kept_on (l ∷ ls) (i ∷ path) q = elim (agrees l (segment cs i)) [
-      | true ↦ kept_on ls path (pick (is_implied l.asked) (At (cell i)) q)
+      | true ↦ kept_on ls path (pick (is_implied l.asked) (Some (cell i)) q)
       | false ↦ q
     ]
 
     -- R30, R31: what is kept from a place
-    abbrev pub kept : List Level → Place → Found
-    kept ls (On c) = kept_on ls (path_to cat cs c.0) Nothing
-    kept ls (Before c) = Nothing
+    abbrev pub kept : List Level → Place → Option CellNumber
+    kept ls (On c) = kept_on ls (path_to cat cs c.0) None
+    kept ls (Before c) = None
 
     -- R30: where what is left of the list is sought
-    abbrev pub sought_beneath : List Level → Found → Found
-    sought_beneath ls Nothing = first_match ls 0 (length cs)
-    sought_beneath ls (At c) = pick (eqb (level_at cat cs c.0) (length ls)) (At c) (first_match ls (suc c.0) (end_at cat cs c.0))
+    abbrev pub sought_beneath : List Level → Option CellNumber → Option CellNumber
+    sought_beneath ls None = first_match ls 0 (length cs)
+    sought_beneath ls (Some c) = pick (eqb (level_at cat cs c.0) (length ls)) (Some c) (first_match ls (suc c.0) (end_at cat cs c.0))
 
     -- R30: the first match along the position
-    unfoldable pub along : List Level → Place → Found
+    unfoldable pub along : List Level → Place → Option CellNumber
     along ls q = sought_beneath ls (kept ls q)
 
 -- CALLS
@@ -209,12 +205,12 @@ module _ (cat : Bytes) where
   module _ (cs : List Segment) (pos : Position) (area : Bytes) where
     -- GU (R33, R36): along the position, and what was found is the parentage
     unfoldable pub get_unique : Bool → List Level → After
-    get_unique hold ls = gotten cat cs pos area GE (λ i. Blank) (λ i. Of (cell i)) hold (along cat cs ls pos.place)
+    get_unique hold ls = gotten cat cs pos area GE (λ i. Blank) (λ i. Some (cell i)) hold (along cat cs ls pos.place)
 
     -- GN (R34, R36): from the cell after the place on
     unfoldable pub get_next : Bool → List Level → After
     get_next hold ls =
-        gotten cat cs pos area (miss_status ls) (level_status cat cs ls pos.place) (λ i. Of (cell i)) hold
+        gotten cat cs pos area (miss_status ls) (level_status cat cs ls pos.place) (λ i. Some (cell i)) hold
         (first_match cat cs ls (after_place pos.place) (length cs))
 
     -- GNP (R35). The cells after the place and beneath p are those up to the end of p's run.
@@ -237,9 +233,9 @@ module _ (cat : Bytes) where
         inserted m x above (key_taken cs x i n) r (applied (put r (x ∷ [])) cs)
 
     -- R51: GE without a parent
-    abbrev pub insert_under : ℕ → Segment → Found → After
-    insert_under m x Nothing = missed GE pos area
-    insert_under m x (At c) = insert_among m x (row_at cat cs c.0) (suc c.0) (run_at cat cs c.0 - 1)
+    abbrev pub insert_under : ℕ → Segment → Option CellNumber → After
+    insert_under m x None = missed GE pos area
+    insert_under m x (Some c) = insert_among m x (row_at cat cs c.0) (suc c.0) (run_at cat cs c.0 - 1)
 
     -- ISRT (R39 to R42): the parent by the levels, and the new segment among its twins
     unfoldable pub insert : ℕ → TypeCode → List Level → After

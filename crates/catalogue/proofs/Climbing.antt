@@ -1,8 +1,8 @@
 -- Climbing from a type to its parent, one step at a time. Assumes nothing.
-use mathlib.Core.Path.{◌≡◌, refl, ap}
+use mathlib.Core.Path.{◌≡◌, refl}
 use mathlib.Core.Bool.{true}
 use mathlib.Core.List.{List, [], ◌∷◌}
-use Prim.Native.Nat.{ℕ, zero, suc, ◌-◌, ◌<◌, ◌≤◌}
+use Prim.Native.Nat.{ℕ, zero, suc, ◌≤◌}
 use native.Mathlib.Omega.{arith}
 use borrow.Author.Tests.{eq-eqb, ne_eqb}
 use Rattle.terms.specs.declared.TypeCode.{TypeCode}
@@ -29,16 +29,14 @@ module _ (cat : Bytes) where
   climbed-top (suc n) zero h = refl
   climbed-top (suc n) (suc u) h = absurd (omega arith)
 
-  pub climbed-step : (n u : ℕ) → 0 < n → (u ≡ 0 → ⊥) → climbed cat n u ≡ u ∷ climbed cat (n - 1) (par cat u)
+  climbed-step : (n m u : ℕ) → n ≡ suc m → (u ≡ 0 → ⊥) → climbed cat n u ≡ u ∷ climbed cat m (par cat u)
   unfolding Types.lineage_from
-  climbed-step zero u h k = absurd (omega arith)
-  climbed-step (suc n) zero h k = absurd (k refl)
-  climbed-step (suc n) (suc u) h k = let z : suc n - 1 ≡ n = omega arith in rw z
+  climbed-step n m zero h k = absurd (k refl)
+  climbed-step n m (suc u) h k = rw h
 
-  pub above_step : (x left u p : ℕ) → 0 < left → (u ≡ 0 → ⊥) → (x ≡ u → ⊥) → code p ≡ parent_of cat (code u) → is_in x (climbed cat (left - 1) p) ≡ is_in x (climbed cat left u)
-  above_step x left u p h k n e =
-      let z : p ≡ par cat u = ap (λ (t : TypeCode). t.0) e in
-      rw (z, climbed-step left u h k, ne_eqb x u n)
+  pub above_step : (x n m u : ℕ) (p : TypeCode) → n ≡ suc m → (u ≡ 0 → ⊥) → (x ≡ u → ⊥) → p ≡ parent_of cat (code u)
+      → is_in x (climbed cat m p.0) ≡ is_in x (climbed cat n u)
+  above_step x n m u p h k d e = rw (e, climbed-step n m u h k, ne_eqb x u d)
 
-  pub above-here : (x left u : ℕ) → 0 < left → (u ≡ 0 → ⊥) → x ≡ u → true ≡ is_in x (climbed cat left u)
-  above-here x left u h k e = rw (climbed-step left u h k, eq-eqb x u e)
+  pub above-here : (x n m u : ℕ) → n ≡ suc m → (u ≡ 0 → ⊥) → x ≡ u → true ≡ is_in x (climbed cat n u)
+  above-here x n m u h k e = rw (climbed-step n m u h k, eq-eqb x u e)

@@ -1,23 +1,24 @@
 -- The largest length, one type at a time. Assumes nothing.
-use mathlib.Core.Path.{◌≡◌}
-use Prim.Native.Nat.{ℕ, suc, ◌+◌, ◌<◌, ◌≤◌}
+use mathlib.Core.Path.{◌≡◌, refl}
+use Prim.Native.Nat.{ℕ, zero, suc, max, ◌-◌, ◌<◌}
 use native.Mathlib.Omega.{arith}
 use borrow.Author.Tests.{lt-ltb, le-ltb}
 use Rattle.terms.specs.Names.{code}
+use Rattle.forest.specs.Forest.{inside, outside, side}
 use Rattle.rules.specs.Block.{Bytes}
 use Rattle.rules.specs.Catalogue.{length_of, largest}
 
-module _ (cat : Bytes) where
-  pub largest-more : (k : ℕ) → largest cat k < length_of cat (code (k + 1)) → largest cat (k + 1) ≡ length_of cat (code (k + 1))
-  unfolding largest
-  largest-more k h =
-      let z : k + 1 ≡ suc k = omega arith in
-      let g : largest cat k < length_of cat (code (suc k)) = rw z at h in
-      rw (z, largest, lt-ltb (largest cat k) (length_of cat (code (suc k))) g)
+-- the greater of what the types before type k have and of what it has itself
+pub largest_next : (cat : Bytes) (k : ℕ) → 0 < k → max (largest cat (k - 1)) (length_of cat (code k)) ≡ largest cat k
+unfolding largest
+largest_next cat zero h = absurd (omega arith)
+largest_next cat (suc k) h =
+    let z : suc k - 1 ≡ k = omega arith in
+    rw z (elim (side (largest cat k) (length_of cat (code (suc k)))) [
+      | inside l ↦ rw (largest, lt-ltb (largest cat k) (length_of cat (code (suc k))) l) (omega arith)
+      | outside l ↦ rw (largest, le-ltb (largest cat k) (length_of cat (code (suc k))) l) (omega arith)
+    ])
 
-  pub largest-same : (k : ℕ) → length_of cat (code (k + 1)) ≤ largest cat k → largest cat (k + 1) ≡ largest cat k
-  unfolding largest
-  largest-same k h =
-      let z : k + 1 ≡ suc k = omega arith in
-      let g : length_of cat (code (suc k)) ≤ largest cat k = rw z at h in
-      rw (z, largest, le-ltb (largest cat k) (length_of cat (code (suc k))) g)
+pub largest_none : (cat : Bytes) → 0 ≡ largest cat 0
+unfolding largest
+largest_none cat = refl

@@ -6,12 +6,14 @@ ghost use Rattle.rules.specs.Catalogue.{types, fields, type_byte, field_byte};
 use blocks::{byte_at, wide};
 use terms::{FieldNumber, TypeCode};
 
+#[tactic(auto, unfolding(rules::specs::Catalogue::types))]
 pub fn types(cat: &[u8]) -> u8
     ensures { result ≡ types cat.now }
 {
     byte_at(cat, 5)
 }
 
+#[tactic(auto, unfolding(rules::specs::Catalogue::fields))]
 pub fn fields(cat: &[u8]) -> u8
     ensures { result ≡ fields cat.now }
 {
@@ -19,6 +21,7 @@ pub fn fields(cat: &[u8]) -> u8
 }
 
 // Byte k of the entry of type t.
+#[tactic(auto, unfolding(rules::specs::Catalogue::type_byte))]
 pub fn type_byte(cat: &[u8], t: TypeCode, k: u8) -> u8
     ensures { result ≡ type_byte cat.now t k }
 {
@@ -26,6 +29,7 @@ pub fn type_byte(cat: &[u8], t: TypeCode, k: u8) -> u8
 }
 
 // Byte k of the entry of field f.
+#[tactic(auto, unfolding(rules::specs::Catalogue::field_byte))]
 pub fn field_byte(cat: &[u8], f: FieldNumber, k: u8) -> u8
     ensures { result ≡ field_byte cat.now f k }
 {

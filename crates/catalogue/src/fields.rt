@@ -14,24 +14,28 @@ pub fn entry_of(cat: &[u8], f: FieldNumber) -> usize
     4 + 8 * wide(cat[5]) + 4 * wide(f.0)
 }
 
+#[tactic(auto, unfolding(rules::specs::Catalogue::field_type))]
 pub fn field_type(cat: &[u8], f: FieldNumber) -> TypeCode
     ensures { result ≡ field_type cat.now f }
 {
     TypeCode(field_byte(cat, f, 0))
 }
 
+#[tactic(auto, unfolding(rules::specs::Catalogue::field_start))]
 pub fn field_start(cat: &[u8], f: FieldNumber) -> u8
     ensures { result ≡ field_start cat.now f }
 {
     field_byte(cat, f, 1)
 }
 
+#[tactic(auto, unfolding(rules::specs::Catalogue::field_length))]
 pub fn field_length(cat: &[u8], f: FieldNumber) -> u8
     ensures { result ≡ field_length cat.now f }
 {
     field_byte(cat, f, 2)
 }
 
+#[tactic(auto, unfolding(rules::specs::Catalogue::field_value))]
 pub fn field_value(cat: &[u8], f: FieldNumber) -> u8
     ensures { result ≡ field_value cat.now f }
 {

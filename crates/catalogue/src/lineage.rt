@@ -24,9 +24,7 @@ pub fn levels_to(cat: &[u8], row: &mut [u8; 33], t: TypeCode)
     requires { (good_catalogue cat.now ≡ true) × (t.0 ≤ types cat.now) × Levels cat.now row.old 0 }
     ensures { Levels cat.now row.new t.0 }
 {
-    let mut k: u8 = 0;
-    while k < t.0 {
-        k += 1;
+    for k in 1..=t.0 {
         add_level(cat, row, TypeCode(k));
     }
 }
@@ -65,22 +63,21 @@ pub fn level(cat: &[u8], t: TypeCode) -> u8
 pub fn is_above(cat: &[u8], x: TypeCode, t: TypeCode) -> bool
     ensures { result ≡ is_in x.0 (lineage cat.now t) }
 {
-    let mut u = t.0;
-    let mut left = t.0;
-    while 0 < left {
-        if u == 0 {
+    let mut u = t;
+    for _ in 0..t.0 {
+        if u.0 == 0 {
             return false;
         }
-        if x.0 == u {
+        if x.0 == u.0 {
             return true;
         }
-        left -= 1;
-        u = parent(cat, TypeCode(u)).0;
+        u = parent(cat, u);
     }
     false
 }
 
 // Whether type t lies beneath type u, and is not u.
+#[tactic(auto, unfolding(rules::specs::Catalogue::type_beneath))]
 pub fn is_beneath(cat: &[u8], t: TypeCode, u: TypeCode) -> bool
     ensures { result ≡ type_beneath cat.now t u }
 {

@@ -1,7 +1,7 @@
 -- How the check of the types goes on from one type to the next. Assumes nothing.
 use mathlib.Core.Path.{◌≡◌, refl}
 use mathlib.Core.Bool.{true}
-use Prim.Native.Nat.{ℕ, zero, suc, ◌+◌, ◌-◌, ◌<◌}
+use Prim.Native.Nat.{ℕ, zero, suc, ◌-◌, ◌<◌, ◌≤◌}
 use native.Mathlib.Omega.{arith}
 use lib.ListN.{replicate}
 use borrow.Author.Tests.{lt-ltb}
@@ -32,7 +32,10 @@ module _ (cat : Bytes) where
     ready-none = record { ordered = record { few = omega arith; within = omega (arith, (header_of cat h).size); lower = refl }; levels = levels-none cat }
 
     -- the next one
-    pub next_of : (row : Bytes) (k : ℕ) → k < types cat → Ready cat row k → Next cat row (k + 1)
-    next_of row k l r =
-        let z : k + 1 - 1 ≡ k = omega arith in
-        record { some = omega arith; few = omega (arith, (header_of cat h).types-most); within = omega (arith, (header_of cat h).size); before = rw z r }
+    pub next_of : (row : Bytes) (k : ℕ) → 0 < k → k ≤ types cat → Ready cat row (k - 1) → Next cat row k
+    next_of row k s l r = record {
+      some = s;
+      few = omega (arith, (header_of cat h).types-most);
+      within = omega (arith, (header_of cat h).size);
+      before = r;
+    }

@@ -14,34 +14,19 @@ use terms::{FieldNumber, Status, TypeCode};
 fn good_counts(top: u8, last: u8) -> bool
     ensures { result ≡ (leb 1 top && leb top 32 && leb last 64) }
 {
-    if top == 0 {
-        return false;
-    }
-    if 32 < top {
-        return false;
-    }
-    last <= 64
+    (1..=32).contains(&top) && last <= 64
 }
 
 // R2 and R3: the first 8 bytes, and how long the block is.
+#[tactic(auto, unfolding(rules::specs::Catalogue::good_header))]
 fn good_header(cat: &[u8]) -> bool
     ensures { result ≡ good_header cat.now }
 {
-    if cat.len() < 8 {
-        return false;
-    }
-    if !is_marked(0x43, cat) {
-        return false;
-    }
-    let top = types(cat);
-    let last = fields(cat);
-    if !good_counts(top, last) {
-        return false;
-    }
-    if byte_at(cat, 7) != 0 {
-        return false;
-    }
-    cat.len() == 8 + 8 * wide(top) + 4 * wide(last)
+    cat.len() >= 8
+        && is_marked(b'C', cat)
+        && good_counts(types(cat), fields(cat))
+        && byte_at(cat, 7) == 0
+        && cat.len() == 8 + 8 * wide(types(cat)) + 4 * wide(fields(cat))
 }
 
 // The row of levels is filled on the way, each from its parent's.
@@ -49,11 +34,8 @@ fn good_types(cat: &[u8]) -> bool
     requires { good_header cat.now ≡ true }
     ensures { result ≡ every (good_type cat.now) (range 1 (types cat.now)) }
 {
-    let top = types(cat);
     let mut levels = [0u8; 33];
-    let mut k: u8 = 0;
-    while k < top {
-        k += 1;
+    for k in 1..=types(cat) {
         if !good_type(cat, &mut levels, TypeCode(k)) {
             return false;
         }
@@ -64,35 +46,24 @@ fn good_types(cat: &[u8]) -> bool
 fn good_fields(cat: &[u8]) -> bool
     ensures { result ≡ every (good_field cat.now) (range 1 (fields cat.now)) }
 {
-    let last = fields(cat);
-    let mut f: u8 = 0;
-    while f < last {
-        f += 1;
-        if !good_field(cat, FieldNumber(f)) {
-            return false;
-        }
-    }
-    true
+    (1..=fields(cat)).all(|f| good_field(cat, FieldNumber(f)))
 }
 
+#[tactic(auto, unfolding(rules::specs::Catalogue::good_catalogue))]
 pub fn is_good(cat: &[u8]) -> bool
     ensures { result ≡ good_catalogue cat.now }
 {
-    if !good_header(cat) {
-        return false;
-    }
-    if !good_types(cat) {
-        return false;
-    }
-    good_fields(cat)
+    good_header(cat) && good_types(cat) && good_fields(cat)
 }
 
 // R65: CX, or Blank where the catalogue is good.
+#[tactic(auto, unfolding(rules::specs::Outcome::check_catalogue))]
 pub fn check(cat: &[u8]) -> Status
     ensures { result ≡ check_catalogue cat.now }
 {
     if is_good(cat) {
-        return Status::Blank;
+        Status::Blank
+    } else {
+        Status::CX
     }
-    Status::CX
 }

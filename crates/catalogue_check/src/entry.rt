@@ -16,87 +16,69 @@ use terms::{FieldNumber, TypeCode};
 pub fn good_span(start: u8, long: u8, most: u8) -> bool
     ensures { result ≡ good_span start long most }
 {
-    if start == 0 {
-        return false;
-    }
-    if long == 0 {
-        return false;
-    }
-    wide(start) + wide(long) - 1 <= wide(most)
+    start != 0 && long != 0 && wide(start) + wide(long) - 1 <= wide(most)
 }
 
 // R86: a value type, of a key or field of this length.
 fn good_value(w: u8, long: u8) -> bool
     ensures { result ≡ good_value w long }
 {
-    if w == 0 {
-        return true;
+    match w {
+        0 => true,
+        1 => long <= 16,
+        _ => false,
     }
-    if 16 < long {
-        return false;
-    }
-    w == 1
 }
 
 // R4, R5, R86: the kind of key, its span and its value type, or zeros where the type has none.
+#[tactic(auto, unfolding(rules::specs::Catalogue::good_key))]
 fn good_key(cat: &[u8], t: TypeCode) -> bool
     ensures { result ≡ good_key cat.now t }
 {
-    let kind = key_kind(cat, t);
     let start = key_start(cat, t);
     let long = key_length(cat, t);
     let value = key_value(cat, t);
-    if kind == 0 {
-        if start != 0 {
-            return false;
-        }
-        if long != 0 {
-            return false;
-        }
-        return value == 0;
+    match key_kind(cat, t) {
+        0 => start == 0 && long == 0 && value == 0,
+        1 | 2 => good_span(start, long, data_length(cat, t)) && good_value(value, long),
+        _ => false,
     }
-    if 2 < kind {
-        return false;
-    }
-    if !good_span(start, long, data_length(cat, t)) {
-        return false;
-    }
-    good_value(value, long)
 }
 
 // R7: whose child the type may be.
+#[tactic(auto, using(crate::proofs::EntryTests::parent_none), unfolding(rules::specs::Catalogue::good_parent))]
 fn good_parent(cat: &[u8], t: TypeCode) -> bool
     ensures { result ≡ good_parent cat.now t.0 }
 {
     let above = parent(cat, t);
-    if t.0 == 0 {
-        return false;
+    match t.0 {
+        0 => false,
+        1 => above.0 == 0,
+        k => is_above(cat, above, TypeCode(k - 1)),
     }
-    if t.0 == 1 {
-        return above.0 == 0;
-    }
-    is_above(cat, above, TypeCode(t.0 - 1))
 }
 
 // R4: how long the data may be.
 fn good_length(cat: &[u8], t: TypeCode) -> bool
     ensures { result ≡ (leb 1 (length_of cat.now t) && leb (length_of cat.now t) 120) }
 {
-    let long = data_length(cat, t);
-    if long == 0 {
-        return false;
-    }
-    long <= 120
+    (1..=120).contains(&data_length(cat, t))
 }
 
 // R4: the two bytes of a type's entry before its value type.
+#[tactic(auto, using(crate::proofs::EntryTests::two_zeros))]
 fn has_zeros(cat: &[u8], t: TypeCode) -> bool
     ensures { result ≡ zeros (part cat.now (8 * t.0 + 5) 2) }
 {
-    if type_byte(cat, t, 5) != 0 {
-        return false;
-    }
-    type_byte(cat, t, 6) == 0
+    type_byte(cat, t, 5) == 0 && type_byte(cat, t, 6) == 0
+}
+
+// R4, R7: what one type's entry says by itself.
+fn good_entry(cat: &[u8], t: TypeCode) -> bool
+    ensures { result ≡ (good_parent cat.now t.0 && leb 1 (length_of cat.now t) && leb (length_of cat.now t) 120 && good_key cat.now t
+        && zeros (part cat.now (8 * t.0 + 5) 2)) }
+{
+    good_parent(cat, t) && good_length(cat, t) && good_key(cat, t) && has_zeros(cat, t)
 }
 
 // The types before t have been found good: the row holds their levels, and gains that of t if it is good too.
@@ -104,16 +86,7 @@ pub fn good_type(cat: &[u8], levels: &mut [u8; 33], t: TypeCode) -> bool
     requires { Next cat.now levels.old t.0 }
     ensures { (result ≡ good_type cat.now t.0) × (result ≡ true → Ready cat.now levels.new t.0) }
 {
-    if !good_parent(cat, t) {
-        return false;
-    }
-    if !good_length(cat, t) {
-        return false;
-    }
-    if !good_key(cat, t) {
-        return false;
-    }
-    if !has_zeros(cat, t) {
+    if !good_entry(cat, t) {
         return false;
     }
     add_level(cat, levels, t);
@@ -121,17 +94,13 @@ pub fn good_type(cat: &[u8], levels: &mut [u8; 33], t: TypeCode) -> bool
 }
 
 // R6, R86: a field's type, its span in the data of that type, and its value type.
+#[tactic(auto, unfolding(rules::specs::Catalogue::good_field))]
 pub fn good_field(cat: &[u8], f: FieldNumber) -> bool
     ensures { result ≡ good_field cat.now f.0 }
 {
     let t = field_type(cat, f);
-    if !is_type(cat, t) {
-        return false;
-    }
     let start = field_start(cat, f);
     let long = field_length(cat, f);
-    if !good_span(start, long, data_length(cat, t)) {
-        return false;
-    }
-    good_value(field_value(cat, f), long)
+    is_type(cat, t)
+        && (good_span(start, long, data_length(cat, t)) && good_value(field_value(cat, f), long))
 }

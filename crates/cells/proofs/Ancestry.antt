@@ -1,4 +1,5 @@
 -- Cells by their codes, in a good table: a cell's type has as its parent the type of the cell that it lies beneath. Assumes nothing.
+use Rattle.std.specs.Prelude.{Some, None}
 use mathlib.Core.Path.{◌≡◌, refl, ap, sym, ◌∙◌, subst}
 use mathlib.Core.Bool.{true, false}
 use mathlib.Core.List.{List, [], ◌∷◌, ◌++◌}
@@ -9,7 +10,6 @@ use lib.ListN.{length, get_or}
 use borrow.Author.Tests.{eqb-true}
 use Rattle.terms.specs.declared.TypeCode.{TypeCode}
 use Rattle.terms.specs.declared.CellNumber.{CellNumber}
-use Rattle.terms.specs.declared.Found.TheVariants.{At, Nothing}
 use Rattle.terms.specs.Names.{code, cell}
 use Rattle.forest.specs.Forest.{Forest, void, node, inside, outside, side, forest_of}
 use Rattle.forest.specs.Rows.{rows, map_f}
@@ -45,7 +45,7 @@ module _ (cat : Bytes) (cs : List Segment) where
   Chain [] = Unit {0}
   Chain (i ∷ up) = (is_child cat (nearest_type up) (segment cs i) ≡ true) × Chain up
 
-  nearest-type : (up : List ℕ) (j : ℕ) → At (cell j) ≡ nearest up → nearest_type up ≡ type_number (segment cs j)
+  nearest-type : (up : List ℕ) (j : ℕ) → Some (cell j) ≡ nearest up → nearest_type up ≡ type_number (segment cs j)
   nearest-type [] j e = absurd (let z : ◌≡◌ {A = ℕ} 0 1 = cc in omega arith)
   nearest-type (i ∷ up) j e =
       let f : cell j ≡ cell i = cc in
@@ -218,11 +218,11 @@ module _ {cat tab : Bytes} {size : ℕ} (s : Sound cat tab size) where
     above-is : p.0 ≡ nearest_type cat cs (ancestors (level_at cat cs) i)
     above-is = ap (λ (u : TypeCode). u.0) (f ∙ ap (parent_of cat) e) ∙ born-of cat cs s.catalogue sound-listing i in-cs
 
-    pub parent-root : p.0 ≡ 0 → Nothing ≡ parent_at cat (listing cat tab) i
+    pub parent-root : p.0 ≡ 0 → None ≡ parent_at cat (listing cat tab) i
     unfolding parent_at
     parent-root z = go (ancestors (level_at cat cs) i) refl
       where
-        go : (up : List ℕ) → ancestors (level_at cat cs) i ≡ up → Nothing ≡ nearest (ancestors (level_at cat cs) i)
+        go : (up : List ℕ) → ancestors (level_at cat cs) i ≡ up → None ≡ nearest (ancestors (level_at cat cs) i)
         go [] q = sym (ap nearest q)
         go (j ∷ up) q =
             let b = parent-before cat cs i j (ap nearest q) in
@@ -233,13 +233,13 @@ module _ {cat tab : Bytes} {size : ℕ} (s : Sound cat tab size) where
     parent-start = climb-parent cat cs i lev refl
 
     pub parent-none : (k : ℕ) → k ≤ 0 → climbed cat (listing cat tab) (level_at cat (listing cat tab) i) k ≡ parent_at cat (listing cat tab) i
-        → Nothing ≡ parent_at cat (listing cat tab) i
+        → None ≡ parent_at cat (listing cat tab) i
     parent-none k h v = climb-none cat cs lev k (omega arith) ∙ v
 
     -- u is the type of cell k - 1
     module _ (k : ℕ) (u : TypeCode) (some : 0 < k) (h : u ≡ (segment (listing cat tab) (k - 1)).code)
         (v : climbed cat (listing cat tab) (level_at cat (listing cat tab) i) k ≡ parent_at cat (listing cat tab) i) where
-      pub parent-here : u.0 ≡ p.0 → At (cell (k - 1)) ≡ parent_at cat (listing cat tab) i
+      pub parent-here : u.0 ≡ p.0 → Some (cell (k - 1)) ≡ parent_at cat (listing cat tab) i
       unfolding level_at
       parent-here z =
           let o = own-type cat cs s.catalogue sound-listing i in-cs in
@@ -252,7 +252,7 @@ module _ {cat tab : Bytes} {size : ℕ} (s : Sound cat tab size) where
       unfolding parent_at
       parent-more n = elim (side (level_at cat cs (k - 1)) lev) [
         | inside m ↦
-            let q : At (cell (k - 1)) ≡ nearest (ancestors (level_at cat cs) i) =
+            let q : Some (cell (k - 1)) ≡ nearest (ancestors (level_at cat cs) i) =
             climb-here cat cs lev k (level_at cat cs (k - 1)) (λ y. omega arith) refl m ∙ v in
             absurd (n (ap (λ (x : TypeCode). x.0) h ∙ sym (above-is ∙ nearest-type cat cs (ancestors (level_at cat cs) i) (k - 1) q)))
         | outside m ↦ climb-more cat cs lev k (level_at cat cs (k - 1)) (λ y. omega arith) refl m ∙ v

@@ -1,4 +1,5 @@
 -- Cells by number: type and level, the end of a run, the parent; what a good table gives to these. Assumes nothing.
+use Rattle.std.specs.Prelude.{Some, None}
 use mathlib.Core.Path.{◌≡◌, refl, ap, sym, ◌∙◌}
 use mathlib.Core.Bool.{true}
 use mathlib.Core.List.{List}
@@ -8,7 +9,6 @@ use lib.Dec.{leb, eqb}
 use lib.ListN.{length}
 use borrow.Author.Tests.{lt-ltb, le-ltb, le-leb, lt-leb, leb-true, eqb-true}
 use Rattle.terms.specs.declared.CellNumber.{CellNumber}
-use Rattle.terms.specs.declared.Found.TheVariants.{At, Nothing}
 use Rattle.terms.specs.Names.{cell}
 use Rattle.forest.specs.Forest.{inside, outside, side}
 use Rattle.forest.specs.Runs.{under, under-in, under-out}
@@ -121,11 +121,11 @@ module _ (tab : Bytes) (size t last : ℕ) where
 
 module _ (cat : Bytes) (cs : List Segment) (lev i : ℕ) where
   -- climbing to a parent, one cell after the other
-  pub climb-none : i ≡ 0 → Nothing ≡ climbed cat cs lev i
+  pub climb-none : i ≡ 0 → None ≡ climbed cat cs lev i
   unfolding climbed back
   climb-none e = rw e
 
-  pub climb-here : (here : ℕ) → (i ≡ 0 → ⊥) → here ≡ level_at cat cs (i - 1) → here < lev → At (cell (i - 1)) ≡ climbed cat cs lev i
+  pub climb-here : (here : ℕ) → (i ≡ 0 → ⊥) → here ≡ level_at cat cs (i - 1) → here < lev → Some (cell (i - 1)) ≡ climbed cat cs lev i
   unfolding climbed
   climb-here here n e h =
       let a : i ≡ suc (i - 1) = omega arith in
@@ -138,12 +138,12 @@ module _ (cat : Bytes) (cs : List Segment) (lev i : ℕ) where
       sym (ap (λ (k : ℕ). nearest (back (level_at cat cs) lev (down_to k))) a ∙ ap nearest (back-out (level_at cat cs) lev (i - 1) (down_to (i - 1)) (omega arith)))
 
 module _ (lev : ℕ → ℕ) where
-  nearest-before : (p n i : ℕ) → nearest (back lev n (down_to i)) ≡ At (cell p) → (p < i) × (lev p < n)
+  nearest-before : (p n i : ℕ) → nearest (back lev n (down_to i)) ≡ Some (cell p) → (p < i) × (lev p < n)
   unfolding back
   nearest-before p n zero e = absurd (let z : ◌≡◌ {A = ℕ} 0 1 = cc in omega arith)
   nearest-before p n (suc i) e = elim (side (lev i) n) [
     | inside l ↦
-        let f : At (cell i) ≡ At (cell p) = rw (back_in lev n i (down_to i) l) at e in
+        let f : Some (cell i) ≡ Some (cell p) = rw (back_in lev n i (down_to i) l) at e in
         let g : cell i ≡ cell p = cc in
         let z : i ≡ p = ap (λ (c : CellNumber). c.0) g in
         (omega arith, rw (← z) l)
@@ -168,7 +168,7 @@ module _ (cat : Bytes) (cs : List Segment) (i : ℕ) where
   end-within l = omega (arith, under-few (level_at cat cs) (level_at cat cs i) (suc i) (length cs - suc i))
 
   -- a parent stands before the cell, at a smaller level
-  pub parent-before : (p : ℕ) → parent_at cat cs i ≡ At (cell p) → (p < i) × (level_at cat cs p < level_at cat cs i)
+  pub parent-before : (p : ℕ) → parent_at cat cs i ≡ Some (cell p) → (p < i) × (level_at cat cs p < level_at cat cs i)
   unfolding parent_at
   parent-before p e = nearest-before (level_at cat cs) p (level_at cat cs i) i e
 

@@ -1,7 +1,6 @@
 -- What a lookup by cell number asks of the lent blocks, and the parent of a cell. Assumes nothing: these are definitions.
-use Rattle.std.specs.Prelude.{◌≡◌, true, false, ◌&&◌, List, [], ◌∷◌, ℕ, suc, ◌+◌, ◌*◌, ◌≤◌, ◌<◌, ltb, leb, length}
-use Rattle.terms.specs.declared.Found.{Found}
-use Rattle.terms.specs.declared.Found.TheVariants.{At, Nothing}
+use Rattle.terms.specs.declared.CellNumber.{CellNumber}
+use Rattle.std.specs.Prelude.{◌≡◌, true, false, ◌&&◌, List, [], ◌∷◌, ℕ, suc, ◌+◌, ◌*◌, ◌≤◌, ◌<◌, ltb, leb, length, Some, None, Option}
 use Rattle.terms.specs.Choice.{pick}
 use Rattle.terms.specs.Names.{code, cell}
 use Rattle.forest.specs.Rows.{back}
@@ -25,12 +24,12 @@ pub record Sized (cat tab : Bytes) (size : ℕ) : Type 0 where
   pub few : count tab ≤ 4096
   pub within : start_of tab size (count tab) ≤ length tab
 
-abbrev pub nearest : List ℕ → Found
-nearest [] = Nothing
-nearest (i ∷ above) = At (cell i)
+abbrev pub nearest : List ℕ → Option CellNumber
+nearest [] = None
+nearest (i ∷ above) = Some (cell i)
 
 -- the parent of cell i: the nearest of its ancestors
-unfoldable pub parent_at : Bytes → List Segment → ℕ → Found
+unfoldable pub parent_at : Bytes → List Segment → ℕ → Option CellNumber
 parent_at cat cs i = nearest (ancestors (level_at cat cs) i)
 
 -- `long` data bytes from byte `start` on, counted from 1 (R5), lie within the data of cell i; without a key both are 0
@@ -65,5 +64,5 @@ pub record LastBeneath (cat : Bytes) (t last : ℕ) : Type 0 where
   pub outer : (v : ℕ) → last < v → v ≤ types cat → type_beneath cat (code v) (code t) ≡ false
 
 -- the nearest of the cells before i whose level is smaller
-unfoldable pub climbed : Bytes → List Segment → ℕ → ℕ → Found
+unfoldable pub climbed : Bytes → List Segment → ℕ → ℕ → Option CellNumber
 climbed cat cs lev i = nearest (back (level_at cat cs) lev (down_to i))

@@ -14,6 +14,7 @@ use catalogue::type_range::largest;
 use terms::{CellNumber, TypeCode};
 
 // R11: C.
+#[tactic(auto, unfolding(rules::specs::Table::cell_size))]
 pub fn cell_size(cat: &[u8]) -> usize
     ensures { (result ≡ cell_size cat.now) × (result < 257) }
 {
@@ -21,6 +22,7 @@ pub fn cell_size(cat: &[u8]) -> usize
 }
 
 // R10: n.
+#[tactic(auto, unfolding(rules::specs::Table::count))]
 pub fn count(tab: &[u8]) -> usize
     ensures { (result ≡ count tab.now) × (result < 65536) }
 {

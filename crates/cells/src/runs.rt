@@ -9,26 +9,20 @@ ghost use Rattle.cells.specs.Sound.{Sound};
 use crate::lookup::{code_at, count, start_of};
 use catalogue::entries::parent;
 use catalogue::entry_bytes::types;
-use terms::{CellNumber, Found, TypeCode};
+use terms::{CellNumber, TypeCode};
 
 // The first cell from `from` on and before `to` whose code does not lie behind t and up to `last`; or `to`.
 fn passed(tab: &[u8], size: usize, t: u8, last: u8, from: usize, to: usize) -> usize
     requires { Inside tab.now size to × (from ≤ to) }
     ensures { result ≡ end_from tab.now size t last from (to - from) }
 {
-    let mut i = from;
-    while i < to {
-        let at = start_of(tab, size, CellNumber(i));
-        let u = tab[at];
-        if u <= t {
+    for i in from..to {
+        let u = tab[start_of(tab, size, CellNumber(i))];
+        if u <= t || last < u {
             return i;
         }
-        if last < u {
-            return i;
-        }
-        i += 1;
     }
-    i
+    to
 }
 
 // The same of the `left` cells from i on, 512 of them at a call: a call for each cell would need a stack that grows with the table.
@@ -53,14 +47,12 @@ fn last_beneath(cat: &[u8], t: u8) -> u8
     ensures { LastBeneath cat.now t result }
 {
     let top = types(cat);
-    let mut last = t;
-    while last < top {
+    for last in t..top {
         if parent(cat, TypeCode(last + 1)).0 < t {
             return last;
         }
-        last += 1;
     }
-    last
+    top
 }
 
 // R17: where a run ends; in a good table, at the first later cell whose type is not beneath the cell's own.
@@ -77,20 +69,21 @@ pub fn run_end(cat: &[u8], tab: &[u8], size: usize, c: CellNumber) -> CellNumber
 
 // The cell beneath which a cell lies: the nearest one before it whose type is the parent of its own. The cells between lie deeper, so that none
 // of them has that type; a root has no parent, and nothing is sought.
-pub fn parent_of(cat: &[u8], tab: &[u8], size: usize, c: CellNumber) -> Found
+pub fn parent_of(cat: &[u8], tab: &[u8], size: usize, c: CellNumber) -> Option<CellNumber>
     requires { Sound cat.now tab.now size × (c.0 < count tab.now) }
     ensures { result ≡ parent_at cat.now (listing cat.now tab.now) c.0 }
 {
     let above = parent(cat, code_at(cat, tab, size, c));
     if above.0 == 0 {
-        return Found::Nothing;
+        return None;
     }
+    // Counted down by hand: over `(0..c.0).rev()` a step of GN that climbs to the first of 4,096 cells takes twice as long.
     let mut k = c.0;
     while 0 < k {
         k -= 1;
         if code_at(cat, tab, size, CellNumber(k)).0 == above.0 {
-            return Found::At(CellNumber(k));
+            return Some(CellNumber(k));
         }
     }
-    Found::Nothing
+    None
 }

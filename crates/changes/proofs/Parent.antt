@@ -1,4 +1,5 @@
 -- The parent that a search along the position finds: a cell in use, and of the type that the list was completed down to. Assumes nothing.
+use Rattle.std.specs.Prelude.{Some, None, Option}
 use mathlib.Core.Path.{◌≡◌, refl, ap, sym, ◌∙◌}
 use mathlib.Core.Bool.{Bool, true, false, ◌&&◌, ◌||◌}
 use mathlib.Core.List.{List}
@@ -11,8 +12,6 @@ use Rattle.terms.specs.declared.TypeCode.{TypeCode}
 use Rattle.terms.specs.declared.CellNumber.{CellNumber}
 use Rattle.terms.specs.declared.Place.{Place}
 use Rattle.terms.specs.declared.Position.{Position}
-use Rattle.terms.specs.declared.Found.{Found}
-use Rattle.terms.specs.declared.Found.TheVariants.{At, Nothing}
 use Rattle.terms.specs.Names.{cell}
 use Rattle.forest.specs.Forest.{inside, outside, side}
 use Rattle.forest.specs.Good.{on, off, is, both_left, both_right}
@@ -38,10 +37,19 @@ use Rattle.search.proofs.Branches.{steps, level-some, carried-cell, match-stretc
 use Rattle.twins.specs.Among.{New, Beneath, top, child}
 use Rattle.twins.proofs.Passing.{type-same}
 use Rattle.answers.specs.Ready.{Ready}
-use Rattle.changes.specs.declared.insert.Parented.TheVariants.{Among}
-use Rattle.changes.specs.Among.{parented_at, parented}
+use Rattle.changes.specs.declared.insert.Siblings.{Siblings}
+use Rattle.changes.specs.Among.{among, parented_at, parented}
 use Rattle.changes.proofs.Keys.{area-long}
 use Rattle.changes.proofs.Changed.{place-good}
+
+-- where the cells among which a new one goes begin, and where they end
+abbrev front : Option Siblings → ℕ
+front None = 0
+front (Some s) = s.from
+
+abbrev back : Option Siblings → ℕ
+back None = 0
+back (Some s) = s.to
 
 module _ {cat tab list : Bytes} {size : ℕ} {t : TypeCode} (g : Good cat tab list size t) (some : 0 < t.0) where
   abbrev cs : List Segment
@@ -78,17 +86,17 @@ module _ {cat tab list : Bytes} {size : ℕ} {t : TypeCode} (g : Good cat tab li
   abbrev Sought : ℕ → CellNumber → Type 0
   Sought e c = (c.0 < e) × (matches cat cs ls c.0 ≡ true)
 
-  seek_found : (n i e : ℕ) (c : CellNumber) → i + n ≤ e → At c ≡ seek cat cs ls i n → Sought e c
-  seek_found zero i e c l f = absurd (let y : At c ≡ Nothing = f ∙ seek-none cat cs ls i in let z : ◌≡◌ {A = ℕ} 0 1 = cc in omega arith)
+  seek_found : (n i e : ℕ) (c : CellNumber) → i + n ≤ e → Some c ≡ seek cat cs ls i n → Sought e c
+  seek_found zero i e c l f = absurd (let y : Some c ≡ None = f ∙ seek-none cat cs ls i in let z : ◌≡◌ {A = ℕ} 0 1 = cc in omega arith)
   seek_found (suc n) i e c l f = elim (is (matches cat cs ls i)) [
     | on m ↦
-        let y : At c ≡ At (cell i) = f ∙ seek-here cat cs ls i (suc n) (omega arith) m in
+        let y : Some c ≡ Some (cell i) = f ∙ seek-here cat cs ls i (suc n) (omega arith) m in
         let z : c ≡ cell i = cc in
         rw z (omega arith, m)
     | off m ↦ (let z : suc n - 1 ≡ n = omega arith in seek_found n (suc i) e c (omega arith) (f ∙ seek-next cat cs ls i (suc n) (omega arith) m ∙ ap (seek cat cs ls (suc i)) z))
   ]
 
-  first_found : (i e : ℕ) (c : CellNumber) → e ≤ count tab → At c ≡ first_match cat cs ls i e → (c.0 < count tab) × ((segment cs c.0).code ≡ t)
+  first_found : (i e : ℕ) (c : CellNumber) → e ≤ count tab → Some c ≡ first_match cat cs ls i e → (c.0 < count tab) × ((segment cs c.0).code ≡ t)
   unfolding first_match
   first_found i e c l f = elim (side i e) [
     | inside h ↦ (let s : Sought e c = seek_found (e - i) i e c (omega arith) f in let k : c.0 < count tab = omega (arith, s.0) in (k, match-type c.0 k s.1))
@@ -97,21 +105,21 @@ module _ {cat tab list : Bytes} {size : ℕ} {t : TypeCode} (g : Good cat tab li
         absurd (let s : Sought 0 c = seek_found 0 0 0 c (omega arith) (f ∙ ap (seek cat cs ls i) z ∙ seek-none cat cs ls i ∙ sym (seek-none cat cs ls 0)) in omega (arith, s.0))
   ]
 
-  kept-found : (q : Found) (c : CellNumber) → ((d : CellNumber) → q ≡ At d → (d.0 < count tab) × (stretch cat cs ls d.0 ≡ level_at cat cs d.0))
-      → At c ≡ sought_beneath cat cs ls q → (c.0 < count tab) × ((segment cs c.0).code ≡ t)
-  kept-found Nothing c w e = first_found 0 (length cs) c (omega (arith, listing-length cat tab)) e
-  kept-found (At d) c w e =
+  kept-found : (q : Option CellNumber) (c : CellNumber) → ((d : CellNumber) → q ≡ Some d → (d.0 < count tab) × (stretch cat cs ls d.0 ≡ level_at cat cs d.0))
+      → Some c ≡ sought_beneath cat cs ls q → (c.0 < count tab) × ((segment cs c.0).code ≡ t)
+  kept-found None c w e = first_found 0 (length cs) c (omega (arith, listing-length cat tab)) e
+  kept-found (Some d) c w e =
       let v = w d refl in
       elim (is (eqb (level_at cat cs d.0) (length ls))) [
         | on k ↦
-            let y : At c ≡ At d = rw k at e in
+            let y : Some c ≡ Some d = rw k at e in
             let z : c ≡ d = cc in
             rw z (v.0, whole-type d.0 v.0 v.1 (eqb-true (level_at cat cs d.0) (length ls) k ∙ last-level))
         | off k ↦ first_found (suc d.0) (end_at cat cs d.0) c (end-in g d.0 v.0) (rw k at e)
       ]
 
   -- LAW: what is found along the position is a cell in use, and of the last type
-  pub along-found : (q : Place) (c : CellNumber) → good_place cat cs q ≡ true → At c ≡ along cat cs ls q → (c.0 < count tab) × ((segment cs c.0).code ≡ t)
+  pub along-found : (q : Place) (c : CellNumber) → good_place cat cs q ≡ true → Some c ≡ along cat cs ls q → (c.0 < count tab) × ((segment cs c.0).code ≡ t)
   unfolding along
   along-found q c h e = kept-found (kept cat cs ls q) c (λ d f. kept-place g q d h (sym f)) e
 
@@ -141,11 +149,11 @@ module _ {cat tab list : Bytes} {size : ℕ} {pos : Position} (r : Ready cat tab
     }
 
     -- the levels that the code seeks are those of the promise
-    pub parent-levels : {f : Found} → f ≡ along cat (listing cat tab) (levels cat list p) pos.place
+    pub parent-levels : {f : Option CellNumber} → f ≡ along cat (listing cat tab) (levels cat list p) pos.place
         → f ≡ along cat (listing cat tab) (parent_levels cat list (list_read cat list).arguments) pos.place
     parent-levels h = rw (e, same) at h
 
-    module _ (beneath : t.0 ≡ 1 → ⊥) {c : CellNumber} (h : At c ≡ along cat (listing cat tab) (levels cat list p) pos.place) where
+    module _ (beneath : t.0 ≡ 1 → ⊥) {c : CellNumber} (h : Some c ≡ along cat (listing cat tab) (levels cat list p) pos.place) where
       found : (c.0 < count tab) × ((segment (listing cat tab) c.0).code ≡ p)
       found =
           let b = type-range cat t last-type in
@@ -155,29 +163,29 @@ module _ {cat tab list : Bytes} {size : ℕ} {pos : Position} (r : Ready cat tab
       parent_in = found.0
 
   -- the levels of the promise are those down to the parent's type
-  abbrev asked : Found
+  abbrev asked : Option CellNumber
   asked = along cat (listing cat tab) (parent_levels cat list (list_read cat list).arguments) pos.place
 
-  found-beneath : (beneath : t.0 ≡ 1 → ⊥) (q : Found) → q ≡ asked → {from to : ℕ} {d : Bool}
-      → Among from to d ≡ parented_at cat (listing cat tab) pos q → Beneath cat tab t from to
-  found-beneath beneath Nothing h f = absurd (let z : ◌≡◌ {A = ℕ} 0 1 = cc in omega arith)
-  found-beneath beneath (At c) h {from} {to} f =
-      let g : At c ≡ along cat (listing cat tab) (levels cat list (parent_of cat t)) pos.place = rw same h in
+  found-beneath : (beneath : t.0 ≡ 1 → ⊥) (q : Option CellNumber) → q ≡ asked → {from to : ℕ} {d : Bool}
+      → among from to d ≡ parented_at cat (listing cat tab) pos q → Beneath cat tab t from to
+  found-beneath beneath None h f = absurd (let z : ◌≡◌ {A = ℕ} 0 1 = cc in omega arith)
+  found-beneath beneath (Some c) h {from} {to} f =
+      let g : Some c ≡ along cat (listing cat tab) (levels cat list (parent_of cat t)) pos.place = rw same h in
       let a = found refl beneath g in
-      let y : from ≡ suc c.0 = cc in
-      child c.0 a.0 a.1 (omega (arith, y)) cc
+      let y : from ≡ suc c.0 = ap front f in
+      child c.0 a.0 a.1 (omega (arith, y)) (ap back f)
 
   -- LAW: the cells that the parent leads to are all those where the new one may go
   pub parented-beneath : {from to : ℕ} {d : Bool}
-      → Among from to d ≡ parented cat (listing cat tab) pos t (parent_levels cat list (list_read cat list).arguments) → Beneath cat tab t from to
+      → among from to d ≡ parented cat (listing cat tab) pos t (parent_levels cat list (list_read cat list).arguments) → Beneath cat tab t from to
   unfolding parented
   parented-beneath {from} {to} {d} f = elim (is (eqb t.0 1)) [
     | on k ↦
-        let z : Among from to d ≡ Among 0 (length (listing cat tab)) false = rw k at f in
-        let x : from ≡ 0 = cc in
-        let y : to ≡ length (listing cat tab) = cc in
+        let z : among from to d ≡ among 0 (length (listing cat tab)) false = rw k at f in
+        let x : from ≡ 0 = ap front z in
+        let y : to ≡ length (listing cat tab) = ap back z in
         top (eqb-true t.0 1 k) x (y ∙ listing-length cat tab)
     | off k ↦
-        let z : Among from to d ≡ parented_at cat (listing cat tab) pos asked = rw k at f in
+        let z : among from to d ≡ parented_at cat (listing cat tab) pos asked = rw k at f in
         found-beneath (λ e. let y : true ≡ false = sym (eq-eqb t.0 1 e) ∙ k in absurd (let o : ◌≡◌ {A = ℕ} 0 1 = cc in omega arith)) asked refl z
   ]

@@ -1,4 +1,6 @@
 -- ISRT among the cells beneath the parent, and how the parent leads there. Assumes nothing.
+use Rattle.terms.specs.Names.{Parentage}
+use Rattle.std.specs.Prelude.{Some, None, Option, Ok, Err}
 use mathlib.Core.Path.{◌≡◌, refl, ap, sym, ◌∙◌}
 use mathlib.Core.Bool.{Bool, false, ◌&&◌}
 use mathlib.Core.List.{List, []}
@@ -9,14 +11,10 @@ use lib.ListN.{length}
 use borrow.Author.Tests.{le-leb, lt-leb, eq-eqb, ne_eqb}
 use Rattle.terms.specs.declared.TypeCode.{TypeCode}
 use Rattle.terms.specs.declared.CellNumber.{CellNumber}
-use Rattle.terms.specs.declared.Parentage.{Parentage}
-use Rattle.terms.specs.declared.Parentage.TheVariants.{Absent, Of}
 use Rattle.terms.specs.declared.Position.{Position}
 use Rattle.terms.specs.declared.Status.{Status}
 use Rattle.terms.specs.declared.Status.TheVariants.{Blank, II, FX, PD}
-use Rattle.terms.specs.declared.Found.{Found}
-use Rattle.terms.specs.declared.Found.TheVariants.{At, Nothing}
-use Rattle.terms.specs.Statuses.{number}
+use Rattle.terms.specs.Statuses.{number, verdict}
 use Rattle.terms.specs.Moves.{after_insert}
 use Rattle.forest.specs.Forest.{cells_of}
 use Rattle.forest.specs.Good.{on, off, is}
@@ -38,22 +36,21 @@ use Rattle.twins.proofs.Listing.{Row, row_new}
 use Rattle.update.specs.Edits.{with_cell, Insertable}
 use Rattle.answers.specs.Ready.{made}
 use Rattle.answers.specs.Told.{told}
-use Rattle.changes.specs.declared.insert.Parented.{Parented}
-use Rattle.changes.specs.declared.insert.Parented.TheVariants.{Nowhere, Among}
-use Rattle.changes.specs.Among.{insert_status, parented_at, parented, put_in, inserted_among, inserted_in}
+use Rattle.changes.specs.declared.insert.Siblings.{Siblings}
+use Rattle.changes.specs.Among.{among, insert_status, parented_at, parented, put_in, inserted_among, inserted_in}
 
 -- whether the parentage is cell p or above it
 module _ (cat tab : Bytes) (p : ℕ) (h : p < count tab) (parentage : Parentage) where
   abbrev is_above : Bool
   is_above = is_one_of (row_at cat (listing cat tab) p) parentage
 
-  above-run : (q : CellNumber) → parentage ≡ Of q → is_above ≡ (leb q.0 p && ltb p (end_at cat (listing cat tab) q.0))
+  above-run : (q : CellNumber) → parentage ≡ Some q → is_above ≡ (leb q.0 p && ltb p (end_at cat (listing cat tab) q.0))
   above-run q e = ap (is_one_of (row_at cat (listing cat tab) p)) e ∙ row-run cat (listing cat tab) q.0 p (omega (arith, listing-length cat tab))
 
-  pub above-later : (q : CellNumber) → parentage ≡ Of q → p < q.0 → false ≡ is_above
+  pub above-later : (q : CellNumber) → parentage ≡ Some q → p < q.0 → false ≡ is_above
   above-later q e l = sym (above-run q e ∙ rw (lt-leb q.0 p l))
 
-  pub above_within : (q : CellNumber) (end : ℕ) → parentage ≡ Of q → q.0 ≤ p → end ≡ end_at cat (listing cat tab) q.0 → ltb p end ≡ is_above
+  pub above_within : (q : CellNumber) (end : ℕ) → parentage ≡ Some q → q.0 ≤ p → end ≡ end_at cat (listing cat tab) q.0 → ltb p end ≡ is_above
   above_within q end e l f = sym (above-run q e ∙ rw (le-leb q.0 p l, ← f))
 
 -- what refuses a new segment, by the room that the code divides out
@@ -62,11 +59,11 @@ module _ {cat tab : Bytes} {size : ℕ} (s : Sound cat tab size) {k : ℕ} (c : 
   unfolding room
   is-room = ap (λ (m : ℕ). (length tab - 8) / m) s.sized.is
 
-  pub status-full : (length tab - 8) / size ≡ k → FX ≡ insert_status taken (count tab) (room cat tab)
+  pub status-full : (length tab - 8) / size ≡ k → Err FX ≡ verdict (insert_status taken (count tab) (room cat tab))
   unfolding insert_status
   status-full f = rw (h, eq-eqb (count tab) (room cat tab) (sym c ∙ sym f ∙ is-room))
 
-  pub status-none : ((length tab - 8) / size ≡ k → ⊥) → Blank ≡ insert_status taken (count tab) (room cat tab)
+  pub status-none : ((length tab - 8) / size ≡ k → ⊥) → Ok tt ≡ verdict (insert_status taken (count tab) (room cat tab))
   unfolding insert_status
   status-none f = rw (h, ne_eqb (count tab) (room cat tab) (λ d. f (is-room ∙ sym d ∙ sym c)))
 
@@ -143,8 +140,8 @@ module _ {cat tab area : Bytes} {size : ℕ} {t : TypeCode} (n : New cat tab siz
   }
 
 none_above : (parentage : Parentage) → is_one_of [] parentage ≡ false
-none_above Absent = refl
-none_above (Of q) = refl
+none_above None = refl
+none_above (Some q) = refl
 
 module _ (cat : Bytes) (cs : List Segment) (pos : Position) (area : Bytes) (m : ℕ) (x : Segment) where
   among-is : (above : List ℕ) (i to k : ℕ) → k ≡ to - i
@@ -161,24 +158,24 @@ module _ (cat : Bytes) (cs : List Segment) (pos : Position) (area : Bytes) (m : 
     ]
   ]
 
-  found-is : (q : Found) → insert_under cat cs pos area m x q ≡ inserted_in cat cs pos area m x (parented_at cat cs pos q)
+  found-is : (q : Option CellNumber) → insert_under cat cs pos area m x q ≡ inserted_in cat cs pos area m x (parented_at cat cs pos q)
   unfolding end_at
-  found-is Nothing = refl
-  found-is (At c) = among-is (row_at cat cs c.0) (suc c.0) (end_at cat cs c.0) (run_at cat cs c.0 - 1) (omega arith)
+  found-is None = refl
+  found-is (Some c) = among-is (row_at cat cs c.0) (suc c.0) (end_at cat cs c.0) (run_at cat cs c.0 - 1) (omega arith)
 
 module _ (cat : Bytes) (cs : List Segment) (pos : Position) (t : TypeCode) (ls : List Level) where
   -- what the code finds: for type 1 all cells, no parent, or the cells behind the parent in its run
-  pub parented-top : t.0 ≡ 1 → (n : ℕ) → n ≡ length cs → Among 0 n false ≡ parented cat cs pos t ls
+  pub parented-top : t.0 ≡ 1 → (n : ℕ) → n ≡ length cs → among 0 n false ≡ parented cat cs pos t ls
   unfolding parented
   parented-top e n c = rw (eq-eqb t.0 1 e, c)
 
   module _ (e : t.0 ≡ 1 → ⊥) where
-    pub parented-none : Nothing ≡ along cat cs ls pos.place → Nowhere ≡ parented cat cs pos t ls
+    pub parented-none : None ≡ along cat cs ls pos.place → None ≡ parented cat cs pos t ls
     unfolding parented
     parented-none f = rw (ne_eqb t.0 1 e, ← f)
 
-    pub parented-child : (p : CellNumber) (end : ℕ) (beneath : Bool) → At p ≡ along cat cs ls pos.place → end ≡ end_at cat cs p.0
-        → beneath ≡ is_one_of (row_at cat cs p.0) pos.parentage → Among (p.0 + 1) end beneath ≡ parented cat cs pos t ls
+    pub parented-child : (p : CellNumber) (end : ℕ) (beneath : Bool) → Some p ≡ along cat cs ls pos.place → end ≡ end_at cat cs p.0
+        → beneath ≡ is_one_of (row_at cat cs p.0) pos.parentage → among (p.0 + 1) end beneath ≡ parented cat cs pos t ls
     unfolding parented
     parented-child p end beneath f g h =
         let i : p.0 + 1 ≡ suc p.0 = omega arith in
@@ -194,11 +191,11 @@ module _ (cat : Bytes) (cs : List Segment) (pos : Position) (t : TypeCode) (ls :
   ]
 
 -- LAW: ISRT where the parent leads to is ISRT
-pub inserts : (cat tab : Bytes) (pos : Position) (area : Bytes) {t u : TypeCode} (ls : List Level) {p : Parented} → t ≡ u
+pub inserts : (cat tab : Bytes) (pos : Position) (area : Bytes) {t u : TypeCode} (ls : List Level) {p : Option Siblings} → t ≡ u
     → p ≡ parented cat (listing cat tab) pos t ls
     → landed cat tab (inserted_in cat (listing cat tab) pos area (room cat tab) (arriving cat t area) p)
     ≡ landed cat tab (insert cat (listing cat tab) pos area (room cat tab) u ls)
 inserts cat tab pos area {t} ls same e =
-    ap (λ (q : Parented). landed cat tab (inserted_in cat (listing cat tab) pos area (room cat tab) (arriving cat t area) q)) e
+    ap (λ (q : Option Siblings). landed cat tab (inserted_in cat (listing cat tab) pos area (room cat tab) (arriving cat t area) q)) e
     ∙ ap (landed cat tab) (parented-is cat (listing cat tab) pos t ls area (room cat tab))
     ∙ ap (λ (v : TypeCode). landed cat tab (insert cat (listing cat tab) pos area (room cat tab) v ls)) same

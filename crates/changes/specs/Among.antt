@@ -1,9 +1,8 @@
 -- ISRT in three parts: the parent, what refuses the new segment at its spot, and the cell put in. Assumes nothing: these are definitions.
-use Rattle.std.specs.Prelude.{Bool, false, not, List, [], ◌∷◌, ℕ, suc, eqb, length}
+use Rattle.terms.specs.declared.CellNumber.{CellNumber}
+use Rattle.std.specs.Prelude.{Bool, false, not, List, [], ◌∷◌, ℕ, suc, eqb, length, Some, None, Option}
 use Rattle.terms.specs.declared.TypeCode.{TypeCode}
 use Rattle.terms.specs.declared.Position.{Position}
-use Rattle.terms.specs.declared.Found.{Found}
-use Rattle.terms.specs.declared.Found.TheVariants.{At, Nothing}
 use Rattle.terms.specs.declared.Status.{Status}
 use Rattle.terms.specs.declared.Status.TheVariants.{Blank, GE, II, FX, PD}
 use Rattle.terms.specs.Choice.{pick}
@@ -16,22 +15,25 @@ use Rattle.rules.specs.Change.{put, applied}
 use Rattle.rules.specs.Calls.{After, refused, missed, is_one_of, changed}
 use Rattle.rules.specs.Outcome.{is_blank}
 use Rattle.twins.specs.Among.{spot_among}
-use Rattle.changes.specs.declared.insert.Parented.{Parented}
-use Rattle.changes.specs.declared.insert.Parented.TheVariants.{Nowhere, Among}
+use Rattle.changes.specs.declared.insert.Siblings.{Siblings}
 
 -- II (R59), then FX (R60); Blank, if it is neither
 unfoldable pub insert_status : Bool → ℕ → ℕ → Status
 insert_status taken n m = pick taken II (pick (eqb n m) FX Blank)
 
+-- the cells from one number to before another, and whether what goes among them is beneath the parentage
+abbrev pub among : ℕ → ℕ → Bool → Option Siblings
+among from to beneath = Some (record { from = from; to = to; beneath = beneath })
+
 module _ (cat : Bytes) (cs : List Segment) (pos : Position) where
   -- the cells beneath the parent that was found
-  abbrev pub parented_at : Found → Parented
-  parented_at Nothing = Nowhere
-  parented_at (At c) = Among (suc c.0) (end_at cat cs c.0) (is_one_of (row_at cat cs c.0) pos.parentage)
+  abbrev pub parented_at : Option CellNumber → Option Siblings
+  parented_at None = None
+  parented_at (Some c) = among (suc c.0) (end_at cat cs c.0) (is_one_of (row_at cat cs c.0) pos.parentage)
 
   -- R40: the parent, or that the type needs none
-  unfoldable pub parented : TypeCode → List Level → Parented
-  parented t ls = pick (eqb t.0 1) (Among 0 (length cs) false) (parented_at (along cat cs ls pos.place))
+  unfoldable pub parented : TypeCode → List Level → Option Siblings
+  parented t ls = pick (eqb t.0 1) (among 0 (length cs) false) (parented_at (along cat cs ls pos.place))
 
   module _ (area : Bytes) where
     -- x becomes cell r; `beneath` says whether it is beneath the parentage there
@@ -46,6 +48,6 @@ module _ (cat : Bytes) (cs : List Segment) (pos : Position) where
         pick (not (keyed cat x)) (refused PD pos area) (pick (is_blank refusal) (put_in s.at x beneath) (refused refusal pos area))
 
     -- R51: GE where there is no parent
-    abbrev pub inserted_in : ℕ → Segment → Parented → After
-    inserted_in m x Nowhere = missed GE pos area
-    inserted_in m x (Among from to beneath) = inserted_among m x from to beneath
+    abbrev pub inserted_in : ℕ → Segment → Option Siblings → After
+    inserted_in m x None = missed GE pos area
+    inserted_in m x (Some s) = inserted_among m x s.from s.to s.beneath

@@ -1,5 +1,6 @@
 // ISRT: the parent along the position, the spot among the twins, what refuses it there, and the cell put in.
 ghost use Rattle.std.specs.Prelude.{◌≡◌, suc, ◌<◌, ◌≤◌, length};
+ghost use Rattle.terms.specs.Statuses.{verdict};
 ghost use Rattle.rules.specs.Cells.{arriving, row_at};
 ghost use Rattle.rules.specs.Table.{count, room, listing};
 ghost use Rattle.rules.specs.Arguments.{list_read, last_argument, parent_levels};
@@ -16,17 +17,17 @@ use catalogue::entries::parent;
 use cells::lookup::count;
 use cells::runs::run_end;
 use search::along::along;
-use terms::statuses::number;
-use terms::{Answer, CellNumber, Found, Parentage, Position, Status, TypeCode};
+use terms::{Answer, CellNumber, Parentage, Position, Status, TypeCode};
 use twins::{Spot, is_keyed, spot_sound};
 use update::edits::insert_cell_sound;
 
-// Where a new segment may go: nowhere, for its parent was not found; or among the cells from the first number to before the second, which are all
-// those beneath its parent, and whether it is beneath the parentage there.
+// Where a new segment may go: among the cells from the first number to before the second, which are all those beneath its parent; and whether it is
+// beneath the parentage there.
 #[derive(Clone, Copy)]
-pub enum Parented {
-    Nowhere,
-    Among(usize, usize, bool),
+pub struct Siblings {
+    pub from: usize,
+    pub to: usize,
+    pub beneath: bool,
 }
 
 // Whether the parentage is cell p or an ancestor of it: then what is put in beneath p is beneath the parentage.
@@ -34,7 +35,7 @@ fn is_one_of_row(cat: &[u8], tab: &[u8], size: usize, p: CellNumber, parentage: 
     requires { Sound cat.now tab.now size × (p.0 < count tab.now) }
     ensures { result ≡ is_one_of (row_at cat.now (listing cat.now tab.now) p.0) parentage }
 {
-    let Parentage::Of(q) = parentage else {
+    let Some(q) = parentage else {
         return false;
     };
     if p.0 < q.0 {
@@ -43,7 +44,7 @@ fn is_one_of_row(cat: &[u8], tab: &[u8], size: usize, p: CellNumber, parentage: 
     p.0 < run_end(cat, tab, size, q).0
 }
 
-// R40: the parent by the arguments before the last; a root needs none.
+// R40: the parent by the arguments before the last, if there is one; a root needs none.
 fn found_parent(
     cat: &[u8],
     tab: &[u8],
@@ -51,37 +52,41 @@ fn found_parent(
     pos: Position,
     list: &[u8],
     t: TypeCode,
-) -> Parented
+) -> Option<Siblings>
     requires { Ready cat.now tab.now size pos list.now × (0 < length list.now)
         × (t ≡ (last_argument (list_read cat.now list.now).arguments).code) }
     ensures { result ≡ parented cat.now (listing cat.now tab.now) pos t
         (parent_levels cat.now list.now (list_read cat.now list.now).arguments) }
 {
-    let place = pos.place;
-    let parentage = pos.parentage;
     if t.0 == 1 {
-        return Parented::Among(0, count(tab), false);
+        return Some(Siblings {
+            from: 0,
+            to: count(tab),
+            beneath: false,
+        });
     }
-    let Found::At(p) = along(cat, tab, size, list, &list[..0], parent(cat, t), place) else {
-        return Parented::Nowhere;
-    };
+    let p = along(cat, tab, size, list, &list[..0], parent(cat, t), pos.place)?;
     let end = run_end(cat, tab, size, p).0;
-    let beneath = is_one_of_row(cat, tab, size, p, parentage);
-    Parented::Among(p.0 + 1, end, beneath)
+    let beneath = is_one_of_row(cat, tab, size, p, pos.parentage);
+    Some(Siblings {
+        from: p.0 + 1,
+        to: end,
+        beneath,
+    })
 }
 
-// What refuses a new segment at its spot, II before FX; Blank, if nothing does.
-fn insert_refused(cat: &[u8], tab: &[u8], size: usize, spot: Spot) -> Status
+// What refuses a new segment at its spot, II before FX.
+fn insert_refused(cat: &[u8], tab: &[u8], size: usize, spot: Spot) -> Result<(), Status>
     requires { Sound cat.now tab.now size }
-    ensures { result ≡ insert_status spot.taken (count tab.now) (room cat.now tab.now) }
+    ensures { result ≡ verdict (insert_status spot.taken (count tab.now) (room cat.now tab.now)) }
 {
     if spot.taken {
-        return Status::II;
+        return Err(Status::II);
     }
     if (tab.len() - 8) / size == count(tab) {
-        return Status::FX;
+        return Err(Status::FX);
     }
-    Status::Blank
+    Ok(())
 }
 
 // The new segment becomes cell `at`, and the cells from there on move up; `beneath` says whether it is beneath the parentage there.
@@ -120,16 +125,24 @@ pub fn insert(
         (parent_levels cat.now list.now (list_read cat.now list.now).arguments)) }
 {
     let t = last_of(cat, list).code;
-    let Parented::Among(from, to, beneath) = found_parent(cat, tab, size, pos, list, t) else {
+    let Some(among) = found_parent(cat, tab, size, pos, list, t) else {
         return missed(Status::GE, pos);
     };
     if !is_keyed(cat, t, area) {
         return bare(Status::PD, pos);
     }
-    let spot = spot_sound(cat, tab, size, t, area, from, to);
-    let refusal = insert_refused(cat, tab, size, spot);
-    if number(refusal) != 0 {
+    let spot = spot_sound(cat, tab, size, t, area, among.from, among.to);
+    if let Err(refusal) = insert_refused(cat, tab, size, spot) {
         return bare(refusal, pos);
     }
-    put_sound(cat, tab, size, pos, CellNumber(spot.at), t, area, beneath)
+    put_sound(
+        cat,
+        tab,
+        size,
+        pos,
+        CellNumber(spot.at),
+        t,
+        area,
+        among.beneath,
+    )
 }

@@ -1,20 +1,16 @@
 -- The front of a block that was lent and is back, said of the whole block: once for the calls and once for the reports. Assumes nothing.
-use mathlib.Core.Path.{◌≡◌, sym, ap, ◌∙◌}
+use mathlib.Core.Path.{◌≡◌, ap, ◌∙◌}
 use mathlib.Core.List.{◌++◌}
-use Prim.Native.Nat.{ℕ, ◌+◌, ◌*◌, ◌≤◌, ◌<◌}
-use native.Mathlib.Nat.{min-eq_left, min-eq_right}
-use native.Mathlib.Omega.{arith}
-use lib.ListN.{length, take, drop}
-use lib.Seq.{length-take-le}
+use Prim.Native.Nat.{ℕ}
+use native.Mathlib.Nat.{min-eq_left}
+use lib.ListN.{take, drop}
 use Rattle.rules.specs.Block.{Bytes, byte}
 use Rattle.terms.specs.Statuses.{number}
-use Rattle.rules.specs.Position.{position_of}
 use Rattle.rules.specs.Outcome.{check_table, make_status, made_table}
-use Rattle.answers.specs.Ready.{SoundFor}
 use Rattle.parts.specs.Result.{told_of}
 use Rattle.umbristal.specs.Face.{HandedBack, handed_back, ReportedBack, reported_back, report_face}
 use Rattle.umbristal.specs.Session.{Face}
-use Rattle.cobol.specs.Lent.{written, length_at, cat_length, tab_length, list_length, second_length, area_length, out_length}
+use Rattle.cobol.specs.Lent.{length_at, cat_length, tab_length, list_length, second_length, area_length, out_length}
 use Rattle.cobol.specs.Lent.{handed_whole, call_left, told_call, reported_whole, report_left, told_report, checked_whole, make_whole, made_whole}
 use Rattle.cobol.specs.Told.{CountsAsWritten}
 
@@ -22,26 +18,6 @@ use Rattle.cobol.specs.Told.{CountsAsWritten}
 pub as_written : CountsAsWritten
 unfolding length_at
 as_written ask i most l = min-eq_left l
-
-at_most : (ask : Bytes) (i most : ℕ) → most ≤ written ask i → most ≡ length_at ask i most
-unfolding length_at
-at_most ask i most l = sym (min-eq_right l)
-
--- the same of the four bytes as they are read
-module _ (ask : Bytes) (i most a b c d : ℕ)
-    (p : a ≡ byte ask i) (q : b ≡ byte ask (i + 1)) (r : c ≡ byte ask (i + 2)) (s : d ≡ byte ask (i + 3)) where
-  pub read-less : 16777216 * a + 65536 * b + 256 * c + d < most
-      → (16777216 * a + 65536 * b + 256 * c + d ≡ length_at ask i most) × (16777216 * a + 65536 * b + 256 * c + d ≤ most)
-  read-less l =
-      let e : 16777216 * a + 65536 * b + 256 * c + d ≡ written ask i = omega arith in
-      (e ∙ sym (as_written ask i most (omega arith)), omega arith)
-
-  pub read-most : most ≤ 16777216 * a + 65536 * b + 256 * c + d → (most ≡ length_at ask i most) × (most ≤ most)
-  read-most l = (at_most ask i most (omega arith), omega arith)
-
--- a front has as many bytes as were asked for
-pub front_long : (b : Bytes) (n most : ℕ) → n ≤ most → most ≤ length b → n ≡ length (take n b)
-front_long b n most l m = sym (length-take-le n b (omega arith))
 
 -- what the call f leaves of the fronts, with what lies behind them
 module _ (f : Face) (ask cat tab block list area : Bytes) where
@@ -52,11 +28,6 @@ module _ (f : Face) (ask cat tab block list area : Bytes) where
   unfolding handed_whole
   fronts-back c t l a r tab' block' area' p q s u e =
       ap (λ (h : HandedBack). handed_back h.result (h.table ++ drop t tab) h.block (h.area ++ drop a area)) e ∙ rw (p, q, s, u)
-
--- what is sound of the blocks' fronts is sound of the parts that are lent
-pub sound-fronts : (ask cat tab block : Bytes) (c t : ℕ) → c ≡ cat_length ask → t ≡ tab_length ask
-    → SoundFor (take (cat_length ask) cat) (take (tab_length ask) tab) (position_of block) → SoundFor (take c cat) (take t tab) (position_of block)
-sound-fronts ask cat tab block c t p q s = rw (p, q) s
 
 -- of a report likewise
 module _ (ask cat tab one two out : Bytes) where

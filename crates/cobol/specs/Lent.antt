@@ -1,6 +1,7 @@
 -- What a caller finds who lends every block by reference: in each the front that was asked for is as the function of `umbristal` leaves it, and the bytes
 -- behind that front stay. Assumes nothing: these are definitions.
-use Rattle.std.specs.Prelude.{◌++◌, ℕ, ◌+◌, ◌*◌, ◌≤◌, min, length, take, drop}
+use Rattle.std.specs.Prelude.{◌≡◌, ◌++◌, ℕ, ◌+◌, ◌*◌, ◌≤◌, min, length, take, drop}
+use denote.Ref.{Bor, MutBor}
 use Rattle.terms.specs.Statuses.{number}
 use Rattle.rules.specs.Block.{Bytes, byte}
 use Rattle.rules.specs.Outcome.{check_table, make_status, made_table}
@@ -67,6 +68,12 @@ reported_whole ask cat tab one two out =
     report_face (take (cat_length ask) cat) (take (tab_length ask) tab) (take (list_length ask) one) (take (second_length ask) two)
     (take (out_length ask) out) in
     reported_back h.result (h.out ++ drop (out_length ask) out)
+
+-- a function that leaves what a report leaves
+abbrev pub Reports : (Bor Bytes → Bor Bytes → Bor Bytes → Bor Bytes → MutBor Bytes → ℕ → MutBor Bytes → Type 0) → Type 0
+Reports post =
+    (cat tab one two : Bor Bytes) (out : MutBor Bytes) (r : ℕ) (after : MutBor Bytes) → post cat tab one two out r after
+    → reported_back r after.now ≡ report_face cat.now tab.now one.now two.now out.now
 
 pub record ReportSizes (cat tab one two out : Bytes) : Type 0 where
   pub cat-long : 521 ≤ length cat

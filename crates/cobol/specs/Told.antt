@@ -4,7 +4,7 @@ use Rattle.std.specs.Prelude.{◌≡◌, ℕ, ◌<◌, ◌≤◌}
 use Rattle.terms.specs.declared.Answer.{Answer}
 use Rattle.terms.specs.Statuses.{number}
 use Rattle.rules.specs.Block.{Bytes}
-use Rattle.reports.specs.declared.Report.{Report}
+use Rattle.reports.specs.Report.{Report}
 use Rattle.parts.specs.Result.{status_part, type_part, level_part, length_part, removed_part}
 use Rattle.umbristal.specs.Face.{packed, packed_report}
 use Rattle.cobol.specs.Lent.{written, length_at}

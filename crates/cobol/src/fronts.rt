@@ -3,7 +3,7 @@ ghost use Rattle.std.specs.Prelude.{◌≡◌, ◌≤◌, length, take};
 ghost use Rattle.rules.specs.Position.{position_of};
 ghost use Rattle.answers.specs.Ready.{SoundFor};
 ghost use Rattle.umbristal.specs.Face.{handed_back, face, sound_face, reported_back};
-ghost use Rattle.cobol.specs.Lent.{cat_length, tab_length, Sizes, handed_whole, ReportSizes, reported_whole, checked_whole, make_whole, made_whole};
+ghost use Rattle.cobol.specs.Lent.{cat_length, tab_length, Sizes, handed_whole, Reports, ReportSizes, reported_whole, checked_whole, make_whole, made_whole};
 
 use crate::lengths::{area_length, cat_length, list_length, out_length, second_length, tab_length};
 
@@ -53,6 +53,7 @@ pub(crate) fn called(
     )
 }
 
+// Beside `called` and not one with it: what each leaves is a `Face` of its own, which no parameter holds, and only this one asks for sound blocks.
 pub(crate) fn called_sound(
     ask: &[u8; 21],
     cat: &[u8],
@@ -81,7 +82,9 @@ pub(crate) fn called_sound(
     )
 }
 
-pub(crate) fn nested(
+// The report, whichever of the three it is.
+pub(crate) fn reported<F: Fn(&[u8], &[u8], &[u8], &[u8], &mut [u8]) -> u64>(
+    report: F,
     ask: &[u8; 21],
     cat: &[u8],
     tab: &[u8],
@@ -89,7 +92,9 @@ pub(crate) fn nested(
     two: &[u8],
     out: &mut [u8],
 ) -> u64
-    requires { ReportSizes cat.now tab.now one.now two.now out.old }
+    requires runs { F.IsAlwaysCallable report }
+    requires reports { Reports (F.post report) }
+    requires sizes { ReportSizes cat.now tab.now one.now two.now out.old }
     ensures { reported_back result out.new
         ≡ reported_whole ask.now cat.now tab.now one.now two.now out.old }
 {
@@ -98,45 +103,5 @@ pub(crate) fn nested(
     let l = list_length(ask);
     let m = second_length(ask);
     let o = out_length(ask);
-    umbristal::umbristal_report_nested(&cat[..c], &tab[..t], &one[..l], &two[..m], &mut out[..o])
-}
-
-pub(crate) fn joined(
-    ask: &[u8; 21],
-    cat: &[u8],
-    tab: &[u8],
-    one: &[u8],
-    two: &[u8],
-    out: &mut [u8],
-) -> u64
-    requires { ReportSizes cat.now tab.now one.now two.now out.old }
-    ensures { reported_back result out.new
-        ≡ reported_whole ask.now cat.now tab.now one.now two.now out.old }
-{
-    let c = cat_length(ask);
-    let t = tab_length(ask);
-    let l = list_length(ask);
-    let m = second_length(ask);
-    let o = out_length(ask);
-    umbristal::umbristal_report_joined(&cat[..c], &tab[..t], &one[..l], &two[..m], &mut out[..o])
-}
-
-pub(crate) fn plain(
-    ask: &[u8; 21],
-    cat: &[u8],
-    tab: &[u8],
-    one: &[u8],
-    two: &[u8],
-    out: &mut [u8],
-) -> u64
-    requires { ReportSizes cat.now tab.now one.now two.now out.old }
-    ensures { reported_back result out.new
-        ≡ reported_whole ask.now cat.now tab.now one.now two.now out.old }
-{
-    let c = cat_length(ask);
-    let t = tab_length(ask);
-    let l = list_length(ask);
-    let m = second_length(ask);
-    let o = out_length(ask);
-    umbristal::umbristal_report_plain(&cat[..c], &tab[..t], &one[..l], &two[..m], &mut out[..o])
+    report(&cat[..c], &tab[..t], &one[..l], &two[..m], &mut out[..o])
 }

@@ -10,9 +10,10 @@ fn length_at(ask: &[u8; 21], i: usize, most: usize) -> usize
 {
     let high = 16777216 * wide(ask[i]) + 65536 * wide(ask[i + 1]);
     let n = high + 256 * wide(ask[i + 2]) + wide(ask[i + 3]);
-    if n < most { n } else { most }
+    n.min(most)
 }
 
+// Each length has its name, for a place in `ask` and a size stand together here alone: a number handed by each caller reads no plainer.
 pub(crate) fn cat_length(ask: &[u8; 21]) -> usize
     ensures { (result ≡ cat_length ask.now) × (result ≤ 521) }
 {

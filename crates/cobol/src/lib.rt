@@ -13,7 +13,9 @@ ghost use Rattle.umbristal.specs.Face.{face, sound_face};
 ghost use Rattle.cobol.specs.Lent.{cat_length, tab_length, handed_whole, call_left, told_call};
 ghost use Rattle.cobol.specs.Lent.{reported_whole, report_left, told_report, checked_whole, make_whole, made_whole};
 
+use crate::fronts::reported;
 use parts::told::tell;
+use umbristal::{umbristal_report_joined, umbristal_report_nested, umbristal_report_plain};
 
 // R65: the check of catalogue and table.
 pub fn umbristal_cobol_check(
@@ -89,7 +91,8 @@ pub fn umbristal_cobol_report_nested(
         ≡ told_report (reported_whole ask.now cat.now tab.now one.now two.now
         out.old) }
 {
-    tell(fronts::nested(ask, cat, tab, one, two, out), told);
+    let r = reported(umbristal_report_nested, ask, cat, tab, one, two, out);
+    tell(r, told);
 }
 
 // R69, joined.
@@ -106,7 +109,8 @@ pub fn umbristal_cobol_report_joined(
         ≡ told_report (reported_whole ask.now cat.now tab.now one.now two.now
         out.old) }
 {
-    tell(fronts::joined(ask, cat, tab, one, two, out), told);
+    let r = reported(umbristal_report_joined, ask, cat, tab, one, two, out);
+    tell(r, told);
 }
 
 // R69, plain.
@@ -123,5 +127,6 @@ pub fn umbristal_cobol_report_plain(
         ≡ told_report (reported_whole ask.now cat.now tab.now one.now two.now
         out.old) }
 {
-    tell(fronts::plain(ask, cat, tab, one, two, out), told);
+    let r = reported(umbristal_report_plain, ask, cat, tab, one, two, out);
+    tell(r, told);
 }

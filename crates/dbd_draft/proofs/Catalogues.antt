@@ -5,7 +5,7 @@ use mathlib.Core.List.{[], ◌∷◌, ◌++◌}
 use Prim.Native.Nat.{ℕ, suc, ◌+◌, ◌*◌, ◌<◌, ◌≤◌}
 use native.Mathlib.Omega.{arith}
 use lib.Dec.{ltb}
-use lib.ListN.{length, length-append, get_or-append}
+use lib.ListN.{length, get_or-append}
 use lib.Seq.{get_or-append-add}
 use borrow.Author.Tests.{le-leb}
 use Rattle.terms.specs.Names.{field}
@@ -52,11 +52,6 @@ module _ (b : Bytes) (s : Framed b) where
       ∙ ap (λ (i : ℕ). byte (part b 0 (8 + 8 * types b) ++ part b 264 (4 * fields b)) (i + k)) (sym front_long)
       ∙ get_or-append-add (part b 0 (8 + 8 * types b)) (part b 264 (4 * fields b)) k 0
       ∙ part-byte b 264 (4 * fields b) k h
-
-  pub block-long : length (catalogue_of (draft_of b)) ≡ 8 + 8 * types b + 4 * fields b
-  block-long =
-      ap length block-is ∙ length-append (part b 0 (8 + 8 * types b)) (part b 264 (4 * fields b))
-      ∙ omega (arith, front_long, part_length b 264 (4 * fields b) (omega (arith, s.long, s.few_fields)))
 
   -- whether the last type has a key
   pub keyed-is : is_keyed (draft_of b) ≡ ltb 0 (byte b (8 * types b + 2))

@@ -102,7 +102,8 @@ module _ (b c : Bytes) (m : length b ≡ 1296) (n : length c ≡ 1296) where
         (rows_more 8 784 (fields b) (fields c) name f (omega arith) (λ j l k. r j (omega arith) (omega arith)) g)
 
 -- the last entry with its key
-with-last : (kind start long : ℕ) (xs : List Bytes) (e : Bytes) → with_key kind start long (xs ++ (e ∷ [])) ≡ xs ++ ((take 2 e ++ key_bytes kind start long) ∷ [])
+with-last : (kind start long : ℕ) (xs : List Bytes) (e : Bytes)
+    → with_key kind start long (xs ++ (e ∷ [])) ≡ xs ++ ((take 2 e ++ key_bytes kind start long) ∷ [])
 unfolding with_key
 with-last kind start long [] e = refl
 with-last kind start long (x ∷ []) e = refl

@@ -1,13 +1,17 @@
 -- R78: what becomes of a statement, by one law for each way through the code. Assumes nothing.
 use mathlib.Core.Path.{◌≡◌, refl, ap, sym, ◌∙◌}
 use mathlib.Core.Bool.{Bool, true, false, ◌&&◌, ◌||◌, not}
+use mathlib.Core.Logic.{◌⊎◌, inl, inr}
 use mathlib.Core.List.{[], ◌∷◌}
+use Rattle.std.specs.Prelude.{Result, Ok, Err}
 use Prim.Native.Nat.{ℕ, suc, ◌+◌, ◌-◌, ◌*◌, ◌<◌, ◌≤◌}
 use native.Mathlib.Omega.{arith}
 use lib.Dec.{ltb, eqb}
-use lib.ListN.{length, take, drop, set, replicate, length-append, length-set, length-replicate, length-take, length-drop, get_or-append}
+use lib.ListN.{length, take, drop, set, replicate, length-append, length-replicate, length-take, length-drop, get_or-append}
+use lib.Pointwise.{pointwise}
 use lib.Seq.{sets, length-sets, take_all}
 use borrow.Author.Tests.{lt-ltb, le-ltb, eq-eqb, ne_eqb}
+use Rattle.forest.specs.Good.{on, off, is}
 use Rattle.terms.specs.Choice.{pick}
 use Rattle.rules.specs.Block.{Bytes, byte, part, same_bytes}
 use Rattle.rules.specs.Catalogue.{types, fields, good_span, good_type}
@@ -18,29 +22,19 @@ use Rattle.statements.specs.Statement.{dbd, segm, field, no_parent}
 use Rattle.statements.specs.Draft.{Draft, rows, place_of, has, own_names, with_type, with_field, begun, is_keyed}
 use Rattle.statements.specs.Draft.{ruled_type, ruled_field, Taken, goes, bad, misplaced, twice, orphan, unruled, taken}
 use Rattle.statements.proofs.Rows.{part-byte, rows_drop}
-use Rattle.dbd_draft.specs.declared.Judged.{Judged}
-use Rattle.dbd_draft.specs.declared.Judged.TheVariants.{Good, Misplaced, Twice, Orphan, Unruled}
-use Rattle.dbd_draft.specs.Kept.{draft_of, Sound, Named, Left}
+use Rattle.dbd_draft.specs.declared.Fault.{Fault}
+use Rattle.dbd_draft.specs.Kept.{draft_of, Sound, Named, kind_of, Left}
 use Rattle.dbd_draft.proofs.Writes.{made, kept-before, kept-behind}
 use Rattle.dbd_draft.proofs.Drafts.{key_bytes, types_are, begun-not, begun-so, based}
-use Rattle.dbd_draft.proofs.Sounds.{based-sound, type_entry, type_written, type-long, type-next, type-draft, type-sound}
-use Rattle.dbd_draft.proofs.Sounds.{keyed-sound, field_written, field-long, field-draft, field-sound}
+use Rattle.dbd_draft.proofs.Sounds.{based-sound, type_entry, type_written, type-next, type-draft, type-sound}
+use Rattle.dbd_draft.proofs.Sounds.{keyed-sound, field_written, field-draft, field-sound}
 use Rattle.dbd_draft.proofs.Catalogues.{framed, keyed-is}
 use Rattle.dbd_draft.proofs.Rulings.{field-full, type-ruled, type-low, with-key, field-ruled}
 
 -- a refusal: the fault is the definition's, and no more is asked
 module _ (b levels : Bytes) (t : Taken) where
-  pub left-misplaced : t ≡ bad misplaced → Left Misplaced b levels t
-  left-misplaced e = record { same = sym e; sound = λ h. let z : ◌≡◌ {A = ℕ} 0 1 = cc in absurd (omega arith) }
-
-  pub left-twice : t ≡ bad twice → Left Twice b levels t
-  left-twice e = record { same = sym e; sound = λ h. let z : ◌≡◌ {A = ℕ} 0 1 = cc in absurd (omega arith) }
-
-  pub left-orphan : t ≡ bad orphan → Left Orphan b levels t
-  left-orphan e = record { same = sym e; sound = λ h. let z : ◌≡◌ {A = ℕ} 0 1 = cc in absurd (omega arith) }
-
-  pub left-unruled : t ≡ bad unruled → Left Unruled b levels t
-  left-unruled e = record { same = sym e; sound = λ h. let z : ◌≡◌ {A = ℕ} 0 1 = cc in absurd (omega arith) }
+  pub left-bad : (f : Fault) → t ≡ bad (kind_of f) → Left (Err f) b levels t
+  left-bad f e = record { same = sym e; sound = tt }
 
 -- a word with its spaces
 pub filled-long : (w : Bytes) → length w ≤ 8 → length (filled w) ≡ 8
@@ -73,7 +67,7 @@ module _ (b levels : Bytes) (s : Sound b levels) (w : Bytes) (n : Named w) where
       let e : length (filled w) ≡ 8 = filled-long w n.few in
       ap (part (sets b 520 (filled w)) 520) (sym e) ∙ made b 520 (filled w) (omega (arith, s.long))
 
-  pub dbd-taken : (c : Bytes) → c ≡ sets b 520 (filled w) → byte b 520 ≡ 0 → Left Good c levels (taken (draft_of b) (dbd w))
+  pub dbd-taken : (c : Bytes) → c ≡ sets b 520 (filled w) → byte b 520 ≡ 0 → Left (Ok tt) c levels (taken (draft_of b) (dbd w))
   unfolding types fields
   dbd-taken c z h =
       let e : length (filled w) ≡ 8 = filled-long w n.few in
@@ -86,7 +80,7 @@ module _ (b levels : Bytes) (s : Sound b levels) (w : Bytes) (n : Named w) where
             (λ j l m. kept-before (filled w) b 520 j m) (λ j l m. kept-behind (filled w) b 520 j (omega arith))
             (filled w) name-part (λ y. omega (arith, name-there, n.some)))
             ∙ sym (dbd-first (draft_of b) w (begun-not b h));
-        sound = λ y. based-sound b levels s (filled w) e (omega (arith, name-there, n.some));
+        sound = based-sound b levels s (filled w) e (omega (arith, name-there, n.some));
       })
 
 -- SEGM: the tests in their order
@@ -152,6 +146,17 @@ own_is b f w r e h =
     h ∙ rw (e, tail-rows 4 264 b (byte b 6), tail-rows 8 784 b (byte b 6))
     (ap (λ (t : ℕ). has (filled w) (own_names t (rows 4 b 264 (byte b 6)) (rows 8 b 784 (byte b 6)))) (sym (types_are b)))
 
+-- `==` of slices is the rules' comparison
+same-pointwise : (a b : Bytes) → pointwise eqb a b ≡ same_bytes a b
+unfolding same_bytes
+same-pointwise [] [] = refl
+same-pointwise [] (y ∷ ys) = refl
+same-pointwise (x ∷ xs) [] = refl
+same-pointwise (x ∷ xs) (y ∷ ys) = elim (is (eqb x y)) [ on e ↦ rw (same_bytes, e) (same-pointwise xs ys) | off e ↦ rw (same_bytes, e) ]
+
+pub same_word : (w v u : Bytes) (r : Bool) → r ≡ pointwise eqb w v → v ≡ u → r ≡ same_bytes w u
+same_word w v u r e f = e ∙ same-pointwise w v ∙ ap (same_bytes w) f
+
 -- two small laws of tests
 and-not : (a b : Bool) → b ≡ false → (a && b) ≡ false
 and-not true b h = h
@@ -194,18 +199,14 @@ module _ (b levels : Bytes) (s : Sound b levels) (n p : Bytes) (l : ℕ) where
         pub segm-ruled : (not r && eqb a 0) ≡ false → taken (draft_of b) (segm n p l) ≡ ruled_type (with_type (draft_of b) (filled n) a l)
         segm-ruled h = segm-goes (draft_of b) n p l (first f) (has-not new) (rw (root_is, ← above) h) ∙ rw (← above)
 
--- the root's test and the parent's, after both arms of the code
-pub root-first : (r : Bool) (t : ℕ) → t ≤ 0 → (r && ltb 0 t) ≡ false
-root-first r t h = and-not r (ltb 0 t) (le-ltb 0 t h)
+-- what is left behind the root's test, and behind the parent's
+pub root_is_first : (r : Bool) (t : ℕ) → (r ≡ true × (t ≤ 0)) ⊎ (r ≡ false) → (r && ltb 0 t) ≡ false
+root_is_first r t (inl h) = and-not r (ltb 0 t) (le-ltb 0 t h.1)
+root_is_first r t (inr h) = and_left r (ltb 0 t) h
 
-pub root-not : (r : Bool) (t : ℕ) → r ≡ false → (r && ltb 0 t) ≡ false
-root-not r t h = and_left r (ltb 0 t) h
-
-pub parent-there : (r : Bool) (a : ℕ) → (a ≡ 0 → ⊥) → (not r && eqb a 0) ≡ false
-parent-there r a h = and-not (not r) (eqb a 0) (ne_eqb a 0 h)
-
-pub parent-none : (r : Bool) (a : ℕ) → r ≡ true → (not r && eqb a 0) ≡ false
-parent-none r a h = and_left (not r) (eqb a 0) (ap not h)
+pub parent_is_there : (r : Bool) (a : ℕ) → (r ≡ false × (a ≡ 0 → ⊥)) ⊎ (r ≡ true) → (not r && eqb a 0) ≡ false
+parent_is_there r a (inl h) = and-not (not r) (eqb a 0) (ne_eqb a 0 h.1)
+parent_is_there r a (inr h) = and_left (not r) (eqb a 0) (ap not h)
 
 module _ (b levels : Bytes) (s : Sound b levels) (n : Bytes) (kind l start : ℕ) where
   pub field-none-yet : types b ≡ 0 → taken (draft_of b) (field n kind l start) ≡ bad misplaced
@@ -251,12 +252,10 @@ module _ (b levels : Bytes) (s : Sound b levels) (n : Bytes) (kind l start : ℕ
           pub field-good : g ≡ true → taken (draft_of b) (field n kind l start) ≡ goes (with_field (draft_of b) (filled n) kind l start)
           field-good h = ruled ∙ rw h
 
--- the key's test, after both arms of the code
-pub key-first : (kind k : ℕ) → k ≡ 0 → (ltb 0 kind && ltb 0 k) ≡ false
-key-first kind k h = and-not (ltb 0 kind) (ltb 0 k) (le-ltb 0 k (omega arith))
-
-pub key-not : (kind k : ℕ) → kind ≡ 0 → (ltb 0 kind && ltb 0 k) ≡ false
-key-not kind k h = and_left (ltb 0 kind) (ltb 0 k) (le-ltb 0 kind (omega arith))
+-- what is left behind the key's test
+pub key_is_first : (kind k : ℕ) → ((kind ≡ 0 → ⊥) × (k ≡ 0)) ⊎ (kind ≡ 0) → (ltb 0 kind && ltb 0 k) ≡ false
+key_is_first kind k (inl h) = and-not (ltb 0 kind) (ltb 0 k) (le-ltb 0 k (omega (arith, h.1)))
+key_is_first kind k (inr h) = and_left (ltb 0 kind) (ltb 0 k) (le-ltb 0 kind (omega (arith, h)))
 
 -- what the rules say: too many, not good, good
 module _ (b levels : Bytes) (s : Sound b levels) (name : Bytes) (above long : ℕ) (named : length name ≡ 8) (room : types b < 32) where
@@ -265,9 +264,6 @@ module _ (b levels : Bytes) (s : Sound b levels) (name : Bytes) (above long : �
       (second : y ≡ sets x (520 + (8 + 8 * w)) name) where
     type-array : y ≡ type_written b name above long
     type-array = second ∙ rw (first, top)
-
-    pub type-stays : (k : ℕ) → length (set y 5 k) ≡ length b
-    type-stays k = length-set y 5 k ∙ ap length type-array ∙ type-long b levels s name above long named room ∙ sym s.long
 
     module _ (k : ℕ) (e : k ≡ types b + 1) where
       pub type-asks : Next y levels k
@@ -279,7 +275,7 @@ module _ (b levels : Bytes) (s : Sound b levels) (name : Bytes) (above long : �
           type-ruled b levels s name above long named room k (omega arith) ∙ rw f
 
       pub type-good : good_type y k ≡ true → (row : Bytes) → Ready y row k → 0 < byte b 520
-          → Left Good (set y 5 k) row (ruled_type (with_type (draft_of b) name above long))
+          → Left (Ok tt) (set y 5 k) row (ruled_type (with_type (draft_of b) name above long))
       type-good g row r o =
           let z : k ≡ suc (types b) = omega arith in
           let f : good_type (type_written b name above long) k ≡ true = rw type-array at g in
@@ -287,7 +283,7 @@ module _ (b levels : Bytes) (s : Sound b levels) (name : Bytes) (above long : �
           rw type-array
           (record {
             same = ap goes (type-draft b levels s name above long named room k z) ∙ sym (type-ruled b levels s name above long named room k z ∙ rw f);
-            sound = λ h. type-sound b levels s name above long named room k z row o q (type-low b levels s name above long named room k z f);
+            sound = type-sound b levels s name above long named room k z row o q (type-low b levels s name above long named room k z f);
           })
 
 -- the arrays as the code has written them: with a key, and with a field
@@ -303,9 +299,6 @@ module _ (b levels : Bytes) (s : Sound b levels) (name : Bytes) (long start : �
     (second : y ≡ sets x (784 + 8 * v) name) where
   field-array : y ≡ field_written b name long start
   field-array = second ∙ rw (first, one, two)
-
-  pub field-stays : (k : ℕ) → length (set y 6 k) ≡ length b
-  field-stays k = length-set y 6 k ∙ ap length field-array ∙ field-long b levels s name long start named room (suc (fields b)) refl ∙ sym s.long
 
   pub field-kept : (k : ℕ) → k ≡ fields b + 1 → Sound (set y 6 k) levels × (draft_of (set y 6 k) ≡ with_field (draft_of b) name 0 long start)
   field-kept k e =
@@ -339,12 +332,12 @@ module _ (b levels : Bytes) (s : Sound b levels) (name : Bytes) (kind long start
 
     -- and after it
     pub field-left : (c w : Bytes) (t : Taken) → name ≡ filled w → t ≡ goes (with_field (draft_of b) (filled w) kind long start)
-        → Sound c levels × (draft_of c ≡ with_field (draft_of d) name 0 long start) → Left Good c levels t
+        → Sound c levels × (draft_of c ≡ with_field (draft_of d) name 0 long start) → Left (Ok tt) c levels t
     field-left c w t e g h = record {
       same = ap goes (h.1 ∙ p.same ∙ ap (λ (x : Bytes). with_field (draft_of b) x kind long start) e) ∙ sym g;
-      sound = λ z. h.0;
+      sound = h.0;
     }
 
 -- what the callee left is what the definition asks
-pub left_as : (r : Judged) (b levels : Bytes) (t u : Taken) → Left r b levels t → u ≡ t → Left r b levels u
+pub left_as : (r : Result (Unit {0}) Fault) (b levels : Bytes) (t u : Taken) → Left r b levels t → u ≡ t → Left r b levels u
 left_as r b levels t u l e = rw e l

@@ -68,8 +68,8 @@ module _ (b levels : Bytes) (s : Sound b levels) (name : Bytes) (above long : �
 
   -- LAW: the type is taken where it is good in the array
   pub type-ruled : (k : ℕ) → k ≡ suc (types b)
-      → ruled_type (with_type (draft_of b) name above long) ≡ pick (good_type (type_written b name above long) k) (goes (with_type (draft_of b) name above long))
-      (bad unruled)
+      → ruled_type (with_type (draft_of b) name above long)
+      ≡ pick (good_type (type_written b name above long) k) (goes (with_type (draft_of b) name above long)) (bad unruled)
   unfolding ruled_type
   type-ruled k e =
       let c = set (type_written b name above long) 5 (suc (types b)) in
@@ -99,10 +99,6 @@ module _ (b levels : Bytes) (s : Sound b levels) (name : Bytes) (above long : �
         | on g ↦ absurd (omega (arith, type-low (suc (types b)) refl g))
         | off g ↦ type-ruled (suc (types b)) refl ∙ rw g
       ]
-
--- a field without SEQ changes no type
-with_none : (d : Draft) (name : Bytes) (kind long start : ℕ) → kind ≡ 0 → with_field d name kind long start ≡ with_field d name 0 long start
-with_none d name kind long start e = rw e
 
 -- and with SEQ it is one without, in the draft whose last type has the key
 pub with-key : (b name : Bytes) (kind long start : ℕ) → length b ≡ 1296 → 0 < types b → types b ≤ 32 → fields b ≤ 64 → eqb kind 0 ≡ false

@@ -1,8 +1,9 @@
 -- What a line says, as the functions for its statement are asked for it. Assumes nothing.
+use Rattle.std.specs.Prelude.{Option}
 use mathlib.Core.Path.{◌≡◌, refl, ap, sym, ◌∙◌}
 use mathlib.Core.Bool.{true, false}
-use mathlib.Core.Option.{Option}
 use mathlib.Core.List.{List, [], ◌∷◌}
+use Rattle.std.specs.Prelude.{Option, Some, Ok}
 use Prim.Native.Nat.{ℕ, zero, suc, ◌-◌, ◌<◌, ◌≤◌}
 use native.Mathlib.Omega.{arith}
 use lib.ListN.{length, get_or}
@@ -11,23 +12,22 @@ use Rattle.rules.specs.Block.{Bytes, byte}
 use Rattle.dbd_words.specs.declared.Span.{Span}
 use Rattle.dbd_words.specs.Row.{cut}
 use Rattle.dbd_line.specs.declared.Line.{Line}
-use Rattle.dbd_line.specs.declared.Line.TheVariants.{Empty, Wrong, IsDbd, IsSegm, IsField}
+use Rattle.dbd_line.specs.declared.Line.TheVariants.{Empty, IsDbd, IsSegm, IsField}
 use Rattle.dbd_line.specs.Meant.{InLine, Meant, Says, Means}
 use Rattle.statements.specs.Words.{Token, word, sign, is_letter, is_name, filled, tokens}
 use Rattle.statements.specs.Statement.{Statement, dbd, segm, field, Slot, name, suits, marks, fits, formed}
 use Rattle.statements.specs.Statement.{dbd_form, segm_form, field_form, key_form, dbd_of, segm_of, field_of, key_of, word_in, word_at, statement_of}
-use Rattle.statements.specs.Draft.{Draft, blank, begun, Taken, goes, bad, misplaced, taken, taken_if, line_taken}
+use Rattle.statements.specs.Draft.{Draft, blank, begun, Taken, goes, bad, taken, taken_if, line_taken}
 use Rattle.statements.proofs.Forms.{is-dbd, is-segm, is_field, is_key}
 use Rattle.statements.proofs.Rows.{part_length}
-use Rattle.dbd_draft.specs.declared.Judged.TheVariants.{Good}
 use Rattle.dbd_draft.specs.Kept.{draft_of, Sound, Named, Left}
 use Rattle.dbd_draft.proofs.Judgements.{filled-long, filled-first, dbd-first, segm-misplaced, field-misplaced}
 use Rattle.dbd_draft.proofs.Numbers.{segm-capped, field-capped}
 
 -- a line of blanks leaves everything
-pub line-empty : (b levels line : Bytes) → Sound b levels → tokens line ≡ [] → Left Good b levels (line_taken (draft_of b) line)
+pub line-empty : (b levels line : Bytes) → Sound b levels → tokens line ≡ [] → Left (Ok tt) b levels (line_taken (draft_of b) line)
 unfolding line_taken
-line-empty b levels line s h = record { same = sym (rw (line_taken, h)); sound = λ z. s }
+line-empty b levels line s h = record { same = sym (rw (line_taken, h)); sound = s }
 
 -- a slot of a form that a row has
 formed-on : (s : Slot) (ss : List Slot) (t : Token) (ts : List Token) → fits s t ≡ true → formed (s ∷ ss) (t ∷ ts) ≡ formed ss ts
@@ -85,15 +85,15 @@ base-first ts l =
     elim (is (formed dbd_form ts)) [
       | on h ↦
           let n = name-some (word_at ts 3) (dbd-name ts h) in
-          let e : base_of (taken_if blank (statement_of ts)) ≡ filled (word_at ts 3) = ap (λ (s : Option Statement). base_of (taken_if blank s)) (is-dbd ts h)
+          let e : base_of (taken_if blank (statement_of ts)) ≡ filled (word_at ts 3) = ap (λ s. base_of (taken_if blank s)) (is-dbd ts h)
           ∙ ap base_of (dbd-first blank (word_at ts 3) refl) in
           rw e (rw (filled-first (word_at ts 3) n.0) n.1)
       | off h ↦ base-some (taken_if blank (statement_of ts)) (elim (is (formed segm_form ts)) [
-        | on g ↦ ap (λ (s : Option Statement). base_of (taken_if blank s)) (is-segm ts h g) ∙ ap base_of (segm-misplaced blank _ _ _ refl)
+        | on g ↦ ap (λ s. base_of (taken_if blank s)) (is-segm ts h g) ∙ ap base_of (segm-misplaced blank _ _ _ refl)
         | off g ↦ elim (is (formed field_form ts)) [
-          | on f ↦ ap (λ (s : Option Statement). base_of (taken_if blank s)) (is_field ts h g f) ∙ ap base_of (field-misplaced blank _ _ _ _ refl)
+          | on f ↦ ap (λ s. base_of (taken_if blank s)) (is_field ts h g f) ∙ ap base_of (field-misplaced blank _ _ _ _ refl)
           | off f ↦ elim (is (formed key_form ts)) [
-            | on e ↦ ap (λ (s : Option Statement). base_of (taken_if blank s)) (is_key ts h g f e) ∙ ap base_of (field-misplaced blank _ _ _ _ refl)
+            | on e ↦ ap (λ s. base_of (taken_if blank s)) (is_key ts h g f e) ∙ ap base_of (field-misplaced blank _ _ _ _ refl)
             | off e ↦ rw (statement_of, h, g, f, e)
           ]
         ]
@@ -163,20 +163,17 @@ field-said b levels s line a j l r (field n k v w) m e =
     (i, e (draft_of b) ∙ sym (field-capped b levels s n z k v w) ∙ rw (m.0.is, m.1, m.2, m.3))
 
 -- what the line that was read tells, for each kind of line
-module _ (line : Bytes) (r : Line) (m : Means line r) where
-  pub on-empty : r ≡ Empty → tokens line ≡ []
+module _ (line : Bytes) (r : Option Line) (m : Means line r) where
+  pub on-empty : r ≡ Some Empty → tokens line ≡ []
   on-empty e = rw e at m
 
-  pub on-wrong : r ≡ Wrong → (d : Draft) → line_taken d line ≡ bad misplaced
-  on-wrong e = rw e at m
-
-  pub on-dbd : (a : Span) → r ≡ IsDbd a → Placed line a × Named (cut line a) × ((d : Draft) → line_taken d line ≡ taken d (dbd (cut line a)))
+  pub on-dbd : (a : Span) → r ≡ Some (IsDbd a) → Placed line a × Named (cut line a) × ((d : Draft) → line_taken d line ≡ taken d (dbd (cut line a)))
   on-dbd a e = let x : Says line (IsDbd a) = rw e at m in dbd-said line a x.statement x.meant x.same
 
-  pub on-segm : (b levels : Bytes) → Sound b levels → (a p : Span) (l : ℕ) → r ≡ IsSegm a p l
+  pub on-segm : (b levels : Bytes) → Sound b levels → (a p : Span) (l : ℕ) → r ≡ Some (IsSegm a p l)
       → Placed line a × Placed line p × (line_taken (draft_of b) line ≡ taken (draft_of b) (segm (cut line a) (cut line p) l))
   on-segm b levels s a p l e = let x : Says line (IsSegm a p l) = rw e at m in segm-said b levels s line a p l x.statement x.meant x.same
 
-  pub on-field : (b levels : Bytes) → Sound b levels → (a : Span) (j l t : ℕ) → r ≡ IsField a j l t
+  pub on-field : (b levels : Bytes) → Sound b levels → (a : Span) (j l t : ℕ) → r ≡ Some (IsField a j l t)
       → Placed line a × (line_taken (draft_of b) line ≡ taken (draft_of b) (field (cut line a) j l t))
   on-field b levels s a j l t e = let x : Says line (IsField a j l t) = rw e at m in field-said b levels s line a j l t x.statement x.meant x.same

@@ -6,7 +6,6 @@ use native.Mathlib.Omega.{arith}
 use lib.ListN.{length, take, drop, set}
 use lib.Seq.{sets, sets-eq, length-take-le, drop_at, take-append_seam, get_or-set_other}
 use Rattle.rules.specs.Block.{Bytes, byte, part}
-use Rattle.statements.proofs.Rows.{Alike}
 
 pub made : (b : Bytes) (at : ℕ) (xs : Bytes) → at + length xs ≤ length b → part (sets b at xs) at (length xs) ≡ xs
 made b at xs h =
@@ -23,9 +22,3 @@ kept-before (x ∷ xs) b at j h = kept-before xs (set b at x) (suc at) j (omega 
 pub kept-behind : (xs b : Bytes) (at j : ℕ) → at + length xs ≤ j → byte (sets b at xs) j ≡ byte b j
 kept-behind [] b at j h = refl
 kept-behind (x ∷ xs) b at j h = kept-behind xs (set b at x) (suc at) j (omega arith) ∙ get_or-set_other b at j x 0 (λ z. omega arith)
-
-pub alike-before : (b : Bytes) (at : ℕ) (xs : Bytes) (lo hi : ℕ) → hi ≤ at → Alike (sets b at xs) b lo hi
-alike-before b at xs lo hi h j l m = kept-before xs b at j (omega arith)
-
-pub alike-behind : (b : Bytes) (at : ℕ) (xs : Bytes) (lo hi : ℕ) → at + length xs ≤ lo → Alike (sets b at xs) b lo hi
-alike-behind b at xs lo hi h j l m = kept-behind xs b at j (omega arith)

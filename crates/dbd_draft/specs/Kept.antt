@@ -1,13 +1,13 @@
 -- A draft as it is kept in one array, and what one line more leaves of it. Assumes nothing: these are definitions.
-use Rattle.std.specs.Prelude.{◌≡◌, [], ◌∷◌, ℕ, ◌+◌, ◌*◌, ◌≤◌, ◌<◌, eqb, length}
+use Rattle.std.specs.Prelude.{◌≡◌, [], ◌∷◌, ℕ, ◌+◌, ◌*◌, ◌≤◌, ◌<◌, eqb, length, Result, Ok, Err, OnOk}
 use Rattle.std.proofs.lemmas.List.Edits.{sets}
 use Rattle.terms.specs.Choice.{pick}
 use Rattle.rules.specs.Block.{Bytes, byte, part}
 use Rattle.rules.specs.Catalogue.{types, fields}
 use Rattle.catalogue_check.specs.Levelled.{Ready}
-use Rattle.statements.specs.Draft.{Draft, header, rows, Taken, goes, bad, misplaced, twice, orphan, unruled}
-use Rattle.dbd_draft.specs.declared.Judged.{Judged}
-use Rattle.dbd_draft.specs.declared.Judged.TheVariants.{Good, Misplaced, Twice, Orphan, Unruled}
+use Rattle.statements.specs.Draft.{Draft, header, rows, Fault as Kind, Taken, goes, bad, misplaced, twice, orphan, unruled}
+use Rattle.dbd_draft.specs.declared.Fault.{Fault}
+use Rattle.dbd_draft.specs.declared.Fault.TheVariants.{Misplaced, Twice, Orphan, Unruled}
 
 -- T and F stand where a catalogue has them; then the types from byte 8 on, the fields, the data base's name, and the names of types and fields. A name
 -- begins with a letter, so that a zero says that there was no DBD
@@ -37,18 +37,29 @@ pub record Named (w : Bytes) : Type 0 where
   pub begun : 0 < length w
   pub few : length w ≤ 8
 
+-- R78: a fault as the rules have it
+abbrev pub kind_of : Fault → Kind
+kind_of Misplaced = misplaced
+kind_of Twice = twice
+kind_of Orphan = orphan
+kind_of Unruled = unruled
+
 -- what became of a line, with the draft behind it
-abbrev pub told : Judged → Draft → Taken
-told Good d = goes d
-told Misplaced d = bad misplaced
-told Twice d = bad twice
-told Orphan d = bad orphan
-told Unruled d = bad unruled
+abbrev pub told : Result (Unit {0}) Fault → Draft → Taken
+told (Ok _) d = goes d
+told (Err f) d = bad (kind_of f)
+
+-- R78: the numbers of the faults
+abbrev pub fault_of : Fault → ℕ
+fault_of Misplaced = 1
+fault_of Twice = 2
+fault_of Orphan = 3
+fault_of Unruled = 20
 
 -- a line was taken as the definition has it, and what is kept is sound again unless the line was bad
-pub record Left (r : Judged) (b levels : Bytes) (t : Taken) : Type 0 where
+pub record Left (r : Result (Unit {0}) Fault) (b levels : Bytes) (t : Taken) : Type 0 where
   pub same : told r (draft_of b) ≡ t
-  pub sound : r ≡ Good → Sound b levels
+  pub sound : OnOk r (Sound b levels)
 
 -- the last type has this key, and all else is as it was
 abbrev pub Keyed : Bytes → ℕ → ℕ → ℕ → Bytes → Type 0

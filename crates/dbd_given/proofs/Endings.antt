@@ -9,6 +9,6 @@ use Rattle.rules.specs.Catalogue.{type_byte}
 use Rattle.catalogue_check.proofs.EntryTests.{entry-zeros, entry_zero}
 
 -- byte by byte: the two zeros of R4, and no value type
-pub three-zeros : (cat : Bytes) (t : TypeCode) → zeros (part cat (8 * t.0 + 5) 3)
+pub three_zeros : (cat : Bytes) (t : TypeCode) → zeros (part cat (8 * t.0 + 5) 3)
     ≡ (eqb (type_byte cat t 5) 0 && (eqb (type_byte cat t 6) 0 && eqb (type_byte cat t 7) 0))
-three-zeros cat t = entry-zeros cat t 5 2 ∙ rw (entry-zeros cat t 6 1, entry_zero cat t 7)
+three_zeros cat t = entry-zeros cat t 5 2 ∙ rw (entry-zeros cat t 6 1, entry_zero cat t 7)

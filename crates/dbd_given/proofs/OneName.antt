@@ -1,13 +1,12 @@
 -- What the tests of one name of 8 bytes say: a word that is a name, and spaces behind it (R82). Assumes nothing.
-use mathlib.Core.Path.{◌≡◌, refl, ap, sym, ◌∙◌}
-use mathlib.Core.Bool.{Bool, true, false, and-false}
+use mathlib.Core.Path.{◌≡◌, refl, sym, ◌∙◌}
+use mathlib.Core.Bool.{true, false, ◌&&◌, and-false}
 use mathlib.Core.List.{[], ◌∷◌}
 use Prim.Native.Nat.{ℕ, ◌+◌, ◌-◌, ◌*◌, ◌≤◌}
 use native.Mathlib.Omega.{arith}
 use lib.Dec.{leb, eqb}
 use lib.ListN.{length, take, drop, length-drop}
 use lib.Seq.{take_all, length-take-le}
-use borrow.Author.Tests.{eq-eqb, ne_eqb}
 use borrow.Rule.Slice.PartMut.{mid_of}
 use Rattle.forest.specs.Good.{on, off, is}
 use Rattle.rules.specs.Block.{Bytes, part, every}
@@ -28,21 +27,13 @@ no_word (b ∷ bs) e = elim (is (is_letter b)) [
   | off h ↦ rw h
 ]
 
-pub name-short : (n : Bytes) → (length n ≡ 8 → ⊥) → false ≡ good_name n
-unfolding good_name
-name-short n e = rw (ne_eqb (length n) 8 e)
-
 -- the word of the name ends at byte `end`
-module _ (n : Bytes) (end : ℕ) (long : length n ≡ 8) (inside : end ≤ length n) (word : part n 0 end ≡ trimmed n) where
-  pub name-none : is_name (take end n) ≡ false → false ≡ good_name n
-  unfolding good_name
-  name-none e = rw (eq-eqb (length n) 8 long, ← word, e)
-
-  pub name-spaced : is_name (take end n) ≡ true → (r : Bool) → r ≡ every (λ b. eqb b 0x20) (mid_of end (length n - end) n) → r ≡ good_name n
-  unfolding good_name
-  name-spaced e r s =
-      let z : take (length n - end) (drop end n) ≡ drop end n = take_all (length n - end) (drop end n) (simp length-drop (omega arith)) in
-      rw (eq-eqb (length n) 8 long, ← word, e, length-take-le end n inside) (s ∙ ap (every (λ b. eqb b 0x20)) z)
+pub good_name-tests : (n : Bytes) (end : ℕ) → end ≤ length n → part n 0 end ≡ trimmed n
+    → good_name n ≡ (eqb (length n) 8 && is_name (take end n) && every (λ b. eqb b 0x20) (mid_of end (length n - end) n))
+unfolding good_name
+good_name-tests n end inside word =
+    let z : take (length n - end) (drop end n) ≡ drop end n = take_all (length n - end) (drop end n) (simp length-drop (omega arith)) in
+    rw (← word, length-take-le end n inside, z)
 
 -- the name at place i, which the code has from byte `at` to byte `end`
 pub name-at : (names : Bytes) (i at end : ℕ) → at ≡ 8 + 8 * i → end ≡ at + 8 → good_name (mid_of at (end - at) names) ≡ good_name (name_at names i)

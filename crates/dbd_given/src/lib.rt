@@ -10,23 +10,14 @@ ghost use Rattle.statements.specs.Dbd.{could_give};
 
 use catalogue_check::check::is_good;
 
+#[tactic(auto, unfolding(statements::specs::Dbd::could_give))]
 pub fn could_give(cat: &[u8], names: &[u8]) -> bool
     ensures { result ≡ could_give cat.now names.now }
 {
-    if !is_good(cat) {
-        return false;
-    }
-    if !plain::is_plain(cat) {
-        return false;
-    }
-    if !names::good_names(cat, names) {
-        return false;
-    }
-    if !names::differ(cat, names) {
-        return false;
-    }
-    if !keys::ascending(cat) {
-        return false;
-    }
-    keys::keys_listed(cat)
+    is_good(cat)
+        && plain::is_plain(cat)
+        && names::good_names(cat, names)
+        && names::differ(cat, names)
+        && keys::ascending(cat)
+        && keys::keys_listed(cat)
 }

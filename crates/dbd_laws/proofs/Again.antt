@@ -1,7 +1,7 @@
 -- R84: what was written is read as the same pair, and written again it is the same text. Assumes nothing.
+use Rattle.std.specs.Prelude.{None, Some, Option}
 use mathlib.Core.Path.{◌≡◌, refl, ap, sym, ◌∙◌}
 use mathlib.Core.Bool.{Bool, true, false}
-use mathlib.Core.Option.{Option, none, some}
 use mathlib.Core.List.{List, [], ◌∷◌, ◌++◌, map}
 use Prim.Native.Nat.{ℕ, zero, suc, ◌+◌, ◌-◌, ◌*◌, ◌<◌, ◌≤◌}
 use native.Mathlib.Omega.{arith}
@@ -193,18 +193,18 @@ module _ (c n : Bytes) (facts : Facts c n) where
   written_read = let e = all-run in text-written (statements c n) e.0 ∙ e.1 1
 
 module _ (c n : Bytes) where
-  write-on : could_give c n ≡ true → dbd_write c n ≡ some (text_of (map spelled (statements c n)))
+  write-on : could_give c n ≡ true → dbd_write c n ≡ Some (text_of (map spelled (statements c n)))
   unfolding dbd_write
   write-on h = rw (dbd_write, h)
 
-  write-off : could_give c n ≡ false → dbd_write c n ≡ none
+  write-off : could_give c n ≡ false → dbd_write c n ≡ None
   unfolding dbd_write
   write-off h = rw (dbd_write, h)
 
-some-text : (a b : Bytes) → ◌≡◌ {A = Option Bytes} (some a) (some b) → a ≡ b
+some-text : (a b : Bytes) → ◌≡◌ {A = Option Bytes} (Some a) (Some b) → a ≡ b
 some-text a b e = cc
 
-none-text : (a : Bytes) → ◌≡◌ {A = Option Bytes} none (some a) → false ≡ true
+none-text : (a : Bytes) → ◌≡◌ {A = Option Bytes} None (Some a) → false ≡ true
 none-text a e = let z : ◌≡◌ {A = ℕ} 0 1 = cc in absurd (omega arith)
 
 -- R84: reading gives back what was written

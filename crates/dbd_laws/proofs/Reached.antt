@@ -1,7 +1,7 @@
 -- Every draft that the reader reaches is sound, by its statements and lines; what the reader gives is such a draft with a type. Assumes nothing.
+use Rattle.std.specs.Prelude.{None, Some, Option}
 use mathlib.Core.Path.{◌≡◌, refl, ap, sym, ◌∙◌, subst}
 use mathlib.Core.Bool.{Bool, true, false, ◌&&◌, ◌||◌, not}
-use mathlib.Core.Option.{Option, none, some}
 use mathlib.Core.List.{List, [], ◌∷◌}
 use Prim.Native.Nat.{ℕ, suc, ◌<◌, ◌≤◌}
 use native.Mathlib.Omega.{arith}
@@ -181,8 +181,8 @@ line-some d l t ts h = rw (line_taken, h)
 
 if-sound : (d e : Draft) (ts : List Token) (o : Option Statement) → statement_of ts ≡ o → Sound d → taken_if d o ≡ goes e → Sound e
 unfolding taken_if
-if-sound d e ts none h w t = no-draft (bad misplaced) misplaced e refl t
-if-sound d e ts (some s) h w t = taken-sound d e s w (statement-named ts s h) t
+if-sound d e ts None h w t = no-draft (bad misplaced) misplaced e refl t
+if-sound d e ts (Some s) h w t = taken-sound d e s w (statement-named ts s h) t
 
 by-tokens : (d e : Draft) (l : Bytes) (ts : List Token) → tokens l ≡ ts → Sound d → line_taken d l ≡ goes e → Sound e
 by-tokens d e l [] h w t = subst Sound (same-draft d e (sym (line-none d l h) ∙ t)) w

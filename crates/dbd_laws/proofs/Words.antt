@@ -1,7 +1,7 @@
 -- The statement that a line is has names where names stand, and a kind of key of at most 2. Assumes nothing.
+use Rattle.std.specs.Prelude.{None, Some}
 use mathlib.Core.Path.{◌≡◌, subst}
 use mathlib.Core.Bool.{Bool, true, false}
-use mathlib.Core.Option.{none, some}
 use mathlib.Core.List.{List, [], ◌∷◌}
 use Prim.Native.Nat.{ℕ, zero, suc, ◌<◌, ◌≤◌}
 use native.Mathlib.Omega.{arith}
@@ -75,19 +75,19 @@ unfolding kind_of
 kind-most w = one_of_two (same_bytes (0x55 ∷ []) w)
 
 is_none : (ts : List Token) → formed dbd_form ts ≡ false → formed segm_form ts ≡ false → formed field_form ts ≡ false → formed key_form ts ≡ false
-    → statement_of ts ≡ none
+    → statement_of ts ≡ None
 unfolding statement_of
 is_none ts a b c h = rw (statement_of, a, b, c, h)
 
 -- its statement is this one
-told : (ts : List Token) (s r : Statement) → statement_of ts ≡ some s → statement_of ts ≡ some r → Named r → Named s
+told : (ts : List Token) (s r : Statement) → statement_of ts ≡ Some s → statement_of ts ≡ Some r → Named r → Named s
 told ts s r e f n = let z : r ≡ s = cc in subst Named z n
 
-nothing : (ts : List Token) (s : Statement) → statement_of ts ≡ some s → statement_of ts ≡ none → Named s
+nothing : (ts : List Token) (s : Statement) → statement_of ts ≡ Some s → statement_of ts ≡ None → Named s
 nothing ts s e f = let z : ◌≡◌ {A = ℕ} 0 1 = cc in absurd (omega arith)
 
 -- the law
-pub statement-named : (ts : List Token) (s : Statement) → statement_of ts ≡ some s → Named s
+pub statement-named : (ts : List Token) (s : Statement) → statement_of ts ≡ Some s → Named s
 unfolding dbd_of segm_of field_of key_of
 statement-named ts s e = elim (is (formed dbd_form ts)) [
   | on a ↦ told ts s (dbd_of ts) e (is-dbd ts a) (dbd-named ts a)

@@ -1,6 +1,5 @@
 -- What holds of the reader and the writer together (R84), as statements. Assumes nothing: these are definitions.
-use Rattle.std.specs.Prelude.{◌≡◌, true, false}
-use Rattle.std.proofs.Math.Option.{none, some}
+use Rattle.std.specs.Prelude.{◌≡◌, true, false, None, Some}
 use Rattle.rules.specs.Block.{Bytes}
 use Rattle.rules.specs.Catalogue.{types, fields, good_catalogue}
 use Rattle.statements.specs.Dbd.{Reading, dbd_read, could_give, dbd_write}
@@ -19,12 +18,12 @@ given cat names = record { fault = 0; line = 0; types = types cat; fields = fiel
 
 -- what was written is read as the same pair
 abbrev pub ReadsBack : Type 0
-ReadsBack = (cat names text : Bytes) → dbd_write cat names ≡ some text → dbd_read text ≡ given cat names
+ReadsBack = (cat names text : Bytes) → dbd_write cat names ≡ Some text → dbd_read text ≡ given cat names
 
 -- a pair that the writer refuses is read from no text
 abbrev pub RefusesRest : Type 0
-RefusesRest = (cat names : Bytes) → dbd_write cat names ≡ none → (text : Bytes) → dbd_read text ≡ given cat names → false ≡ true
+RefusesRest = (cat names : Bytes) → dbd_write cat names ≡ None → (text : Bytes) → dbd_read text ≡ given cat names → false ≡ true
 
 -- what was written, read and written again is the same text
 abbrev pub WritesAgain : Type 0
-WritesAgain = (cat names text : Bytes) → dbd_write cat names ≡ some text → dbd_write (dbd_read text).catalogue (dbd_read text).names ≡ some text
+WritesAgain = (cat names text : Bytes) → dbd_write cat names ≡ Some text → dbd_write (dbd_read text).catalogue (dbd_read text).names ≡ Some text

@@ -1,4 +1,4 @@
--- What each form's words say once the line was read: a name in its place, a number's value, the kind of a key. Assumes nothing.
+-- What each form tells of a line, once its words were read: a name in its place, a number's value, the kind of a key. Assumes nothing.
 use mathlib.Core.Path.{◌≡◌, refl, ap, sym, ◌∙◌}
 use mathlib.Core.Bool.{Bool, true, false, ◌&&◌, ◌||◌}
 use mathlib.Core.List.{List, [], ◌∷◌, ◌++◌}
@@ -20,10 +20,13 @@ use Rattle.statements.proofs.Words.{clash}
 use Rattle.dbd_words.specs.declared.Span.{Span}
 use Rattle.dbd_words.specs.Capped.{capped}
 use Rattle.dbd_words.specs.Row.{cut, Reached, Held, Ends}
+use Rattle.dbd_words.proofs.Behind.{reached-on, reached-held, held-on, held-after}
 use Rattle.dbd_line.specs.declared.Line.TheVariants.{IsDbd, IsSegm, IsField}
 use Rattle.dbd_line.specs.declared.forms.Extent.{Extent}
-use Rattle.dbd_line.specs.Meant.{InLine, Meant, Spanned}
-use Rattle.dbd_line.proofs.Row.{formed-row, behind-row, word-behind, reach-more, reach-held, There, there, form-ends}
+use Rattle.dbd_line.specs.Meant.{InLine, Meant, Tells, Spanned}
+use Rattle.dbd_line.proofs.Row.{unformed, form-ends, reached-form, reached-word, held-word}
+use Rattle.std.specs.Prelude.{Option, Some, None, is_some}
+use Rattle.std.specs.Bool.{then_some}
 
 -- a name has at most 8 bytes, and so has the word 0
 name-few : (w : Bytes) → is_name w ≡ true → length w ≤ 8
@@ -49,150 +52,88 @@ parent-few w e = elim (is (leb (length w) 8)) [
 cut-length : (line : Bytes) (s : Span) → s.from ≤ s.to → s.to ≤ length line → length (cut line s) ≡ s.to - s.from
 cut-length line s l h = length-take-le (s.to - s.from) (drop s.from line) (simp length-drop (omega arith))
 
-in-line : {line : Bytes} {i k : ℕ} {a : Slot} {s : Span} → There line i a k s → length (cut line s) ≤ 8 → InLine line s (word_at (tokens (drop i line)) k)
-in-line {line} {i} {k} {a} {s} t h =
-    let l : s.from < s.to = t.some in
-    let m : s.to ≤ length line = t.inside in
-    let z : length (cut line s) ≡ s.to - s.from = cut-length line s (omega arith) m in
-    record { some = l; few = omega arith; inside = m; is = t.is }
+module _ {line : Bytes} {i : ℕ} {ss : List Slot} {s : Span} where
+  in-line : {a : Slot} → Held line i ss a (Some s) → length (cut line s) ≤ 8 → InLine line s (word_at (tokens (drop i line)) (length ss))
+  in-line h l =
+      let m : s.from < s.to = h.some in
+      let k : s.to ≤ length line = h.inside in
+      let z : length (cut line s) ≡ s.to - s.from = cut-length line s (omega arith) k in
+      record { some = m; few = omega arith; inside = k; is = held-word h }
 
-named : {line : Bytes} {i k : ℕ} {s : Span} → There line i name k s → InLine line s (word_at (tokens (drop i line)) k)
-unfolding suits
-named {line} {i} {k} {s} t = in-line t (name-few (cut line s) t.fit)
+  named : Held line i ss name (Some s) → InLine line s (word_at (tokens (drop i line)) (length ss))
+  unfolding suits
+  named h = in-line h (name-few (cut line s) h.fit)
 
-parented : {line : Bytes} {i k : ℕ} {s : Span} → There line i parent k s → InLine line s (word_at (tokens (drop i line)) k)
-parented {line} {i} {k} {s} t = in-line t (parent-few (cut line s) t.fit)
+  parented : Held line i ss parent (Some s) → InLine line s (word_at (tokens (drop i line)) (length ss))
+  parented h = in-line h (parent-few (cut line s) h.fit)
 
--- a number's word is one, and its value is the word's
-pub is-number : {line : Bytes} {i k : ℕ} {s : Span} → There line i number k s → is_number (cut line s) ≡ true
-unfolding suits
-is-number t = t.fit
+  -- a number's word is one, and its value is the word's
+  pub is_number_held : Held line i ss number (Some s) → is_number (cut line s) ≡ true
+  unfolding suits
+  is_number_held h = h.fit
 
-valued : {line : Bytes} {i k : ℕ} {a : Slot} {s : Span} {v : ℕ} → There line i a k s → v ≡ capped (value (cut line s))
-    → v ≡ capped (value (word_at (tokens (drop i line)) k))
-valued t e = e ∙ sym (ap (λ (w : Bytes). capped (value w)) t.is)
+  valued : {v : ℕ} → Held line i ss number (Some s) → v ≡ capped (value (cut line s)) → v ≡ capped (value (word_at (tokens (drop i line)) (length ss)))
+  valued h e = e ∙ sym (ap (λ (w : Bytes). capped (value w)) (held-word h))
 
 -- DBD
-module _ {line : Bytes} {i j : ℕ} {n : Span} {r : Bool} (a : Reached line 0 (only word_dbd ∷ []) i)
-    (b : Reached line i (only word_name ∷ mark equals ∷ []) j) (c : Held line j name n) (d : Ends line n r) where
-  pub dbd-form : formed dbd_form (tokens line) ≡ r
-  unfolding dbd_form
-  dbd-form = form-ends (take 3 dbd_form) r (reach-more a b) c d
-
-  pub dbd-right : r ≡ true → (formed dbd_form (tokens line) ≡ true) × Meant line (dbd_of (tokens line)) (IsDbd n)
-  unfolding dbd_form dbd_of
-  dbd-right z = (dbd-form ∙ z, named (there (take 3 dbd_form) [] (reach-more a b) c (dbd-form ∙ z)))
+pub dbd-told : {line : Bytes} {n : Span} → Held line 0 (only word_dbd ∷ only word_name ∷ mark equals ∷ []) name (Some n) → (r : Bool) → Ends line n.to r
+    → Tells dbd_form (dbd_of (tokens line)) line (then_some r (IsDbd n))
+unfolding dbd_form dbd_of
+dbd-told a true e = (form-ends a e, named a)
+dbd-told a false e = form-ends a e
 
 -- SEGM
-module _ {line : Bytes} {i j k m : ℕ} {n p l : Span} {r : Bool} (a : Reached line 0 (only word_segm ∷ []) i)
-    (b : Reached line i (only word_name ∷ mark equals ∷ []) j) (c : Held line j name n)
-    (d : Reached line n.to (mark comma ∷ only word_parent ∷ mark equals ∷ []) k) (e : Held line k parent p)
-    (f : Reached line p.to (mark comma ∷ only word_bytes ∷ mark equals ∷ []) m) (g : Held line m number l) (h : Ends line l r) where
-  segm-to-name : Reached line 0 (take 3 segm_form) j
-  unfolding segm_form
-  segm-to-name = reach-more a b
-
-  segm-to-parent : Reached line 0 (take 7 segm_form) k
-  unfolding segm_form
-  segm-to-parent = reach-more (reach-more segm-to-name (reach-held c)) d
-
-  segm-to-bytes : Reached line 0 (take 11 segm_form) m
-  unfolding segm_form
-  segm-to-bytes = reach-more (reach-more segm-to-parent (reach-held e)) f
-
-  pub segm-form : formed segm_form (tokens line) ≡ r
-  unfolding segm_form
-  segm-form = form-ends (take 11 segm_form) r segm-to-bytes g h
-
-  pub segm-bytes : r ≡ true → There line 0 number 11 l
-  unfolding segm_form
-  segm-bytes z = there (take 11 segm_form) [] segm-to-bytes g (segm-form ∙ z)
-
-  pub segm-right : (v : ℕ) → r ≡ true → v ≡ capped (value (cut line l))
-      → (formed segm_form (tokens line) ≡ true) × Meant line (segm_of (tokens line)) (IsSegm n p v)
+module _ {line : Bytes} {n p l : Span} (a : Held line 0 (only word_segm ∷ only word_name ∷ mark equals ∷ []) name (Some n))
+    (b : Held line n.to (mark comma ∷ only word_parent ∷ mark equals ∷ []) parent (Some p))
+    (c : Held line p.to (mark comma ∷ only word_bytes ∷ mark equals ∷ []) number (Some l)) where
+  pub segm-told : (v : ℕ) → v ≡ capped (value (cut line l)) → (r : Bool) → Ends line l.to r
+      → Tells segm_form (segm_of (tokens line)) line (then_some r (IsSegm n p v))
   unfolding segm_form segm_of
-  segm-right v z w = (
-    segm-form ∙ z,
-    (
-      named (there (take 3 segm_form) (drop 4 segm_form) segm-to-name c (segm-form ∙ z)),
-      parented (there (take 7 segm_form) (drop 8 segm_form) segm-to-parent e (segm-form ∙ z)),
-      valued (segm-bytes z) w,
-    ),
-  )
+  segm-told v w true e =
+      (form-ends (held-after (held-after a b) c) e, (named a, parented (held-after a b), valued (held-after (held-after a b) c) w))
+  segm-told v w false e = form-ends (held-after (held-after a b) c) e
 
 -- the end of both forms of FIELD
-module _ {line : Bytes} {i j k m : ℕ} {l s t : Span} {r : Bool} (a : Reached line i (mark comma ∷ only word_bytes ∷ mark equals ∷ []) j)
-    (b : Held line j number l) (c : Reached line l.to (mark comma ∷ only word_start ∷ mark equals ∷ []) k) (d : Held line k number s)
-    (e : Reached line s.to (mark comma ∷ only word_type ∷ mark equals ∷ []) m) (f : Held line m (either 0x43 0x58) t) (g : Ends line t r) where
-  span-to-start : Reached line i (take 7 span_form) k
+module _ {line : Bytes} {i : ℕ} {l s t : Span} (a : Held line i (mark comma ∷ only word_bytes ∷ mark equals ∷ []) number (Some l))
+    (b : Held line l.to (mark comma ∷ only word_start ∷ mark equals ∷ []) number (Some s))
+    (c : Held line s.to (mark comma ∷ only word_type ∷ mark equals ∷ []) (either 0x43 0x58) (Some t)) where
+  pub span-told : (v w : ℕ) → v ≡ capped (value (cut line l)) → w ≡ capped (value (cut line s)) → (r : Bool) → Ends line t.to r
+      → Spanned line i (then_some r (record { long = v; start = w }))
   unfolding span_form
-  span-to-start = reach-more (reach-more a (reach-held b)) c
+  span-told v w x y true e =
+      record { whole = sym (form-ends (held-after (held-after a b) c) e); length = valued a x; begin = valued (held-after a b) y }
+  span-told v w x y false e = record { whole = sym (form-ends (held-after (held-after a b) c) e); length = tt; begin = tt }
 
-  span-to-type : Reached line i (take 11 span_form) m
-  unfolding span_form
-  span-to-type = reach-more (reach-more span-to-start (reach-held d)) e
-
-  pub span-form : formed span_form (tokens (drop i line)) ≡ r
-  unfolding span_form
-  span-form = form-ends (take 11 span_form) r span-to-type f g
-
-  pub span-bytes : r ≡ true → There line i number 3 l
-  unfolding span_form
-  span-bytes z = there (take 3 span_form) (drop 4 span_form) a b (span-form ∙ z)
-
-  pub span-start : r ≡ true → There line i number 7 s
-  unfolding span_form
-  span-start z = there (take 7 span_form) (drop 8 span_form) span-to-start d (span-form ∙ z)
-
-  pub span-wrong : (v w : ℕ) → r ≡ false → Spanned line i (record { good = false; long = v; start = w })
-  span-wrong v w z = record { whole = sym (span-form ∙ z); length = λ x. clash x; begin = λ x. clash x }
-
-  pub span_right : (v w : ℕ) → r ≡ true → v ≡ capped (value (cut line l)) → w ≡ capped (value (cut line s))
-      → Spanned line i (record { good = true; long = v; start = w })
-  span_right v w z x y =
-      record { whole = sym (span-form ∙ z); length = λ u. valued (span-bytes z) x; begin = λ u. valued (span-start z) y }
+pub span-none : {line : Bytes} {i : ℕ} {ss : List Slot} (us : List Slot) → Reached line i ss None → ss ++ us ≡ span_form → Spanned line i None
+span-none {line} {i} {ss} us p e = record {
+  whole = sym (ap (λ (qs : List Slot). formed qs (tokens (drop i line))) (sym e) ∙ unformed us p);
+  length = tt;
+  begin = tt;
+}
 
 -- a form that ends so: its first slots were read up to i
-module _ {line : Bytes} {i : ℕ} {x : Extent} (pre : List Slot) (a : Reached line 0 pre i) (s : Spanned line i x) where
-  pub spanned-form : formed (pre ++ span_form) (tokens line) ≡ x.good
-  unfolding span_form
-  spanned-form = formed-row pre (mark comma) (drop 1 span_form) (tokens line) ∙ sym (ap (formed span_form) a.left) ∙ sym s.whole
+module _ {line : Bytes} {i : ℕ} {ss : List Slot} {r : Option Extent} (p : Reached line 0 ss (Some i)) (s : Spanned line i r) where
+  spanned-form : formed (ss ++ span_form) (tokens line) ≡ is_some r
+  spanned-form = reached-form p span_form ∙ sym s.whole
 
-  spanned-word : (k : ℕ) → x.good ≡ true → word_at (tokens (drop i line)) k ≡ word_at (tokens line) (length pre + k)
-  spanned-word k z = word-behind (tokens line) (tokens (drop i line)) (length pre) k (a.left ∙ behind-row pre span_form (tokens line) (spanned-form ∙ z))
+module _ {line : Bytes} {i : ℕ} {ss : List Slot} {x : Extent} (p : Reached line 0 ss (Some i)) (s : Spanned line i (Some x)) where
+  spanned-bytes : x.long ≡ capped (value (word_at (tokens line) (length ss + 3)))
+  spanned-bytes = s.length ∙ ap (λ (w : Bytes). capped (value w)) (reached-word p 3)
 
-  pub spanned-bytes : x.good ≡ true → x.long ≡ capped (value (word_at (tokens line) (length pre + 3)))
-  spanned-bytes z = s.length z ∙ ap (λ (w : Bytes). capped (value w)) (spanned-word 3 z)
+  spanned-start : x.start ≡ capped (value (word_at (tokens line) (length ss + 7)))
+  spanned-start = s.begin ∙ ap (λ (w : Bytes). capped (value w)) (reached-word p 7)
 
-  pub spanned-start : x.good ≡ true → x.start ≡ capped (value (word_at (tokens line) (length pre + 7)))
-  spanned-start z = s.begin z ∙ ap (λ (w : Bytes). capped (value w)) (spanned-word 7 z)
+pub field-none : {line : Bytes} {n : Span} → Held line 0 (only word_field ∷ only word_name ∷ mark equals ∷ []) name (Some n) → Spanned line n.to None
+    → formed field_form (tokens line) ≡ false
+unfolding field_form
+field-none a s = spanned-form (reached-held a) s
 
 -- FIELD
-module _ {line : Bytes} {i j : ℕ} {n : Span} {x : Extent} (a : Reached line 0 (only word_field ∷ []) i)
-    (b : Reached line i (only word_name ∷ mark equals ∷ []) j) (c : Held line j name n) (d : Spanned line n.to x) where
-  field-to-name : Reached line 0 (take 3 field_form) j
-  unfolding field_form
-  field-to-name = reach-more a b
-
-  field-to-span : Reached line 0 (take 4 field_form) n.to
-  unfolding field_form
-  field-to-span = reach-more field-to-name (reach-held c)
-
-  pub field-form : formed field_form (tokens line) ≡ x.good
-  unfolding field_form
-  field-form = spanned-form (take 4 field_form) field-to-span d
-
-  pub field-right : x.good ≡ true → (formed field_form (tokens line) ≡ true) × Meant line (field_of (tokens line)) (IsField n 0 x.long x.start)
-  unfolding field_form field_of
-  field-right z = (
-    field-form ∙ z,
-    (
-      named (there (take 3 field_form) span_form field-to-name c (field-form ∙ z)),
-      refl,
-      spanned-bytes (take 4 field_form) field-to-span d z,
-      spanned-start (take 4 field_form) field-to-span d z,
-    ),
-  )
+pub field-told : {line : Bytes} {n : Span} {x : Extent} → Held line 0 (only word_field ∷ only word_name ∷ mark equals ∷ []) name (Some n)
+    → Spanned line n.to (Some x) → (formed field_form (tokens line) ≡ true) × Meant line (field_of (tokens line)) (IsField n 0 x.long x.start)
+unfolding field_form field_of
+field-told a s =
+    (spanned-form (reached-held a) s, (named a, refl, spanned-bytes (reached-held a) s, spanned-start (reached-held a) s))
 
 -- R77: the letter of a key; the first byte of a word tells its kind
 cut-front : (line : Bytes) (s : Span) → s.from < s.to → s.to ≤ length line
@@ -211,57 +152,44 @@ unfolding kind_of same_bytes
 other-kind b w e = rw (same_bytes, e)
 
 -- FIELD with SEQ
-module _ {line : Bytes} {i j k m o p q : ℕ} {n l : Span} {x : Extent} (a : Reached line 0 (only word_field ∷ []) i)
-    (b : Reached line i (only word_name ∷ mark equals ∷ []) j) (c : Reached line j (mark opens ∷ []) k) (d : Held line k name n)
-    (e : Reached line n.to (mark comma ∷ []) m) (f : Reached line m (only word_seq ∷ []) o) (g : Reached line o (mark comma ∷ []) p)
-    (h : Held line p (either 0x55 0x4D) l) (u : Reached line l.to (mark shuts ∷ []) q) (v : Spanned line q x) where
-  key-to-name : Reached line 0 (take 4 key_form) k
-  unfolding key_form
-  key-to-name = reach-more (reach-more a b) c
+module _ {line : Bytes} {i j : ℕ} {n : Span} (a : Reached line 0 (only word_field ∷ only word_name ∷ mark equals ∷ []) (Some i))
+    (b : Reached line i (mark opens ∷ []) (Some j)) (c : Held line j [] name (Some n)) where
+  pub key-name : Held line 0 (only word_field ∷ only word_name ∷ mark equals ∷ mark opens ∷ []) name (Some n)
+  key-name = held-on (reached-on a b) c
 
-  key-to-letter : Reached line 0 (take 8 key_form) p
-  unfolding key_form
-  key-to-letter = reach-more (reach-more (reach-more (reach-more key-to-name (reach-held d)) e) f) g
+  module _ {k m : ℕ} (d : Reached line n.to (mark comma ∷ []) (Some k)) (e : Reached line k (only word_seq ∷ []) (Some m)) where
+    pub key-seq : Reached line 0 (only word_field ∷ only word_name ∷ mark equals ∷ mark opens ∷ name ∷ mark comma ∷ only word_seq ∷ []) (Some m)
+    key-seq = reached-on (reached-on (reached-held key-name) d) e
 
-  key-to-span : Reached line 0 (take 10 key_form) q
-  unfolding key_form
-  key-to-span = reach-more (reach-more key-to-letter (reach-held h)) u
+    module _ {o : ℕ} {l : Span} (f : Reached line m (mark comma ∷ []) (Some o)) (g : Held line o [] (either 0x55 0x4D) (Some l)) where
+      pub key-letter : Held line 0 (take 8 key_form) (either 0x55 0x4D) (Some l)
+      unfolding key_form
+      key-letter = held-on (reached-on key-seq f) g
 
-  pub key-form : formed key_form (tokens line) ≡ x.good
-  unfolding key_form
-  key-form = spanned-form (take 10 key_form) key-to-span v
+      module _ {q : ℕ} (h : Reached line l.to (mark shuts ∷ []) (Some q)) where
+        key-span : Reached line 0 (take 10 key_form) (Some q)
+        unfolding key_form
+        key-span = reached-on (reached-held key-letter) h
 
-  pub key-letter : x.good ≡ true → There line 0 (either 0x55 0x4D) 8 l
-  unfolding key_form
-  key-letter z = there (take 8 key_form) (drop 9 key_form) key-to-letter h (key-form ∙ z)
+        pub key-none : Spanned line q None → formed key_form (tokens line) ≡ false
+        unfolding key_form
+        key-none s = spanned-form key-span s
 
-  pub key-inside : x.good ≡ true → l.from < length line
-  key-inside z = let t = key-letter z in omega arith
+        key-kind : {x : Extent} (y : ℕ) → Spanned line q (Some x) → kind_of (cut line l) ≡ y
+            → (formed key_form (tokens line) ≡ true) × Meant line (key_of (tokens line)) (IsField n y x.long x.start)
+        unfolding key_form key_of
+        key-kind y s w =
+            (spanned-form key-span s, (named key-name, ap kind_of (held-word key-letter) ∙ w, spanned-bytes key-span s, spanned-start key-span s))
 
-  key-kind : (y : ℕ) → x.good ≡ true → kind_of (cut line l) ≡ y
-      → (formed key_form (tokens line) ≡ true) × Meant line (key_of (tokens line)) (IsField n y x.long x.start)
-  unfolding key_form key_of
-  key-kind y z w = (
-    key-form ∙ z,
-    (
-      named (there (take 4 key_form) (drop 5 key_form) key-to-name d (key-form ∙ z)),
-      ap kind_of (key-letter z).is ∙ w,
-      spanned-bytes (take 10 key_form) key-to-span v z,
-      spanned-start (take 10 key_form) key-to-span v z,
-    ),
-  )
+        pub key-unique : {x : Extent} → Spanned line q (Some x) → byte line l.from ≡ 0x55
+            → (formed key_form (tokens line) ≡ true) × Meant line (key_of (tokens line)) (IsField n 1 x.long x.start)
+        key-unique s w =
+            let y : cut line l ≡ 0x55 ∷ part line (suc l.from) (l.to - l.from - 1) =
+            cut-front line l g.some g.inside ∙ ap (λ (b : ℕ). b ∷ part line (suc l.from) (l.to - l.from - 1)) w in
+            key-kind 1 s (ap kind_of y ∙ one-kind (part line (suc l.from) (l.to - l.from - 1)) (sym (ap (suits (either 0x55 0x4D)) y) ∙ g.fit))
 
-  pub key-unique : x.good ≡ true → byte line l.from ≡ 0x55
-      → (formed key_form (tokens line) ≡ true) × Meant line (key_of (tokens line)) (IsField n 1 x.long x.start)
-  key-unique z w =
-      let t = key-letter z in
-      let y : cut line l ≡ 0x55 ∷ part line (suc l.from) (l.to - l.from - 1) =
-      cut-front line l t.some t.inside ∙ ap (λ (b : ℕ). b ∷ part line (suc l.from) (l.to - l.from - 1)) w in
-      key-kind 1 z (ap kind_of y ∙ one-kind (part line (suc l.from) (l.to - l.from - 1)) (sym (ap (suits (either 0x55 0x4D)) y) ∙ t.fit))
-
-  pub key-multiple : x.good ≡ true → (byte line l.from ≡ 0x55 → ⊥)
-      → (formed key_form (tokens line) ≡ true) × Meant line (key_of (tokens line)) (IsField n 2 x.long x.start)
-  key-multiple z w =
-      let t = key-letter z in
-      key-kind 2 z (ap kind_of (cut-front line l t.some t.inside)
-      ∙ other-kind (byte line l.from) (part line (suc l.from) (l.to - l.from - 1)) (ne_eqb 0x55 (byte line l.from) (λ y. w (sym y))))
+        pub key-multiple : {x : Extent} → Spanned line q (Some x) → (byte line l.from ≡ 0x55 → ⊥)
+            → (formed key_form (tokens line) ≡ true) × Meant line (key_of (tokens line)) (IsField n 2 x.long x.start)
+        key-multiple s w =
+            key-kind 2 s (ap kind_of (cut-front line l g.some g.inside)
+            ∙ other-kind (byte line l.from) (part line (suc l.from) (l.to - l.from - 1)) (ne_eqb 0x55 (byte line l.from) (λ y. w (sym y))))

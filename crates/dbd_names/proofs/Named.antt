@@ -1,28 +1,30 @@
 -- What one more name says of a name that is looked for, of a word with its spaces, and of bytes that are written over others. Assumes nothing.
 use mathlib.Core.Path.{◌≡◌, refl, ap, sym, ◌∙◌}
 use mathlib.Core.Bool.{true, false}
-use mathlib.Core.List.{List, [], ◌∷◌, ◌++◌, append_assoc, append-nil}
+use mathlib.Core.List.{List, [], ◌∷◌, ◌++◌, append_assoc}
 use Prim.Native.Nat.{ℕ, zero, suc, ◌+◌, ◌-◌, ◌*◌, ◌<◌, ◌≤◌}
 use native.Mathlib.Nat.{sub-zero}
 use native.Mathlib.Numerals.{add-one}
 use native.Mathlib.Omega.{arith}
 use lib.Dec.{ltb}
-use lib.ListN.{length, take, drop, replicate, drop_of_length-le}
-use lib.Seq.{sets, sets-eq, drop-drop, drop-cons, take-suc, append_snoc, get_or-take, get_or-drop}
+use Rattle.std.specs.Prelude.{Option, Some, None}
+use Rattle.std.specs.Option.{MatchOption, unwrap_or}
+use Rattle.std.specs.List.{AllWithin, HoldsAt}
+use lib.ListN.{length, take, drop, replicate}
+use lib.Seq.{sets, sets-eq, drop-drop, get_or-take, get_or-drop}
 use borrow.Author.Tests.{lt-ltb, eq-eqb, ne_eqb}
 use borrow.Rule.Slice.PartMut.{mid_of, put_mid}
 use Rattle.forest.specs.Good.{on, off, is}
 use Rattle.rules.specs.Block.{Bytes, byte, part, same_bytes}
-use Rattle.blocks.proofs.Lent.{lent-tail}
 use Rattle.statements.specs.Words.{filled, trimmed}
 use Rattle.statements.specs.Draft.{rows, place_from, place_of, has, own_names}
 use Rattle.dbd_names.proofs.Rows.{rows_end, rows_next}
 
--- bytes that were put into a lent tail
-pub put-at : (b from y : Bytes) (at : ℕ) → at + length from ≤ length b → y ≡ from ++ drop (length from) (mid_of at (length b - at) b)
-    → put_mid at (length b - at) b y ≡ sets b at from
+-- bytes that were copied into a part of a block
+pub put-at : (b from y : Bytes) (at : ℕ) → at + length from ≤ length b → y ≡ from → put_mid at (at + length from - at) b y ≡ sets b at from
 put-at b from y at h e =
-    lent-tail (λ (u : Bytes). from ++ drop (length from) u) b y at e
+    let z : at + length from - at ≡ length from = omega arith in
+    ap (λ (t : Bytes). put_mid at (at + length from - at) b t) e ∙ ap (λ (n : ℕ). take at b ++ (from ++ drop n (drop at b))) z
     ∙ ap (λ (t : Bytes). take at b ++ (from ++ t)) (drop-drop (length from) at b)
     ∙ sym (append_assoc (take at b) from (drop (at + length from) b)) ∙ sym (sets-eq from b at h)
 
@@ -32,24 +34,31 @@ drop-replicate (suc k) zero x = let z : 0 - suc k ≡ 0 = omega arith in rw z
 drop-replicate (suc k) (suc n) x = let z : suc n - suc k ≡ n - k = omega arith in rw z (drop-replicate k n x)
 
 -- R79: a word over eight spaces
-pub filled-over : (w y : Bytes) → y ≡ w ++ drop (length w) (replicate 8 0x20) → y ≡ filled w
+pub filled-over : (w y : Bytes) → y ≡ w → y ++ drop (length w) (replicate 8 0x20) ≡ filled w
 unfolding filled
-filled-over w y e = e ∙ ap (λ (t : Bytes). w ++ t) (drop-replicate (length w) 8 0x20)
+filled-over w y e = ap (λ (t : Bytes). t ++ drop (length w) (replicate 8 0x20)) e ∙ ap (λ (t : Bytes). w ++ t) (drop-replicate (length w) 8 0x20)
 
--- the bytes before i, and the word of those from i on
-module _ (b : Bytes) (i : ℕ) where
-  pub trimmed-next : i < length b → (byte b i ≡ 0x20 → ⊥) → part b 0 (i + 1) ++ trimmed (drop (i + 1) b) ≡ part b 0 i ++ trimmed (drop i b)
-  unfolding trimmed
-  trimmed-next h n =
-      rw (add-one, take-suc b i 0 h, append_snoc (take i b) (byte b i) (trimmed (drop (suc i) b)), drop-cons b i 0 h, trimmed, ne_eqb (byte b i) 0x20 n)
+-- the word of a name ends at its first space, or with the name
+trimmed-at : (b : Bytes) (n : ℕ) → n ≤ length b → ((k : ℕ) → k < n → byte b k ≡ 0x20 → ⊥) → (n < length b → byte b n ≡ 0x20) → take n b ≡ trimmed b
+unfolding trimmed
+trimmed-at [] zero h f e = refl
+trimmed-at [] (suc n) h f e = absurd (omega arith)
+trimmed-at (x ∷ b) zero h f e = rw (trimmed, eq-eqb x 0x20 (e (omega arith)))
+trimmed-at (x ∷ b) (suc n) h f e =
+    rw (trimmed, ne_eqb x 0x20 (f 0 (omega arith)))
+    (ap (λ (t : Bytes). x ∷ t) (trimmed-at b n (omega arith) (λ k l. f (suc k) (omega arith)) (λ l. e (omega arith))))
 
-  pub trimmed-stop : i < length b → byte b i ≡ 0x20 → part b 0 i ≡ part b 0 i ++ trimmed (drop i b)
-  unfolding trimmed
-  trimmed-stop h e = rw (drop-cons b i 0 h, trimmed, eq-eqb (byte b i) 0x20 e) (sym (append-nil (take i b)))
-
-  pub trimmed-end : length b ≤ i → part b 0 i ≡ part b 0 i ++ trimmed (drop i b)
-  unfolding trimmed
-  trimmed-end h = rw (drop_of_length-le b {i = i} h) (sym (append-nil (take i b)))
+pub name_ends : (b : Bytes) (r : Option ℕ) (n : ℕ) → n ≡ unwrap_or r (length b)
+    → MatchOption r (AllWithin (λ x. x ≡ 0x20 → ⊥) b 0 (length b)) (λ i. (i < length b) × HoldsAt (λ x. x ≡ 0x20) b i × AllWithin (λ x. x ≡ 0x20 → ⊥) b 0 i)
+    → (n ≤ length b) × (part b 0 n ≡ trimmed b)
+name_ends b None n z f = (
+  omega arith,
+  trimmed-at b n (omega arith) (λ k l. f k 0 (omega arith) (omega arith)) (λ l. absurd (omega arith)),
+)
+name_ends b (Some i) n z f = (
+  omega (arith, f.0),
+  trimmed-at b n (omega (arith, f.0)) (λ k l. f.2 k 0 (omega arith) (omega arith)) (λ l. ap (byte b) z ∙ f.1 0),
+)
 
 -- a name before others, which is the one that is looked for or is not
 pub place_none : (i : ℕ) (n : Bytes) → place_from i n [] ≡ 0
@@ -98,20 +107,21 @@ pub own-none : (t : ℕ) (ns : List Bytes) → own_names t [] ns ≡ []
 unfolding own_names
 own-none t ns = refl
 
--- the name at place i of a row of names, which the code has from byte `at` to byte `end`
-module _ (b n : Bytes) (i last at end : ℕ) (start : at ≡ 8 * i) (long : end ≡ at + 8) where
-  entry_of : mid_of at (end - at) b ≡ part b (8 * i) 8
-  entry_of = let z : end - at ≡ 8 = omega arith in rw (z, start)
+-- the name at place i of a row of names, where k is i as an index
+entry_of : (b : Bytes) (i k : ℕ) → k ≡ i → mid_of (8 * k) (8 * k + 8 - 8 * k) b ≡ part b (8 * i) 8
+entry_of b i k e = let z : 8 * k + 8 - 8 * k ≡ 8 = omega arith in rw (z, e)
 
-  pub place_here : i < last → true ≡ same_bytes n (mid_of at (end - at) b) → i + 1 ≡ place_from (i + 1) n (rows 8 b (8 * i) (last - i))
-  place_here h e =
-      rw (rows_next 8 b i last h) (sym (place-first (i + 1) n (part b (8 * i) 8) (rows 8 b (8 * (i + 1)) (last - (i + 1))) (rw (← entry_of) (sym e))))
+module _ (b n : Bytes) (i last k : ℕ) (at : k ≡ i) (h : i < last) where
+  pub place_here : true ≡ same_bytes n (mid_of (8 * k) (8 * k + 8 - 8 * k) b) → i + 1 ≡ place_from (i + 1) n (rows 8 b (8 * i) (last - i))
+  place_here e =
+      rw (rows_next 8 b i last h)
+      (sym (place-first (i + 1) n (part b (8 * i) 8) (rows 8 b (8 * (i + 1)) (last - (i + 1))) (rw (← entry_of b i k at) (sym e))))
 
-  pub place-next : i < last → false ≡ same_bytes n (mid_of at (end - at) b)
+  pub place-next : false ≡ same_bytes n (mid_of (8 * k) (8 * k + 8 - 8 * k) b)
       → place_from (i + 1 + 1) n (rows 8 b (8 * (i + 1)) (last - (i + 1))) ≡ place_from (i + 1) n (rows 8 b (8 * i) (last - i))
-  place-next h e =
+  place-next e =
       rw (add-one (i + 1), rows_next 8 b i last h)
-      (sym (place-later (i + 1) n (part b (8 * i) 8) (rows 8 b (8 * (i + 1)) (last - (i + 1))) (rw (← entry_of) (sym e))))
+      (sym (place-later (i + 1) n (part b (8 * i) 8) (rows 8 b (8 * (i + 1)) (last - (i + 1))) (rw (← entry_of b i k at) (sym e))))
 
 pub place-start : (b n : Bytes) (last : ℕ) → place_from (0 + 1) n (rows 8 b (8 * 0) (last - 0)) ≡ place_of n (rows 8 b 0 last)
 unfolding place_of
@@ -141,24 +151,25 @@ module _ (fs b : Bytes) (t i last : ℕ) (h : i < last) where
       (own-later t (part fs (4 * i) 4) (rows 4 fs (4 * (i + 1)) (last - (i + 1))) (part b (8 * i) 8) (rows 8 b (8 * (i + 1)) (last - (i + 1)))
       (λ z. e (sym (first_byte fs (4 * i)) ∙ z)))
 
--- a field of type t with the name, one with another name, and a field of another type; its entry is at byte `entry`, its name from `at` to `end`
-module _ (fs b n : Bytes) (t i last entry : ℕ) (from : entry ≡ 4 * i) (h : i < last) where
-  pub is-other : (byte fs entry ≡ t → ⊥) → has n (own_from fs b last t (i + 1)) ≡ has n (own_from fs b last t i)
-  is-other e = ap (has n) (sym (own-other fs b t i last h (λ z. e (ap (byte fs) from ∙ z))))
+-- a field of type t with the name, one with another name, and a field of another type, where k is i as an index
+module _ (fs b n : Bytes) (t i last k : ℕ) (at : k ≡ i) (h : i < last) where
+  pub is-other : (byte fs (4 * k) ≡ t → ⊥) → has n (own_from fs b last t (i + 1)) ≡ has n (own_from fs b last t i)
+  is-other e = ap (has n) (sym (own-other fs b t i last h (λ z. e (ap (λ (m : ℕ). byte fs (4 * m)) at ∙ z))))
 
-  module _ (at end : ℕ) (start : at ≡ 8 * i) (long : end ≡ at + 8) (e : byte fs entry ≡ t) where
+  module _ (e : byte fs (4 * k) ≡ t) where
     of-type : byte fs (4 * i) ≡ t
-    of-type = ap (byte fs) (sym from) ∙ e
+    of-type = ap (λ (m : ℕ). byte fs (4 * m)) (sym at) ∙ e
 
-    pub is-here : true ≡ same_bytes n (mid_of at (end - at) b) → true ≡ has n (own_from fs b last t i)
+    pub is-here : true ≡ same_bytes n (mid_of (8 * k) (8 * k + 8 - 8 * k) b) → true ≡ has n (own_from fs b last t i)
     is-here s =
         rw (own-here fs b t i last h of-type)
-        (sym (has_first n (part b (8 * i) 8) (own_from fs b last t (i + 1)) (rw (← entry_of b n i last at end start long) (sym s))))
+        (sym (has_first n (part b (8 * i) 8) (own_from fs b last t (i + 1)) (rw (← entry_of b i k at) (sym s))))
 
-    pub is-next : false ≡ same_bytes n (mid_of at (end - at) b) → has n (own_from fs b last t (i + 1)) ≡ has n (own_from fs b last t i)
+    pub is-next : false ≡ same_bytes n (mid_of (8 * k) (8 * k + 8 - 8 * k) b)
+        → has n (own_from fs b last t (i + 1)) ≡ has n (own_from fs b last t i)
     is-next s =
         rw (own-here fs b t i last h of-type)
-        (sym (has-later n (part b (8 * i) 8) (own_from fs b last t (i + 1)) (rw (← entry_of b n i last at end start long) (sym s))))
+        (sym (has-later n (part b (8 * i) 8) (own_from fs b last t (i + 1)) (rw (← entry_of b i k at) (sym s))))
 
 pub is-start : (fs b n : Bytes) (t last : ℕ) → has n (own_from fs b last t 0) ≡ has n (own_names t (rows 4 fs 0 last) (rows 8 b 0 last))
 is-start fs b n t last = simp sub-zero

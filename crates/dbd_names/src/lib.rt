@@ -7,7 +7,6 @@ ghost use Rattle.rules.specs.Block.{part};
 ghost use Rattle.statements.specs.Words.{filled, trimmed};
 ghost use Rattle.statements.specs.Draft.{rows, place_of, has, own_names};
 
-use blocks::moves::put;
 use blocks::slices::are_same;
 use blocks::wide;
 
@@ -16,7 +15,7 @@ pub fn write(block: &mut [u8], at: usize, from: &[u8])
     requires { at + length from.now ≤ length block.old }
     ensures { block.new ≡ sets block.old at from.now }
 {
-    put(&mut block[at..], from);
+    block[at..at + from.len()].copy_from_slice(from);
 }
 
 // R79: a word with spaces behind it.
@@ -24,8 +23,8 @@ pub fn filled(word: &[u8]) -> [u8; 8]
     requires { length word.now ≤ 8 }
     ensures { result ≡ filled word.now }
 {
-    let mut name = [0x20u8; 8];
-    put(&mut name, word);
+    let mut name = [b' '; 8];
+    name[..word.len()].copy_from_slice(word);
     name
 }
 
@@ -33,28 +32,18 @@ pub fn filled(word: &[u8]) -> [u8; 8]
 pub fn name_end(name: &[u8]) -> usize
     ensures { (result ≤ length name.now) × (part name.now 0 result ≡ trimmed name.now) }
 {
-    let mut i = 0;
-    while i < name.len() {
-        if name[i] == 0x20 {
-            return i;
-        }
-        i += 1;
-    }
-    i
+    name.iter().position(|&b| b == b' ').unwrap_or(name.len())
 }
 
-// Where a name stands among the first n, from 1; 0 where it does not.
+// Where a name stands among the first n, from 1; 0 where it does not: the rules' place_of is that number, and the crates above cite it.
 pub fn place_of(names: &[u8], n: u8, name: &[u8]) -> u8
     requires { 8 * n ≤ length names.now }
     ensures { result ≡ place_of name.now (rows 8 names.now 0 n) }
 {
-    let mut i: u8 = 0;
-    while i < n {
-        let at = 8 * wide(i);
-        let end = at + 8;
-        i += 1;
-        if are_same(name, &names[at..end]) {
-            return i;
+    for i in 0..n {
+        let k = wide(i);
+        if are_same(name, &names[8 * k..8 * k + 8]) {
+            return i + 1;
         }
     }
     0
@@ -65,16 +54,10 @@ pub fn is_own(fields: &[u8], names: &[u8], n: u8, t: u8, name: &[u8]) -> bool
     requires { (4 * n ≤ length fields.now) × (8 * n ≤ length names.now) }
     ensures { result ≡ has name.now (own_names t (rows 4 fields.now 0 n) (rows 8 names.now 0 n)) }
 {
-    let mut i: u8 = 0;
-    while i < n {
-        let entry = 4 * wide(i);
-        let from = 8 * wide(i);
-        let to = from + 8;
-        i += 1;
-        if fields[entry] == t {
-            if are_same(name, &names[from..to]) {
-                return true;
-            }
+    for i in 0..n {
+        let k = wide(i);
+        if fields[4 * k] == t && are_same(name, &names[8 * k..8 * k + 8]) {
+            return true;
         }
     }
     false

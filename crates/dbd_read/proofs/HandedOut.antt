@@ -2,13 +2,13 @@
 use mathlib.Core.Path.{◌≡◌, refl, ap, sym, ◌∙◌}
 use mathlib.Core.Bool.{Bool, true, false, ◌&&◌}
 use mathlib.Core.List.{[], ◌++◌, append_assoc}
-use Prim.Native.Nat.{ℕ, ◌+◌, ◌-◌, ◌*◌, ◌<◌, ◌≤◌}
+use Prim.Native.Nat.{ℕ, ◌+◌, ◌-◌, ◌*◌, ◌<◌, ◌≤◌, min}
 use native.Mathlib.Omega.{arith}
-use lib.Dec.{leb, eqb}
+use lib.Dec.{ltb, leb, eqb}
 use lib.ListN.{length, take, drop, set, length-append, length-drop, length-set}
 use lib.Seq.{sets, sets-eq, take_at, drop_at, drop-drop, set-append_left, length-take-le}
 use borrow.Rule.Slice.PartMut.{mid_of}
-use borrow.Author.Tests.{lt-ltb, le-ltb, le-leb, lt-leb, ne_eqb}
+use borrow.Author.Tests.{ltb-true, ltb-false, le-leb, lt-leb, ne_eqb}
 use Rattle.terms.specs.Choice.{pick}
 use Rattle.rules.specs.Block.{Bytes, byte, part}
 use Rattle.rules.specs.Catalogue.{types, fields}
@@ -16,17 +16,19 @@ use Rattle.statements.specs.Draft.{header, rows, catalogue_of, names_of}
 use Rattle.statements.specs.Dbd.{Reading, given, dbd_read}
 use Rattle.statements.specs.Lent.{onto, high, handed_out, read_into, read_back}
 use Rattle.statements.proofs.Rows.{joined-rows, rows-length, part_then}
-use Rattle.dbd_draft.specs.Kept.{draft_of}
+use Rattle.dbd_draft.specs.declared.Fault.{Fault}
+use Rattle.dbd_draft.specs.Kept.{draft_of, fault_of}
 use Rattle.dbd_read.specs.Reading.{Wide, Counted}
+use Rattle.dbd_read.proofs.LinesRead.{some_fault}
 
--- a line too great for 32 bits, and one that is not
-pub high-more : (n : ℕ) → 4294967295 < n → 4294967296 * 4294967295 ≡ high n
-unfolding high
-high-more n h = rw (lt-ltb 4294967295 n h)
+-- a line as 32 bits can tell it: one too great for them is told as their greatest
+capped : (n : ℕ) (t : Bool) → ltb 4294967295 n ≡ t → min n 4294967295 ≡ pick t 4294967295 n
+capped n true e = omega (arith, ltb-true 4294967295 n e)
+capped n false e = omega (arith, ltb-false 4294967295 n e)
 
-pub high_same : (n : ℕ) → n ≤ 4294967295 → 4294967296 * n ≡ high n
+pub high-capped : (n m : ℕ) → m ≡ min n 4294967295 → 4294967296 * m ≡ high n
 unfolding high
-high_same n h = rw (le-ltb 4294967295 n h)
+high-capped n m e = ap (λ (k : ℕ). 4294967296 * k) (e ∙ capped n (ltb 4294967295 n) refl)
 
 -- bytes at the front of a buffer, more behind them, and one of them changed
 pub onto-first : (c x : Bytes) → length x ≤ length c → sets c 0 x ≡ onto x c
@@ -70,11 +72,13 @@ unfolding handed_out
 out-whole r cat names e f = rw (handed_out, e, f)
 
 -- R80: a fault
-pub fault-out : (k n r : ℕ) (cat names : Bytes) (a : Reading) → 0 < k
-    → record { fault = k; line = n; types = 0; fields = 0; catalogue = []; names = [] } ≡ a → r ≡ k + high n → read_back r cat names ≡ handed_out a cat names
-fault-out k n r cat names a h e f =
-    let x : Reading = record { fault = k; line = n; types = 0; fields = 0; catalogue = []; names = [] } in
-    ap (λ (m : ℕ). read_back m cat names) f ∙ out-fault x cat names (ne_eqb k 0 (λ z. omega arith)) ∙ ap (λ (y : Reading). handed_out y cat names) e
+pub fault-out : (f : Fault) (n r : ℕ) (cat names : Bytes) (a : Reading)
+    → record { fault = fault_of f; line = n; types = 0; fields = 0; catalogue = []; names = [] } ≡ a → r ≡ fault_of f + high n
+    → read_back r cat names ≡ handed_out a cat names
+fault-out f n r cat names a e g =
+    let x : Reading = record { fault = fault_of f; line = n; types = 0; fields = 0; catalogue = []; names = [] } in
+    ap (λ (m : ℕ). read_back m cat names) g ∙ out-fault x cat names (ne_eqb (fault_of f) 0 (λ z. omega (arith, some_fault f)))
+    ∙ ap (λ (y : Reading). handed_out y cat names) e
 
 -- a draft that is wide enough, as the two blocks: pieces of its array
 module _ (b : Bytes) (w : Wide b) where
@@ -202,21 +206,6 @@ module _ (b : Bytes) (top last : ℕ) (k : Counted b top last) where
 
   pub last-few : last ≤ 64
   last-few = omega (arith, k.fields, k.fits.few_fields)
-
-  pub front_long : length (take (8 + 8 * top) b) ≡ 8 + 8 * top
-  front_long = part-long b k.fits 0 (8 + 8 * top) (omega (arith, top-few))
-
-  pub fields-long : length (mid_of 264 (264 + 4 * last - 264) b) ≡ 4 * last
-  fields-long = let z : 264 + 4 * last - 264 ≡ 4 * last = omega arith in rw z (part-long b k.fits 264 (4 * last) (omega (arith, last-few)))
-
-  pub header-part : length (take 8 b) ≡ 8
-  header-part = part-long b k.fits 0 8 (omega arith)
-
-  pub segments-long : length (mid_of 520 (528 + 8 * top - 520) b) ≡ 8 + 8 * top
-  segments-long = let z : 528 + 8 * top - 520 ≡ 8 + 8 * top = omega arith in rw z (part-long b k.fits 520 (8 + 8 * top) (omega (arith, top-few)))
-
-  pub own-long : length (mid_of 784 (784 + 8 * last - 784) b) ≡ 8 * last
-  own-long = let z : 784 + 8 * last - 784 ≡ 8 * last = omega arith in rw z (part-long b k.fits 784 (8 * last) (omega (arith, last-few)))
 
   pub catalogue-put : (cat c d : Bytes) → 8 + 8 * top + 4 * last ≤ length cat → c ≡ sets cat 0 (take (8 + 8 * top) b)
       → d ≡ sets c (8 + 8 * top) (mid_of 264 (264 + 4 * last - 264) b) → d ≡ onto (catalogue_of (draft_of b)) cat

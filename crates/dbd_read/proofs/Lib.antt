@@ -1,4 +1,4 @@
 pub mod LineEnds
-pub mod HandedOut
 pub mod LinesRead
+pub mod HandedOut
 pub mod FreshDraft

@@ -1,24 +1,24 @@
 -- The lines of a text read one after the other: a line that was taken, a bad one, and the end. Assumes nothing.
 use mathlib.Core.Path.{◌≡◌, refl, ap, sym, ◌∙◌}
 use mathlib.Core.List.{List, [], ◌∷◌}
-use Prim.Native.Nat.{ℕ, suc, ◌+◌, ◌-◌, ◌<◌, ◌≤◌}
+use Prim.Native.Nat.{ℕ, suc, ◌+◌, ◌<◌, ◌≤◌}
 use native.Mathlib.Numerals.{add-one}
 use native.Mathlib.Omega.{arith}
-use lib.ListN.{length, drop, drop_of_length-le}
+use lib.ListN.{length, drop_of_length-le}
 use borrow.Author.Tests.{eq-eqb, ne_eqb}
-use borrow.Rule.Slice.PartMut.{mid_of}
-use Rattle.rules.specs.Block.{Bytes, byte, part}
+use Rattle.std.specs.Prelude.{Result, Ok, Err, MatchResult}
+use Rattle.std.specs.Result.{IsErrAnd}
+use Rattle.rules.specs.Block.{Bytes, byte}
 use Rattle.rules.specs.Catalogue.{types}
 use Rattle.statements.specs.Lines.{lines_of}
-use Rattle.statements.specs.Draft.{Draft, Fault as Kind, misplaced, twice, orphan, unruled, fault_number, Taken, goes, bad, line_taken}
+use Rattle.statements.specs.Draft.{Draft, Fault as Kind, fault_number, goes, bad, line_taken}
 use Rattle.statements.specs.Dbd.{Reading as Answer, refused, given, ended, read_from, dbd_read}
 use Rattle.statements.proofs.Rows.{rows-length}
-use Rattle.dbd_draft.specs.declared.Judged.{Judged}
-use Rattle.dbd_draft.specs.declared.Judged.TheVariants.{Good, Misplaced, Twice, Orphan, Unruled}
-use Rattle.dbd_draft.specs.Kept.{draft_of, told, Left, Sound}
-use Rattle.dbd_read.specs.declared.Reading.{Reading}
-use Rattle.dbd_read.specs.declared.Reading.TheVariants.{Whole, Fault}
-use Rattle.dbd_read.specs.Reading.{LineEnd, fault_of, Fresh, read_as, Read}
+use Rattle.dbd_draft.specs.declared.Fault.{Fault}
+use Rattle.dbd_draft.specs.declared.Fault.TheVariants.{Misplaced, Twice, Orphan, Unruled}
+use Rattle.dbd_draft.specs.Kept.{draft_of, kind_of, fault_of, Left, Sound}
+use Rattle.dbd_read.specs.declared.LineFault.{LineFault}
+use Rattle.dbd_read.specs.Reading.{Fresh, read_as, Read}
 
 read_goes : (d e : Draft) (n : ℕ) (l : Bytes) (ls : List Bytes) → line_taken d l ≡ goes e → read_from d n (l ∷ ls) ≡ read_from e (suc n) ls
 unfolding read_from
@@ -36,111 +36,102 @@ lines_none : lines_of [] ≡ []
 unfolding lines_of
 lines_none = refl
 
--- what a line came to, by the number of its fault
-good-is : (j : Judged) (d : Draft) (t : Taken) → fault_of j ≡ 0 → told j d ≡ t → t ≡ goes d
-good-is Good d t e h = sym h
-good-is Misplaced d t e h = absurd (omega arith)
-good-is Twice d t e h = absurd (omega arith)
-good-is Orphan d t e h = absurd (omega arith)
-good-is Unruled d t e h = absurd (omega arith)
+-- R78: the number of a fault, which is not 0
+pub numbered : (f : Fault) → fault_number (kind_of f) ≡ fault_of f
+unfolding fault_number
+numbered Misplaced = refl
+numbered Twice = refl
+numbered Orphan = refl
+numbered Unruled = refl
 
-is-good : (j : Judged) → fault_of j ≡ 0 → j ≡ Good
-is-good Good e = refl
-is-good Misplaced e = absurd (omega arith)
-is-good Twice e = absurd (omega arith)
-is-good Orphan e = absurd (omega arith)
-is-good Unruled e = absurd (omega arith)
+pub some_fault : (f : Fault) → 0 < fault_of f
+some_fault Misplaced = omega arith
+some_fault Twice = omega arith
+some_fault Orphan = omega arith
+some_fault Unruled = omega arith
 
-bad-is : (j : Judged) (d c : Draft) (n : ℕ) (l : Bytes) (ls : List Bytes) (b : Bytes) → (fault_of j ≡ 0 → ⊥) → told j c ≡ line_taken d l
-    → read_as (Fault (fault_of j) n) b ≡ read_from d n (l ∷ ls)
-unfolding refused fault_number
-bad-is Good d c n l ls b e h = absurd (e refl)
-bad-is Misplaced d c n l ls b e h = sym (read-bad d n l ls misplaced (sym h))
-bad-is Twice d c n l ls b e h = sym (read-bad d n l ls twice (sym h))
-bad-is Orphan d c n l ls b e h = sym (read-bad d n l ls orphan (sym h))
-bad-is Unruled d c n l ls b e h = sym (read-bad d n l ls unruled (sym h))
-
--- a bad line, or a bad end, is no whole reading, and its fault is not 0
-not-whole : (k n : ℕ) → Fault k n ≡ Whole → ⊥
-not-whole k n e = let z : ◌≡◌ {A = ℕ} 0 1 = cc in omega arith
-
-pub read-fault : (k n : ℕ) (b levels : Bytes) (a : Answer) → 0 < k → read_as (Fault k n) b ≡ a → Read (Fault k n) b levels a
-read-fault k n b levels a h e = record {
-  same = e;
-  wide = λ z. absurd (not-whole k n z);
-  told = λ i m z. (let y : k ≡ i = cc in omega arith);
+read-fault : (f : Fault) (n : ℕ) (b : Bytes) (a : Answer) → refused (kind_of f) n ≡ a → Read (Err (record { fault = f; line = n })) b a
+unfolding refused
+read-fault f n b a e = record {
+  same = rw (← numbered f) e;
+  wide = tt;
 }
 
--- what the lines from byte `at` on come to, the first of them being line n, is what the text comes to
-abbrev pub Rest : Bytes → ℕ → ℕ → Bytes → Type 0
-Rest text at n b = read_from (draft_of b) n (lines_of (drop at text)) ≡ dbd_read text
+-- before line n: what its text and those behind it come to is what the whole text comes to, and each line before it had a byte at least
+pub record Before (text rest b levels : Bytes) (n : ℕ) : Type 0 where
+  pub short : n + length rest ≤ length text + 1
+  pub sound : Sound b levels
+  pub whole : read_from (draft_of b) n (lines_of rest) ≡ dbd_read text
 
-pub rest-start : (text b levels : Bytes) → Fresh b levels → Rest text 0 1 b
+pub before-first : (text rest b levels : Bytes) → Fresh b levels → rest ≡ text → Before text rest b levels 1
 unfolding dbd_read
-rest-start text b levels f = ap (λ (d : Draft). read_from d 1 (lines_of text)) f.empty
+before-first text rest b levels f e = rw e (record {
+  short = omega arith;
+  sound = f.sound;
+  whole = ap (λ (d : Draft). read_from d 1 (lines_of text)) f.empty;
+})
+
+-- what `map_err` makes of a line's fault: the same with the line's number
+abbrev pub Numbered : ℕ → Result (Unit {0}) Fault → Result (Unit {0}) LineFault → Type 0
+Numbered n r m = MatchResult r (λ u. m ≡ Ok u) (λ f. m ≡ Err (record { fault = f; line = n }))
+
+pub numbered_by : {P : Fault → LineFault → Type 0} (n : ℕ) (r : Result (Unit {0}) Fault) (m : Result (Unit {0}) LineFault)
+    → MatchResult r (λ u. m ≡ Ok u) (λ f. IsErrAnd m (P f)) → ((f : Fault) (e : LineFault) → P f e → e ≡ record { fault = f; line = n }) → Numbered n r m
+numbered_by n (Ok u) m h k = h
+numbered_by n (Err f) (Ok u) h k = absurd h
+numbered_by n (Err f) (Err e) h k = ap Err (k f e h)
 
 -- one line: b and c are the drafts before it and behind it
-module _ (text b c levels : Bytes) (at n end : ℕ) (j : Judged) (h : at < length text) (l : LineEnd text at end)
-    (left : Left j c levels (line_taken (draft_of b) (mid_of at (end - at) text))) (rest : Rest text at n b) where
-  taken-apart : read_from (draft_of b) n (part text at (end - at) ∷ lines_of (drop (suc end) text)) ≡ dbd_read text
-  taken-apart = ap (read_from (draft_of b) n) (sym (l.line h)) ∙ rest
+module _ (text rest more l b before c levels : Bytes) (n : ℕ) (here : Before text rest b before n) (cut : lines_of rest ≡ l ∷ lines_of more) where
+  taken-apart : read_from (draft_of b) n (l ∷ lines_of more) ≡ dbd_read text
+  taken-apart = ap (read_from (draft_of b) n) (sym cut) ∙ here.whole
 
-  module _ (k : ℕ) (of : k ≡ fault_of j) where
-    pub line-bad : (k ≡ 0 → ⊥) → Read (Fault k n) c levels (dbd_read text)
-    line-bad e =
-        read-fault k n c levels (dbd_read text) (omega (arith, e))
-        (ap (λ (m : ℕ). read_as (Fault m n) c) of
-        ∙ bad-is j (draft_of b) (draft_of c) n (part text at (end - at)) (lines_of (drop (suc end) text)) c (λ z. e (of ∙ z)) left.same
-        ∙ taken-apart)
+  pub line-bad : (r : Result (Unit {0}) Fault) (m : Result (Unit {0}) LineFault) (e : LineFault) → Left r c levels (line_taken (draft_of b) l)
+      → Numbered n r m → m ≡ Err e → Read (Err e) c (dbd_read text)
+  line-bad (Ok u) m e left t h = let z : Ok u ≡ Err e = sym t ∙ h in cc
+  line-bad (Err f) m e left t h =
+      let z : Err (record { fault = f; line = n }) ≡ Err e = sym t ∙ h in
+      let k : record { fault = f; line = n } ≡ e = cc in
+      rw (← k) (read-fault f n c (dbd_read text) (sym (read-bad (draft_of b) n l (lines_of more) (kind_of f) (sym left.same)) ∙ taken-apart))
 
-    module _ (e : k ≡ 0) where
-      pub line-sound : Sound c levels
-      line-sound = left.sound (is-good j (sym of ∙ e))
-
-      line-good : read_from (draft_of c) (n + 1) (lines_of (drop (suc end) text)) ≡ dbd_read text
-      line-good =
-          rw (add-one n)
-          (sym (read_goes (draft_of b) (draft_of c) n (part text at (end - at)) (lines_of (drop (suc end) text))
-          (good-is j (draft_of c) (line_taken (draft_of b) (part text at (end - at))) (sym of ∙ e) left.same))
-          ∙ taken-apart)
-
-      -- behind its LF, and at the text's end
-      pub rest-on : Rest text (end + 1) (n + 1) c
-      rest-on = rw (add-one end) line-good
-
-      pub rest-last : length text ≤ end → Rest text end (n + 1) c
-      rest-last g =
-          let x : drop end text ≡ [] = drop_of_length-le text {i = end} g in
-          let y : drop (suc end) text ≡ [] = drop_of_length-le text {i = suc end} (omega arith) in
-          ap (λ (t : Bytes). read_from (draft_of c) (n + 1) (lines_of t)) (x ∙ sym y) ∙ line-good
+  pub line-good : (r : Result (Unit {0}) Fault) (m : Result (Unit {0}) LineFault) (u : Unit {0}) → Left r c levels (line_taken (draft_of b) l)
+      → Numbered n r m → m ≡ Ok u → length more < length rest → Before text more c levels (n + 1)
+  line-good (Ok v) m u left t h s = record {
+    short = omega (arith, here.short);
+    sound = left.sound;
+    whole = rw (add-one n) (sym (read_goes (draft_of b) (draft_of c) n l (lines_of more) (sym left.same)) ∙ taken-apart);
+  }
+  line-good (Err f) m u left t h s = let z : ◌≡◌ {A = Result (Unit {0}) LineFault} (Err (record { fault = f; line = n })) (Ok u) = sym t ∙ h in cc
 
 -- no line is left
-module _ (text b levels : Bytes) (at n : ℕ) (h : length text ≤ at) (s : Sound b levels) (rest : Rest text at n b) where
+module _ (text rest b levels : Bytes) (n : ℕ) (none : length rest ≡ 0) (here : Before text rest b levels n) where
   ends : ended (draft_of b) n ≡ dbd_read text
   ends =
-      let x : drop at text ≡ [] = drop_of_length-le text {i = at} h in
-      sym (ap (λ (t : Bytes). read_from (draft_of b) n (lines_of t)) x ∙ ap (read_from (draft_of b) n) lines_none ∙ read-end (draft_of b) n) ∙ rest
+      let x : rest ≡ [] = drop_of_length-le rest {i = 0} (omega (arith, none)) in
+      sym (ap (λ (t : Bytes). read_from (draft_of b) n (lines_of t)) x ∙ ap (read_from (draft_of b) n) lines_none ∙ read-end (draft_of b) n) ∙ here.whole
 
   counted : length (draft_of b).types ≡ types b
   unfolding draft_of
   counted = rows-length 8 b 8 (types b)
 
-  pub end_none : byte b 5 ≡ 0 → Read (Fault 1 n) b levels (dbd_read text)
-  unfolding types ended refused fault_number
-  end_none e = read-fault 1 n b levels (dbd_read text) (omega arith) (sym (rw (eq-eqb (length (draft_of b).types) 0 (counted ∙ e))) ∙ ends)
+  pub end_none : byte b 5 ≡ 0 → Read (Err (record { fault = Misplaced; line = n })) b (dbd_read text)
+  unfolding types ended
+  end_none e = read-fault Misplaced n b (dbd_read text) (sym (rw (eq-eqb (length (draft_of b).types) 0 (counted ∙ e))) ∙ ends)
 
-  pub end_whole : (byte b 5 ≡ 0 → ⊥) → Read Whole b levels (dbd_read text)
+  pub end_whole : (byte b 5 ≡ 0 → ⊥) → Read (Ok tt) b (dbd_read text)
   unfolding types ended
   end_whole e = record {
     same = sym (rw (ne_eqb (length (draft_of b).types) 0 (λ z. e (sym counted ∙ z)))) ∙ ends;
-    wide = λ z. record { long = s.long; few = s.few; few_fields = s.few_fields; headed = s.headed; based = s.based (omega (arith, e)) };
-    told = λ k m z. absurd (not-whole k m (sym z));
+    wide =
+        let s = here.sound in
+        record { long = s.long; few = s.few; few_fields = s.few_fields; headed = s.headed; based = s.based (omega (arith, e)) };
   }
 
 -- a reading, by its arm
-module _ (r : Reading) (b levels : Bytes) (a : Answer) (h : Read r b levels a) where
-  pub whole_is : r ≡ Whole → given (draft_of b) ≡ a
-  whole_is e = sym (ap (λ (x : Reading). read_as x b) e) ∙ h.same
+module _ (r : Result (Unit {0}) LineFault) (b : Bytes) (a : Answer) where
+  pub whole_is : (u : Unit {0}) → Read r b a → r ≡ Ok u → given (draft_of b) ≡ a
+  whole_is u h e = sym (ap (λ (x : Result (Unit {0}) LineFault). read_as x b) e) ∙ h.same
 
-  pub fault-is : (k n : ℕ) → r ≡ Fault k n → record { fault = k; line = n; types = 0; fields = 0; catalogue = []; names = [] } ≡ a
-  fault-is k n e = sym (ap (λ (x : Reading). read_as x b) e) ∙ h.same
+  pub fault-is : (e : LineFault) → Read r b a → r ≡ Err e
+      → record { fault = fault_of e.fault; line = e.line; types = 0; fields = 0; catalogue = []; names = [] } ≡ a
+  fault-is f h e = sym (ap (λ (x : Result (Unit {0}) LineFault). read_as x b) e) ∙ h.same

@@ -7,13 +7,13 @@ mod out;
 ghost use Rattle.std.specs.Prelude.{◌≡◌};
 ghost use Rattle.statements.specs.Lent.{read_into, read_back};
 
-use blocks::moves::put;
+use dbd_draft::Fault;
 
-// What the lines came to: both blocks, or the number of the first fault and its line.
+// The first fault of a text, and its line, from 1.
 #[derive(Clone, Copy)]
-pub enum Reading {
-    Whole,
-    Fault(u8, usize),
+pub struct LineFault {
+    fault: Fault,
+    line: usize,
 }
 
 // R80: reads `text`, and writes the catalogue to the front of `cat` and the list of names to the front of `names`; or writes nothing. Answers T and F,
@@ -23,10 +23,9 @@ pub fn umbristal_dbd_read(text: &[u8], cat: &mut [u8], names: &mut [u8]) -> u64
 {
     let mut draft = [0u8; 1296];
     let mut levels = [0u8; 33];
-    put(&mut draft, b"HDC\0\x01");
-    let reading = lines::read_lines(&mut draft, &mut levels, text);
-    match reading {
-        Reading::Whole => out::hand_out(&draft, cat, names),
-        Reading::Fault(kind, line) => out::told_fault(kind, line),
+    draft[..5].copy_from_slice(b"HDC\0\x01");
+    match lines::read_lines(&mut draft, &mut levels, text) {
+        Ok(()) => out::hand_out(&draft, cat, names),
+        Err(first) => out::told_fault(first),
     }
 }

@@ -3,27 +3,25 @@ ghost use Rattle.std.specs.Prelude.{◌≡◌, ◌+◌, ◌*◌, ◌≤◌, leng
 ghost use Rattle.statements.specs.Draft.{catalogue_of, names_of};
 ghost use Rattle.statements.specs.Dbd.{given};
 ghost use Rattle.statements.specs.Lent.{high, onto, handed_out, read_back};
-ghost use Rattle.dbd_draft.specs.Kept.{draft_of};
+ghost use Rattle.dbd_draft.specs.Kept.{draft_of, fault_of};
 ghost use Rattle.dbd_read.specs.Reading.{Wide, Counted};
 
+use crate::LineFault;
 use blocks::wide;
 use dbd_names::write;
 
-// A fault and its line, as one number.
-pub(crate) fn told_fault(kind: u8, line: usize) -> u64
-    ensures { result ≡ kind + high line }
+// A fault and its line, as one number; a line too great for 32 bits is told as their greatest.
+pub(crate) fn told_fault(first: LineFault) -> u64
+    ensures { result ≡ fault_of first.fault + high first.line }
 {
-    let most = 4294967295;
-    let mut told = line;
-    if most < line {
-        told = most;
-    }
-    kind as u64 + 4294967296 * told as u64
+    let line = first.line.min(4294967295);
+    u64::from(u8::from(first.fault)) + 4294967296 * line as u64
 }
 
 // The catalogue, to the front of a buffer: its header and types, then its fields.
 fn put_catalogue(draft: &[u8], top: usize, last: usize, cat: &mut [u8])
-    requires { Counted draft.now top last × (8 + 8 * top + 4 * last ≤ length cat.old) }
+    requires counted { Counted draft.now top last }
+    requires room { 8 + 8 * top + 4 * last ≤ length cat.old }
     ensures { cat.new ≡ onto (catalogue_of (draft_of draft.now)) cat.old }
 {
     let types = 8 + 8 * top;
@@ -34,7 +32,8 @@ fn put_catalogue(draft: &[u8], top: usize, last: usize, cat: &mut [u8])
 
 // The list of names: its header, the names of the data base and of the segments, then those of the fields.
 fn put_names(draft: &[u8], top: usize, last: usize, names: &mut [u8])
-    requires { Counted draft.now top last × (16 + 8 * top + 8 * last ≤ length names.old) }
+    requires counted { Counted draft.now top last }
+    requires room { 16 + 8 * top + 8 * last ≤ length names.old }
     ensures { names.new ≡ onto (names_of (draft_of draft.now)) names.old }
 {
     let segments = 528 + 8 * top;
@@ -54,13 +53,10 @@ pub(crate) fn hand_out(draft: &[u8], cat: &mut [u8], names: &mut [u8]) -> u64
 {
     let top = wide(draft[5]);
     let last = wide(draft[6]);
-    if cat.len() < 8 + 8 * top + 4 * last {
-        return 28;
-    }
-    if names.len() < 16 + 8 * top + 8 * last {
+    if cat.len() < 8 + 8 * top + 4 * last || names.len() < 16 + 8 * top + 8 * last {
         return 28;
     }
     put_catalogue(draft, top, last, cat);
     put_names(draft, top, last, names);
-    256 * top as u64 + 65536 * last as u64
+    256 * u64::from(draft[5]) + 65536 * u64::from(draft[6])
 }

@@ -2,9 +2,9 @@
 use mathlib.Core.Path.{◌≡◌, refl, ap, sym, ◌∙◌}
 use mathlib.Core.Bool.{true, false}
 use mathlib.Core.List.{[], ◌∷◌}
-use Prim.Native.Nat.{ℕ, ◌+◌, ◌-◌, ◌*◌, ◌<◌, ◌≤◌}
+use Prim.Native.Nat.{ℕ, min, ◌+◌, ◌-◌, ◌*◌, ◌<◌, ◌≤◌}
 use native.Mathlib.Omega.{arith}
-use lib.Dec.{ltb}
+use Rattle.std.specs.List.{list_all}
 use lib.ListN.{length, drop}
 use borrow.Author.Tests.{lt-ltb, le-ltb}
 use Rattle.forest.specs.Forest.{inside, outside, side}
@@ -20,12 +20,18 @@ module _ (w : Bytes) (i : ℕ) where
   pub digits-next : i < length w → is_digit (byte w i) ≡ true → every is_digit (drop (i + 1) w) ≡ every is_digit (drop i w)
   digits-next h e = sym (ap (every is_digit) (left_at w i h) ∙ every_in is_digit (byte w i) (drop (i + 1) w) e)
 
-  pub digits-stop : i < length w → is_digit (byte w i) ≡ false → every is_digit (drop i w) ≡ false
-  digits-stop h e = ap (every is_digit) (left_at w i h) ∙ every-out is_digit (byte w i) (drop (i + 1) w) e
+pub number_none : (w : Bytes) → length w ≡ 0 → is_number w ≡ false
+unfolding is_number
+number_none [] h = refl
+number_none (b ∷ bs) h = absurd (omega arith)
 
-  pub digits-end : length w ≤ i → every is_digit (drop i w) ≡ true
-  unfolding every
-  digits-end h = rw (none_left w i h)
+every-all : (w : Bytes) → list_all is_digit w ≡ every is_digit w
+unfolding every
+every-all [] = refl
+every-all (b ∷ bs) = elim (is (is_digit b)) [
+  | on e ↦ rw (e, every_in is_digit b bs e) (every-all bs)
+  | off e ↦ rw (e, every-out is_digit b bs e)
+]
 
 number-cons : (b : ℕ) (bs : Bytes) → is_number (b ∷ bs) ≡ every is_digit (b ∷ bs)
 unfolding is_number
@@ -34,15 +40,9 @@ number-cons b bs = elim (is (is_digit b)) [
   | off e ↦ rw (e, every-out is_digit b bs e)
 ]
 
-pub number-not : (w : Bytes) → every is_digit w ≡ false → false ≡ is_number w
-unfolding is_number
-number-not [] e = refl
-number-not (b ∷ bs) e = sym (number-cons b bs ∙ e)
-
-pub number_is : (w : Bytes) (i : ℕ) → i ≡ length w → every is_digit w ≡ true → ltb 0 i ≡ is_number w
-unfolding is_number
-number_is [] i z e = rw z
-number_is (b ∷ bs) i z e = lt-ltb 0 i (omega arith) ∙ sym (number-cons b bs ∙ e)
+pub number_all : (w : Bytes) → 0 < length w → list_all is_digit w ≡ is_number w
+number_all [] h = absurd (omega arith)
+number_all (b ∷ bs) h = every-all (b ∷ bs) ∙ sym (number-cons b bs)
 
 pub number_digits : (w : Bytes) → is_number w ≡ true → every is_digit w ≡ true
 unfolding is_number
@@ -60,6 +60,12 @@ capped-few n h = rw (le-ltb 255 n h)
 pub capped-many : (n : ℕ) → 255 < n → capped n ≡ 255
 unfolding capped
 capped-many n h = rw (lt-ltb 255 n h)
+
+pub capped_least : (n : ℕ) → capped n ≡ min n 255
+capped_least n = elim (side 255 n) [
+  | inside l ↦ omega (arith, capped-many n l)
+  | outside l ↦ omega (arith, capped-few n l)
+]
 
 capped-most : (n : ℕ) → capped n ≤ 255
 capped-most n = elim (side 255 n) [

@@ -4,4 +4,3 @@ pub mod Digits
 pub mod Names
 pub mod Spans
 pub mod Behind
-pub mod Suited

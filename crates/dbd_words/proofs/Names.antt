@@ -12,10 +12,10 @@ use Rattle.rules.specs.Block.{Bytes, byte, every}
 use Rattle.statements.specs.Words.{is_letter, in_word, is_name}
 use Rattle.statements.proofs.Words.{every-tail}
 
-pub name-none : (w : Bytes) → length w ≡ 0 → false ≡ is_name w
+pub name_none : (w : Bytes) → length w ≡ 0 → false ≡ is_name w
 unfolding is_name
-name-none [] h = refl
-name-none (b ∷ bs) h = absurd (omega arith)
+name_none [] h = refl
+name_none (b ∷ bs) h = absurd (omega arith)
 
 name-cut : (b : ℕ) (bs : Bytes) → leb (length bs) 7 ≡ false → false ≡ is_name (b ∷ bs)
 unfolding is_name
@@ -31,10 +31,10 @@ name-first b bs e f = elim (is (is_letter b)) [
   | off h ↦ rw h
 ]
 
-pub name-long : (w : Bytes) → 8 < length w → false ≡ is_name w
-name-long [] h = absurd (omega arith)
-name-long (b ∷ bs) h = name-cut b bs (lt-leb (length bs) 7 (omega arith))
+pub name_long : (w : Bytes) → 8 < length w → false ≡ is_name w
+name_long [] h = absurd (omega arith)
+name_long (b ∷ bs) h = name-cut b bs (lt-leb (length bs) 7 (omega arith))
 
-pub name-is : (w : Bytes) → (length w ≡ 0 → ⊥) → length w ≤ 8 → every in_word w ≡ true → is_letter (byte w 0) ≡ is_name w
-name-is [] n h e = absurd (n refl)
-name-is (b ∷ bs) n h e = name-first b bs (le-leb (length bs) 7 (omega arith)) (every-tail in_word b bs e)
+pub name_is : (w : Bytes) → (length w ≡ 0 → ⊥) → length w ≤ 8 → every in_word w ≡ true → is_letter (byte w 0) ≡ is_name w
+name_is [] n h e = absurd (n refl)
+name_is (b ∷ bs) n h e = name-first b bs (le-leb (length bs) 7 (omega arith)) (every-tail in_word b bs e)

@@ -1,9 +1,10 @@
 -- A row of words and signs, read from a place of its line on. Assumes nothing: these are definitions.
-use Rattle.std.specs.Prelude.{◌≡◌, Bool, true, false, ◌&&◌, List, [], ◌∷◌, ℕ, ◌-◌, ◌≤◌, ◌<◌, ltb, length, drop}
+use Rattle.std.specs.Prelude.{◌≡◌, Bool, true, false, List, [], ◌∷◌, ◌++◌, ℕ, ◌-◌, ◌≤◌, ◌<◌, length, drop, Option, Some, None, IfSome}
+use Rattle.std.specs.Option.{option_map}
 use Rattle.terms.specs.Choice.{pick}
 use Rattle.rules.specs.Block.{Bytes, byte, part, every}
 use Rattle.statements.specs.Words.{Token, word, in_word, is_blank, in_front, tokens}
-use Rattle.statements.specs.Statement.{Slot, name, number, parent, either, suits, fits, formed}
+use Rattle.statements.specs.Statement.{Slot, name, number, parent, either, suits, fits}
 use Rattle.dbd_words.specs.declared.Span.{Span}
 use Rattle.dbd_words.specs.declared.Asks.{Asks}
 use Rattle.dbd_words.specs.declared.Asks.TheVariants.{AName, ANumber, AParent, OneOf}
@@ -19,14 +20,11 @@ asked ANumber = number
 asked AParent = parent
 asked (OneOf a b) = either a b
 
--- what is left behind a token that fits; nothing, where it does not
-unfoldable pub behind : Slot → List Token → List Token
-behind s [] = []
-behind s (t ∷ ts) = pick (fits s t) ts []
-
-unfoldable pub behind_all : List Slot → List Token → List Token
-behind_all [] ts = ts
-behind_all (s ∷ ss) ts = behind_all ss (behind s ts)
+-- what is left behind tokens that fit the slots, one each; none, where one does not fit
+unfoldable pub behind : List Slot → List Token → Option (List Token)
+behind [] ts = Some ts
+behind (s ∷ ss) [] = None
+behind (s ∷ ss) (t ∷ ts) = pick (fits s t) (behind ss ts) None
 
 abbrev pub is_none : List Token → Bool
 is_none [] = true
@@ -54,20 +52,19 @@ pub record NextWord (line : Bytes) (i : ℕ) (s : Span) : Type 0 where
   pub there : s.from < s.to → tokens (drop i line) ≡ word (cut line s) ∷ tokens (drop s.to line)
   pub missed : s.from ≡ s.to → (w : Bytes) (ts : List Token) → tokens (drop i line) ≡ word w ∷ ts → false ≡ true
 
--- these slots have been read from i on, and what is left stands from r on
-pub record Reached (line : Bytes) (i : ℕ) (ss : List Slot) (r : ℕ) : Type 0 where
-  pub inside : r ≤ length line
-  pub left : tokens (drop r line) ≡ behind_all ss (tokens (drop i line))
+-- these slots have been read from i on, and what is left stands from r on; none, where what stands from i on does not fit them
+pub record Reached (line : Bytes) (i : ℕ) (ss : List Slot) (r : Option ℕ) : Type 0 where
+  pub inside : IfSome r (λ k. k ≤ length line)
+  pub left : option_map (λ k. tokens (drop k line)) r ≡ behind ss (tokens (drop i line))
 
--- the next token is the word of this span and fits the slot; or, where that is empty, it does not
-pub record Held (line : Bytes) (i : ℕ) (a : Slot) (s : Span) : Type 0 where
-  pub ordered : s.from ≤ s.to
-  pub inside : s.to ≤ length line
-  pub left : tokens (drop s.to line) ≡ behind a (tokens (drop i line))
-  pub there : s.from < s.to → tokens (drop i line) ≡ word (cut line s) ∷ tokens (drop s.to line)
-  pub fit : s.from < s.to → suits a (cut line s) ≡ true
-  pub missed : s.from ≡ s.to → (ss : List Slot) → formed (a ∷ ss) (tokens (drop i line)) ≡ false
+-- behind these slots stands the word of this span, which fits the slot a; none, where what stands from i on does not fit them all
+pub record Held (line : Bytes) (i : ℕ) (ss : List Slot) (a : Slot) (r : Option Span) : Type 0 where
+  pub some : IfSome r (λ s. s.from < s.to)
+  pub inside : IfSome r (λ s. s.to ≤ length line)
+  pub left : option_map (λ (s : Span). tokens (drop s.to line)) r ≡ behind (ss ++ (a ∷ [])) (tokens (drop i line))
+  pub there : IfSome r (λ s. drop (length ss) (tokens (drop i line)) ≡ word (cut line s) ∷ tokens (drop s.to line))
+  pub fit : IfSome r (λ s. suits a (cut line s) ≡ true)
 
--- the word was there, and nothing is left
-abbrev pub Ends : Bytes → Span → Bool → Type 0
-Ends line s r = r ≡ (ltb s.from s.to && is_none (tokens (drop s.to line)))
+-- nothing is left
+abbrev pub Ends : Bytes → ℕ → Bool → Type 0
+Ends line i r = r ≡ is_none (tokens (drop i line))

@@ -7,49 +7,32 @@ ghost use Rattle.dbd_words.specs.Capped.{capped};
 
 use crate::Span;
 
+#[tactic(auto, unfolding(statements::specs::Words::is_digit))]
 pub fn is_digit(b: u8) -> bool
     ensures { result ≡ is_digit b }
 {
-    if b < 0x30 {
-        return false;
-    }
-    b <= 0x39
+    b.is_ascii_digit()
 }
 
+#[tactic(auto, unfolding(statements::specs::Words::is_letter))]
 pub fn is_letter(b: u8) -> bool
     ensures { result ≡ is_letter b }
 {
-    if b < 0x41 {
-        return false;
-    }
-    if b <= 0x5A {
-        return true;
-    }
-    if b < 0x61 {
-        return false;
-    }
-    b <= 0x7A
+    b.is_ascii_alphabetic()
 }
 
+#[tactic(auto, unfolding(statements::specs::Words::in_word, statements::specs::Words::is_letter, statements::specs::Words::is_digit))]
 pub fn in_word(b: u8) -> bool
     ensures { result ≡ in_word b }
 {
-    if is_letter(b) {
-        return true;
-    }
-    is_digit(b)
+    b.is_ascii_alphanumeric()
 }
 
+#[tactic(auto, unfolding(statements::specs::Words::is_blank))]
 fn is_blank(b: u8) -> bool
     ensures { result ≡ is_blank b }
 {
-    if b == 0x20 {
-        return true;
-    }
-    if b == 0x09 {
-        return true;
-    }
-    b == 0x0D
+    matches!(b, b' ' | b'\t' | b'\r')
 }
 
 // The first place from `at` on that holds no blank, or the line's end.
@@ -57,14 +40,11 @@ pub fn past_blanks(line: &[u8], at: usize) -> usize
     requires { at ≤ length line.now }
     ensures { PastBlanks line.now at result }
 {
-    let mut i = at;
-    while i < line.len() {
-        if !is_blank(line[i]) {
-            return i;
-        }
-        i += 1;
-    }
-    i
+    let rest = &line[at..];
+    at + rest
+        .iter()
+        .position(|&b| !is_blank(b))
+        .unwrap_or(rest.len())
 }
 
 // Where the letters and digits from `at` on end.
@@ -72,17 +52,11 @@ fn word_end(line: &[u8], at: usize) -> usize
     requires { at ≤ length line.now }
     ensures { WordEnd line.now at result }
 {
-    let mut i = at;
-    while i < line.len() {
-        if !in_word(line[i]) {
-            return i;
-        }
-        i += 1;
-    }
-    i
+    let rest = &line[at..];
+    at + rest.iter().position(|&b| !in_word(b)).unwrap_or(rest.len())
 }
 
-// The word that comes next; an empty one where a sign does, or nothing.
+// The word that comes next; an empty one where a sign does, or nothing, as the clause NextWord has it.
 pub fn next_word(line: &[u8], at: usize) -> Span
     requires { at ≤ length line.now }
     ensures { NextWord line.now at result }
@@ -93,42 +67,27 @@ pub fn next_word(line: &[u8], at: usize) -> Span
 }
 
 // R75: of a word.
+#[tactic(auto, using(crate::proofs::Names::name_none, crate::proofs::Names::name_long, crate::proofs::Names::name_is))]
 pub fn is_name(word: &[u8]) -> bool
     ensures { every in_word word.now ≡ true → result ≡ is_name word.now }
 {
-    if word.len() == 0 {
-        return false;
-    }
-    if 8 < word.len() {
-        return false;
-    }
-    is_letter(word[0])
+    !word.is_empty() && word.len() <= 8 && is_letter(word[0])
 }
 
 // R75: of any bytes.
 pub fn is_number(word: &[u8]) -> bool
     ensures { result ≡ is_number word.now }
 {
-    let mut i = 0;
-    while i < word.len() {
-        if !is_digit(word[i]) {
-            return false;
-        }
-        i += 1;
-    }
-    0 < i
+    !word.is_empty() && word.iter().all(|&b| is_digit(b))
 }
 
 // One digit more behind a number; 255 stands for all that are greater.
+#[tactic(auto, using(crate::proofs::Letters::digit_low, crate::proofs::Digits::capped_least))]
 fn next_number(n: u8, digit: u8) -> u8
     requires { is_digit digit ≡ true }
     ensures { result ≡ capped (10 * n + (digit - 0x30)) }
 {
-    let v = 10 * n as usize + (digit - 0x30) as usize;
-    if 255 < v {
-        return 255;
-    }
-    v as u8
+    n.saturating_mul(10).saturating_add(digit - b'0')
 }
 
 // A number's value; 255 stands for all that are greater.
@@ -136,11 +95,9 @@ pub fn number(word: &[u8]) -> u8
     requires { is_number word.now ≡ true }
     ensures { result ≡ capped (value word.now) }
 {
-    let mut n: u8 = 0;
-    let mut i = 0;
-    while i < word.len() {
-        n = next_number(n, word[i]);
-        i += 1;
+    let mut n = 0;
+    for &digit in word {
+        n = next_number(n, digit);
     }
     n
 }

@@ -1,7 +1,7 @@
 -- What the writer's checks give it, and its three answers (R82, R83). Assumes nothing.
+use Rattle.std.specs.Prelude.{Some}
 use mathlib.Core.Path.{◌≡◌, refl, ap, sym, ◌∙◌}
 use mathlib.Core.Bool.{true, false, ◌&&◌}
-use mathlib.Core.Option.{some}
 use mathlib.Core.List.{[], ◌∷◌, ◌++◌, map}
 use Prim.Native.Nat.{ℕ, ◌+◌, ◌*◌, ◌<◌, ◌≤◌}
 use native.Mathlib.Nat.{zero-add}
@@ -69,7 +69,7 @@ module _ (cat names text : Bytes) where
   unfolding write_into dbd_write text_into
   answer-none e = rw (dbd_write, e)
 
-  some-text : could_give cat names ≡ true → write_into cat names text ≡ text_into (some whole) text
+  some-text : could_give cat names ≡ true → write_into cat names text ≡ text_into (Some whole) text
   unfolding write_into dbd_write
   some-text e = rw (dbd_write, e)
 
@@ -78,7 +78,7 @@ module _ (cat names text : Bytes) where
   unfolding text_into
   answer-short n t g p e h =
       let l : length text < length whole = omega (arith, ap length e) in
-      let z : text_into (some whole) text ≡ written_back 28 text = rw (text_into, lt-leb (length whole) (length text) l) in
+      let z : text_into (Some whole) text ≡ written_back 28 text = rw (text_into, lt-leb (length whole) (length text) l) in
       ap (written_back 28) e ∙ sym z ∙ sym (some-text g)
 
   pub answer-text : (n m : ℕ) (t u : Bytes) → could_give cat names ≡ true → n ≡ 0 + length whole → n < 200000 → t ≡ text → n ≤ length t
@@ -90,5 +90,5 @@ module _ (cat names text : Bytes) where
       let y : u ≡ whole ++ drop (length whole) text =
       w.bytes (omega (arith, w.place)) ∙ ap (λ (b : Bytes). sets b 0 whole) e ∙ sets-eq whole text 0 (omega arith) ∙ rw zero-add in
       let x : 4294967296 * n ≡ high (length whole) = ap (λ (k : ℕ). 4294967296 * k) q ∙ rw (le-ltb 4294967295 (length whole) (omega arith)) in
-      let z : text_into (some whole) text ≡ written_back (high (length whole)) (onto whole text) = rw (text_into, le-leb (length whole) (length text) l) in
+      let z : text_into (Some whole) text ≡ written_back (high (length whole)) (onto whole text) = rw (text_into, le-leb (length whole) (length text) l) in
       ap (λ (b : Bytes). written_back (4294967296 * n) b) y ∙ ap (λ (k : ℕ). written_back k (onto whole text)) x ∙ sym z ∙ sym (some-text g)

@@ -2,7 +2,7 @@
 use mathlib.Core.Path.{◌≡◌, refl, ap, sym, ◌∙◌}
 use mathlib.Core.Bool.{Bool, true, false}
 use mathlib.Core.List.{List, [], ◌∷◌, ◌++◌, map, append_assoc, append-nil}
-use Prim.Native.Nat.{ℕ, zero, suc, ◌+◌, ◌≤◌}
+use Prim.Native.Nat.{ℕ, zero, suc, ◌+◌}
 use native.Mathlib.Numerals.{add-one}
 use native.Mathlib.Omega.{arith}
 use lib.Dec.{eqb}
@@ -100,34 +100,32 @@ module _ (cat names : Bytes) (t : TypeCode) where
   unfolding those text_of
   fields-none = refl
 
-  -- field f + 1 is of type t: its line stands behind the others
-  pub fields-more : (f key kind : ℕ) (u : TypeCode) → u ≡ field_type cat (field_of (f + 1)) → u.0 ≡ t.0 → key ≡ key_field cat t.0
-      → kind ≡ pick (eqb (f + 1) key) (key_kind cat t) 0
-      → fields_to f ++ line_by (f + 1) kind ≡ fields_to (f + 1)
+  -- field f, behind n others, is of type t: its line stands behind theirs
+  pub fields-more : (n m f kind : ℕ) (u : TypeCode) → f ≡ n + 1 → m ≡ n + 1 → u ≡ field_type cat (field_of f) → u.0 ≡ t.0
+      → kind ≡ pick (eqb f (key_field cat t.0)) (key_kind cat t) 0
+      → fields_to n ++ line_by f kind ≡ fields_to m
   unfolding field_statement
-  fields-more f key kind u a b d e =
+  fields-more n m f kind u i j a b d =
       let p : ℕ → Bool = λ i. eqb (field_type cat (field_of i)).0 t.0 in
       let g : ℕ → Statement = field_statement cat names t.0 in
-      let h : p (f + 1) ≡ true = eq-eqb (field_type cat (field_of (f + 1))).0 t.0 (ap (λ (v : TypeCode). v.0) (sym a) ∙ b) in
-      let k : kind ≡ pick (eqb (f + 1) (key_field cat t.0)) (key_kind cat t) 0 = e ∙ ap (λ (v : ℕ). pick (eqb (f + 1) v) (key_kind cat t) 0) d in
-      ap (λ (v : ℕ). fields_to f ++ line_by (f + 1) v) k
-      ∙ ap (λ (v : Bytes). fields_to f ++ v) (sym (by_one (g (f + 1))))
-      ∙ sym (by_append (map g (those p (range 1 f))) (g (f + 1) ∷ []))
-      ∙ ap text_by (sym (map-append g (those p (range 1 f)) ((f + 1) ∷ [])))
-      ∙ ap (λ (l : List ℕ). text_by (map g l)) (sym (those-more p f h))
+      let h : p f ≡ true = eq-eqb (field_type cat (field_of f)).0 t.0 (ap (λ (v : TypeCode). v.0) (sym a) ∙ b) in
+      ap (λ (v : ℕ). fields_to n ++ line_by f v) d
+      ∙ ap (λ (v : Bytes). fields_to n ++ v) (sym (by_one (g f)))
+      ∙ sym (by_append (map g (those p (range 1 n))) (g f ∷ []))
+      ∙ ap text_by (sym (map-append g (those p (range 1 n)) (f ∷ [])))
+      ∙ rw (i, j) (ap (λ (l : List ℕ). text_by (map g l)) (sym (those-more p n (rw i at h))))
 
   -- it is not
-  pub fields-same : (f : ℕ) (u : TypeCode) → u ≡ field_type cat (field_of (f + 1)) → (u.0 ≡ t.0 → ⊥) → fields_to f ≡ fields_to (f + 1)
-  fields-same f u a b =
+  pub fields-same : (n m f : ℕ) (u : TypeCode) → f ≡ n + 1 → m ≡ n + 1 → u ≡ field_type cat (field_of f) → (u.0 ≡ t.0 → ⊥) → fields_to n ≡ fields_to m
+  fields-same n m f u i j a b =
       let p : ℕ → Bool = λ i. eqb (field_type cat (field_of i)).0 t.0 in
-      let h : p (f + 1) ≡ false = ne_eqb (field_type cat (field_of (f + 1))).0 t.0 (λ z. b (ap (λ (v : TypeCode). v.0) a ∙ z)) in
-      ap (λ (l : List ℕ). text_by (map (field_statement cat names t.0) l)) (sym (those-same p f h))
+      let h : p f ≡ false = ne_eqb (field_type cat (field_of f)).0 t.0 (λ z. b (ap (λ (v : TypeCode). v.0) a ∙ z)) in
+      rw j (ap (λ (l : List ℕ). text_by (map (field_statement cat names t.0) l)) (sym (those-same p n (rw i at h))))
 
   -- all were looked at
-  pub fields-all : (f last : ℕ) → last ≡ fields cat → f ≤ last → last ≤ f
-      → fields_to f ≡ text_by (map (field_statement cat names t.0) (own_fields cat t.0))
+  pub fields-all : (n last : ℕ) → last ≡ fields cat → n ≡ last → fields_to n ≡ text_by (map (field_statement cat names t.0) (own_fields cat t.0))
   unfolding own_fields
-  fields-all f last e a b = let z : f ≡ fields cat = omega arith in ap fields_to z
+  fields-all n last e a = ap fields_to (a ∙ e)
 
 module _ (cat names : Bytes) where
   types-append : (xs ys : List ℕ) → type_statements cat names (xs ++ ys) ≡ type_statements cat names xs ++ type_statements cat names ys
@@ -145,32 +143,25 @@ module _ (cat names : Bytes) where
   unfolding text_of type_statements
   types-none = refl
 
-  pub types_more : (k : ℕ)
-      → types_to k ++ ((spelled (segm_statement cat names (k + 1)) ++ (line_end ∷ []))
-      ++ text_by (map (field_statement cat names (k + 1)) (own_fields cat (k + 1))))
-      ≡ types_to (k + 1)
+  -- type k, behind n others
+  pub types_more : (n m k : ℕ) → k ≡ n + 1 → m ≡ n + 1
+      → types_to n ++ ((spelled (segm_statement cat names k) ++ (line_end ∷ [])) ++ text_by (map (field_statement cat names k) (own_fields cat k)))
+      ≡ types_to m
   unfolding type_statements
-  types_more k =
-      let s : Statement = segm_statement cat names (k + 1) in
-      let fs : List Statement = map (field_statement cat names (k + 1)) (own_fields cat (k + 1)) in
-      ap (λ (t : Bytes). types_to k ++ t) (sym (by-cons s fs))
-      ∙ sym (by_append (type_statements cat names (range 1 k)) (s ∷ fs))
-      ∙ ap (λ (l : List Statement). text_by (type_statements cat names (range 1 k) ++ l)) (sym (append-nil (s ∷ fs)))
-      ∙ ap text_by (sym (types-append (range 1 k) ((k + 1) ∷ [])))
-      ∙ ap (λ (l : List ℕ). text_by (type_statements cat names l)) (sym (range-next k))
+  types_more n m k i j =
+      let s : Statement = segm_statement cat names k in
+      let fs : List Statement = map (field_statement cat names k) (own_fields cat k) in
+      let z : range 1 n ++ (k ∷ []) ≡ range 1 m = rw (i, j) (sym (range-next n)) in
+      ap (λ (t : Bytes). types_to n ++ t) (sym (by-cons s fs))
+      ∙ sym (by_append (type_statements cat names (range 1 n)) (s ∷ fs))
+      ∙ ap (λ (l : List Statement). text_by (type_statements cat names (range 1 n) ++ l)) (sym (append-nil (s ∷ fs)))
+      ∙ ap text_by (sym (types-append (range 1 n) (k ∷ [])))
+      ∙ ap (λ (l : List ℕ). text_by (type_statements cat names l)) z
 
   -- DBD and all types
-  pub types-all : (k top : ℕ) → top ≡ types cat → k ≤ top → top ≤ k
-      → (spelled (dbd (trimmed (name_at names 0))) ++ (line_end ∷ [])) ++ types_to k ≡ text_by (statements cat names)
+  pub types-all : (n top : ℕ) → top ≡ types cat → n ≡ top
+      → (spelled (dbd (trimmed (name_at names 0))) ++ (line_end ∷ [])) ++ types_to n ≡ text_by (statements cat names)
   unfolding statements
-  types-all k top e a b =
-      let z : k ≡ types cat = omega arith in
+  types-all n top e a =
       let d : Statement = dbd (trimmed (name_at names 0)) in
-      sym (by-cons d (type_statements cat names (range 1 k))) ∙ ap (λ (n : ℕ). text_by (d ∷ type_statements cat names (range 1 n))) z
-
--- the branches of `kind_shown`
-pub kind-key : (f key kind r : ℕ) → f ≡ key → r ≡ kind → r ≡ pick (eqb f key) kind 0
-kind-key f key kind r e h = rw (eq-eqb f key e) h
-
-pub kind-none : (f key kind : ℕ) → (f ≡ key → ⊥) → 0 ≡ pick (eqb f key) kind 0
-kind-none f key kind e = rw (ne_eqb f key e)
+      sym (by-cons d (type_statements cat names (range 1 n))) ∙ ap (λ (k : ℕ). text_by (d ∷ type_statements cat names (range 1 k))) (a ∙ e)

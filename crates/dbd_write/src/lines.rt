@@ -54,7 +54,7 @@ pub(crate) fn put_segm(out: &mut [u8], at: usize, cat: &[u8], names: &[u8], t: T
     put_text(out, f, b"\n")
 }
 
-// A field's name, with SEQ for a kind that is not 0.
+// A field's name, with SEQ for a kind that is not 0; 1 is U and 2 is M, as the key's byte has it (R4).
 fn put_named(out: &mut [u8], at: usize, name: &[u8], kind: u8) -> usize
     requires { (at + 24 < 4294967296) × (length name.now ≡ 8) }
     ensures { Wrote at (name_part (trimmed name.now) kind) out.old result out.new × (result ≤ at + 16) }

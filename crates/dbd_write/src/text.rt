@@ -22,8 +22,7 @@ fn put_digit(out: &mut [u8], at: usize, n: u8) -> usize
     requires { (at + 1 < 4294967296) × (n < 10) }
     ensures { Wrote at ((0x30 + n) ∷ []) out.old result out.new }
 {
-    let digit = [0x30 + n; 1];
-    put_text(out, at, &digit)
+    put_text(out, at, &[0x30 + n])
 }
 
 pub(crate) fn put_decimal(out: &mut [u8], at: usize, n: u8) -> usize

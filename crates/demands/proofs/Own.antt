@@ -1,4 +1,6 @@
 -- The status of each call that is not refused before it begins is that of the first row given. Assumes nothing.
+use Rattle.terms.specs.declared.CellNumber.{CellNumber}
+use Rattle.std.specs.Prelude.{Some, None, Option}
 use mathlib.Core.Path.{◌≡◌, refl, ap, sym, ◌∙◌}
 use mathlib.Core.Bool.{Bool, true, false, ◌&&◌, ◌||◌, not}
 use mathlib.Core.List.{List, [], ◌∷◌}
@@ -10,15 +12,12 @@ use borrow.Author.Tests.{le-leb, lt-leb}
 use Rattle.terms.specs.declared.TypeCode.{TypeCode}
 use Rattle.terms.specs.declared.Place.{Place}
 use Rattle.terms.specs.declared.Place.TheVariants.{On, Before}
-use Rattle.terms.specs.declared.Parentage.{Parentage}
 use Rattle.terms.specs.declared.Position.{Position}
 use Rattle.terms.specs.declared.Argument.{Argument}
 use Rattle.terms.specs.declared.Status.{Status}
 use Rattle.terms.specs.declared.Status.TheVariants.{Blank, GA, GK, GB, GE, DA, II, FX, PD}
-use Rattle.terms.specs.declared.Found.{Found}
-use Rattle.terms.specs.declared.Found.TheVariants.{At, Nothing}
 use Rattle.terms.specs.Choice.{pick}
-use Rattle.terms.specs.Names.{cell, same_type}
+use Rattle.terms.specs.Names.{cell, same_type, Parentage}
 use Rattle.terms.specs.Moves.{place_number, after_place}
 use Rattle.forest.specs.Forest.{inside, outside, side}
 use Rattle.forest.specs.Good.{is_nil, nil-of, on, off, is}
@@ -68,40 +67,40 @@ module _ (cat : Bytes) (cs : List Segment) (pos : Position) (area : Bytes) where
     | outside l ↦ (let z : e - i ≡ 0 = omega arith in rw (z, seek-none cat cs [] i, le-leb e i l))
   ]
 
-  unique-status : (parentage : ℕ → Parentage) (hold : Bool) (f : Found)
+  unique-status : (parentage : ℕ → Parentage) (hold : Bool) (f : Option CellNumber)
       → (gotten cat cs pos area GE (λ i. Blank) parentage hold f).answer.status ≡ pick (is_nothing f || false) GE Blank
   unfolding answer_of
-  unique-status parentage hold Nothing = refl
-  unique-status parentage hold (At c) = refl
+  unique-status parentage hold None = refl
+  unique-status parentage hold (Some c) = refl
 
   -- GA and GK, of a cell found
-  abbrev steps : Bool → Place → Found → Status
+  abbrev steps : Bool → Place → Option CellNumber → Status
   steps empty q f =
       pick (empty && is_on q && not (is_nothing f) && ltb (level_at cat cs (found_cell f)) (level_at cat cs (place_number q))) GA
       (pick (empty && is_on q && not (is_nothing f) && (eqb (level_at cat cs (found_cell f)) (level_at cat cs (place_number q))
       && not (same_type (segment cs (found_cell f)).code (segment cs (place_number q)).code))) GK
       Blank)
 
-  steps-status : (ls : List Level) (q : Place) (i : ℕ) → level_status cat cs ls q i ≡ steps (is_nil ls) q (At (cell i))
+  steps-status : (ls : List Level) (q : Place) (i : ℕ) → level_status cat cs ls q i ≡ steps (is_nil ls) q (Some (cell i))
   steps-status [] (On c) i = refl
   steps-status [] (Before c) i = refl
   steps-status (l ∷ ls) q i = refl
 
-  next-status : (ls : List Level) (parentage : ℕ → Parentage) (hold : Bool) (f : Found) (left : Bool) → (is_nil ls ≡ true → left ≡ is_nothing f)
+  next-status : (ls : List Level) (parentage : ℕ → Parentage) (hold : Bool) (f : Option CellNumber) (left : Bool) → (is_nil ls ≡ true → left ≡ is_nothing f)
       → (gotten cat cs pos area (miss_status ls) (level_status cat cs ls pos.place) parentage hold f).answer.status
       ≡ pick (is_nil ls && left) GB (pick ((not (is_nil ls) && is_nothing f) || false) GE (steps (is_nil ls) pos.place f))
   unfolding answer_of
-  next-status [] parentage hold Nothing left h = rw (h refl)
-  next-status [] parentage hold (At c) left h = rw (h refl) (steps-status [] pos.place c.0)
-  next-status (l ∷ ls) parentage hold Nothing left h = refl
-  next-status (l ∷ ls) parentage hold (At c) left h = refl
+  next-status [] parentage hold None left h = rw (h refl)
+  next-status [] parentage hold (Some c) left h = rw (h refl) (steps-status [] pos.place c.0)
+  next-status (l ∷ ls) parentage hold None left h = refl
+  next-status (l ∷ ls) parentage hold (Some c) left h = refl
 
-  within-status : (ls : List Level) (parentage : ℕ → Parentage) (hold : Bool) (f : Found)
+  within-status : (ls : List Level) (parentage : ℕ → Parentage) (hold : Bool) (f : Option CellNumber)
       → (gotten cat cs pos area GE (level_status cat cs ls pos.place) parentage hold f).answer.status
       ≡ pick (is_nothing f || false) GE (steps (is_nil ls) pos.place f)
   unfolding answer_of
-  within-status ls parentage hold Nothing = refl
-  within-status ls parentage hold (At c) = steps-status ls pos.place c.0
+  within-status ls parentage hold None = refl
+  within-status ls parentage hold (Some c) = steps-status ls pos.place c.0
 
   inserted-status : (m : ℕ) (x : Segment) (above : List ℕ) (b : Bool) (r : ℕ) (new : List Segment)
       → (inserted cat cs pos area m x above b r new).answer.status
@@ -170,15 +169,15 @@ module _ (cat tab : Bytes) (pos : Position) (list area : Bytes) (s : SoundList c
   told-among above i n =
       rw (sym (listing-length cat tab)) (inserted-status cat cs pos area (room cat tab) x above (key_taken cat cs x i n) _ _)
 
-  told-beneath : (f : Found)
+  told-beneath : (f : Option CellNumber)
       → (insert_under cat cs pos area (room cat tab) x f).answer.status
       ≡ pick (is_nothing f) GE
       (pick (not (keyed cat x)) PD
       (pick (eqb (key_kind cat t) 1 && taken_beneath cat tab pos 7 list area f) II (pick (eqb (count tab) (room cat tab)) FX Blank)))
-  told-beneath Nothing = refl
-  told-beneath (At p) = told-among (row_at cat cs p.0) (suc p.0) (run_at cat cs p.0 - 1)
+  told-beneath None = refl
+  told-beneath (Some p) = told-among (row_at cat cs p.0) (suc p.0) (run_at cat cs p.0 - 1)
 
-  told-insert : (b : Bool) (f : Found)
+  told-insert : (b : Bool) (f : Option CellNumber)
       → (pick b (insert_among cat cs pos area (room cat tab) x [] 0 (length cs))
       (insert_under cat cs pos area (room cat tab) x f)).answer.status
       ≡ pick (not b && is_nothing f) GE

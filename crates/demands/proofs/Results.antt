@@ -1,4 +1,6 @@
 -- What a call leaves untouched, and what its result tells. Assumes nothing.
+use Rattle.terms.specs.declared.CellNumber.{CellNumber}
+use Rattle.std.specs.Prelude.{Some, None, Option}
 use mathlib.Core.Path.{◌≡◌, refl, ap}
 use mathlib.Core.Bool.{Bool, true, false, ◌&&◌, ◌||◌, not}
 use mathlib.Core.List.{List, [], ◌∷◌}
@@ -9,15 +11,12 @@ use lib.ListN.{length}
 use borrow.Author.Tests.{leb-true, leb-false, ne_eqb}
 use Rattle.terms.specs.declared.Place.{Place}
 use Rattle.terms.specs.declared.Place.TheVariants.{On, Before}
-use Rattle.terms.specs.declared.Parentage.{Parentage}
 use Rattle.terms.specs.declared.Position.{Position}
 use Rattle.terms.specs.declared.Argument.{Argument}
 use Rattle.terms.specs.declared.Status.{Status}
 use Rattle.terms.specs.declared.Status.TheVariants.{Blank, GA, GK, GB, GE, GP, CX, TX, PX, AD, AC, AJ, AK, AH, AB, DJ, DA, II, FX, PD}
-use Rattle.terms.specs.declared.Found.{Found}
-use Rattle.terms.specs.declared.Found.TheVariants.{At, Nothing}
 use Rattle.terms.specs.Choice.{pick}
-use Rattle.terms.specs.Names.{same_type}
+use Rattle.terms.specs.Names.{same_type, Parentage}
 use Rattle.terms.specs.Statuses.{number}
 use Rattle.terms.specs.Moves.{place_number, after_place, is_absent}
 use Rattle.forest.specs.Numbers.{is_in}
@@ -136,10 +135,10 @@ module _ (cat tab : Bytes) (pos : Position) (list area : Bytes) where
 
   says-gotten : (c : ℕ) → get c ≡ true → dlet c ≡ false → (miss : Status) → 10 ≤ number miss → number miss < 20 → (status : ℕ → Status)
       → ((i : ℕ) → number (status i) < 10)
-      → (parentage : ℕ → Parentage) (hold : Bool) (f : Found) → Says c (gotten cat cs pos area miss status parentage hold f)
+      → (parentage : ℕ → Parentage) (hold : Bool) (f : Option CellNumber) → Says c (gotten cat cs pos area miss status parentage hold f)
   unfolding answer_of long shown_bytes
-  says-gotten c g d miss l m status low parentage hold Nothing = says-missed c miss l m
-  says-gotten c g d miss l m status low parentage hold (At i) = record {
+  says-gotten c g d miss l m status low parentage hold None = says-missed c miss l m
+  says-gotten c g d miss l m status low parentage hold (Some i) = record {
     high = λ h. absurd (omega (arith, low i.0));
     low = λ h k. absurd (omega (arith, low i.0));
     tells = record {
@@ -209,9 +208,9 @@ module _ (cat tab : Bytes) (pos : Position) (list area : Bytes) where
   unfolding insert_among
   says-among m above i n = says-inserted m above (key_taken cat cs (new cat tab pos 7 list area) i n) _ _
 
-  says-beneath : (m : ℕ) (f : Found) → Says 7 (insert_under cat cs pos area m (new cat tab pos 7 list area) f)
-  says-beneath m Nothing = says-missed 7 GE (omega arith) (omega arith)
-  says-beneath m (At c) = says-among m _ _ _
+  says-beneath : (m : ℕ) (f : Option CellNumber) → Says 7 (insert_under cat cs pos area m (new cat tab pos 7 list area) f)
+  says-beneath m None = says-missed 7 GE (omega arith) (omega arith)
+  says-beneath m (Some c) = says-among m _ _ _
 
   says-insert : (m : ℕ) (ls : List Level) → Says 7 (insert cat cs pos area m (last_argument (list_read cat list).arguments).code ls)
   unfolding insert

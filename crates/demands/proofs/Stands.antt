@@ -1,4 +1,5 @@
 -- The position after every call is what the table of specs/PositionTable.antt says. Assumes nothing.
+use Rattle.std.specs.Prelude.{Some, None, Option}
 use mathlib.Core.Path.{◌≡◌, refl, ap, sym, ◌∙◌, subst}
 use mathlib.Core.Bool.{Bool, true, false, ◌&&◌, not}
 use mathlib.Core.List.{List, []}
@@ -11,15 +12,11 @@ use Rattle.terms.specs.declared.TypeCode.{TypeCode}
 use Rattle.terms.specs.declared.CellNumber.{CellNumber}
 use Rattle.terms.specs.declared.Place.{Place}
 use Rattle.terms.specs.declared.Place.TheVariants.{On, Before}
-use Rattle.terms.specs.declared.Parentage.{Parentage}
-use Rattle.terms.specs.declared.Parentage.TheVariants.{Absent, Of}
 use Rattle.terms.specs.declared.Position.{Position}
 use Rattle.terms.specs.declared.Status.{Status}
 use Rattle.terms.specs.declared.Status.TheVariants.{Blank, GA, GK, GB, GE, GP, CX, TX, PX, AD, AC, AJ, AK, AH, AB, DJ, DA, II, FX, PD}
-use Rattle.terms.specs.declared.Found.{Found}
-use Rattle.terms.specs.declared.Found.TheVariants.{At, Nothing}
 use Rattle.terms.specs.Choice.{pick}
-use Rattle.terms.specs.Names.{code, cell}
+use Rattle.terms.specs.Names.{code, cell, Parentage}
 use Rattle.terms.specs.Statuses.{number}
 use Rattle.terms.specs.Moves.{place_number, after_place, moved_onto, without}
 use Rattle.forest.specs.Insert.{spot}
@@ -99,11 +96,11 @@ module _ (cat tab : Bytes) (pos : Position) (list area : Bytes) where
 
   -- a get moves onto the cell found; f is what it finds
   stood-gotten : (c : ℕ) (miss : Status) → 10 ≤ number miss → number miss < 20 → (status : ℕ → Status) → ((i : ℕ) → number (status i) < 10)
-      → (parentage : ℕ → Parentage) (hold : Bool) (f : Found) → ((i : CellNumber) → f ≡ At i → moved_onto i.0 (parentage i.0) hold ≡ done c)
+      → (parentage : ℕ → Parentage) (hold : Bool) (f : Option CellNumber) → ((i : CellNumber) → f ≡ Some i → moved_onto i.0 (parentage i.0) hold ≡ done c)
       → Stood c (gotten cat cs pos area miss status parentage hold f)
   unfolding answer_of
-  stood-gotten c miss l m status low parentage hold Nothing h = stood-missed c miss l m
-  stood-gotten c miss l m status low parentage hold (At i) h =
+  stood-gotten c miss l m status low parentage hold None h = stood-missed c miss l m
+  stood-gotten c miss l m status low parentage hold (Some i) h =
       h i refl ∙ sym (ap (said cat tab pos c list area) (done-row c (number (status i.0)) (low i.0)))
 
   abbrev ls : List Level
@@ -111,32 +108,32 @@ module _ (cat tab : Bytes) (pos : Position) (list area : Bytes) where
 
   -- R36: the parentage that GU and GN leave
   stood-unique : (c : ℕ) (hold : Bool)
-      → moved_onto (found_cell (along cat cs ls pos.place)) (Of (cell (found_cell (along cat cs ls pos.place)))) hold ≡ done c
+      → moved_onto (found_cell (along cat cs ls pos.place)) (Some (cell (found_cell (along cat cs ls pos.place)))) hold ≡ done c
       → Stood c (get_unique cat cs pos area hold ls)
   unfolding get_unique
   stood-unique c hold h =
       stood-gotten c GE (omega arith) (omega arith) (λ i. Blank) (λ i. omega arith) _ hold (along cat cs ls pos.place)
-      (λ i e. sym (ap (λ (f : Found). moved_onto (found_cell f) (Of (cell (found_cell f))) hold) e) ∙ h)
+      (λ i e. sym (ap (λ (f : Option CellNumber). moved_onto (found_cell f) (Some (cell (found_cell f))) hold) e) ∙ h)
 
-  abbrev ahead : Found
+  abbrev ahead : Option CellNumber
   ahead = first_match cat cs ls (after_place pos.place) (length cs)
 
-  stood-next : (c : ℕ) (hold : Bool) → moved_onto (found_cell ahead) (Of (cell (found_cell ahead))) hold ≡ done c → Stood c (get_next cat cs pos area hold ls)
+  stood-next : (c : ℕ) (hold : Bool) → moved_onto (found_cell ahead) (Some (cell (found_cell ahead))) hold ≡ done c → Stood c (get_next cat cs pos area hold ls)
   unfolding get_next
   stood-next c hold h =
       stood-gotten c (miss_status ls) (miss-high cat tab pos list area ls) (miss-low cat tab pos list area ls)
       (level_status cat cs ls pos.place) (level-low cat tab pos list area ls pos.place) _ hold ahead
-      (λ i e. sym (ap (λ (f : Found). moved_onto (found_cell f) (Of (cell (found_cell f))) hold) e) ∙ h)
+      (λ i e. sym (ap (λ (f : Option CellNumber). moved_onto (found_cell f) (Some (cell (found_cell f))) hold) e) ∙ h)
 
   -- R35: GNP leaves it as it was
-  abbrev inside : Found
+  abbrev inside : Option CellNumber
   inside = first_match cat cs ls (after_place pos.place) (parent_end cat cs pos.parentage)
 
   stood-within : (c : ℕ) (hold : Bool) → moved_onto (found_cell inside) pos.parentage hold ≡ done c → Stood c (get_next_within cat cs pos area hold ls)
   unfolding get_next_within
   stood-within c hold h =
       stood-gotten c GE (omega arith) (omega arith) (level_status cat cs ls pos.place) (level-low cat tab pos list area ls pos.place) _ hold inside
-      (λ i e. sym (ap (λ (f : Found). moved_onto (found_cell f) pos.parentage hold) e) ∙ h)
+      (λ i e. sym (ap (λ (f : Option CellNumber). moved_onto (found_cell f) pos.parentage hold) e) ∙ h)
 
   -- REPL
   stood-replace : Stood 8 (replace cat cs pos area)
@@ -149,10 +146,10 @@ module _ (cat tab : Bytes) (pos : Position) (list area : Bytes) where
   -- R45: the parentage that DLET leaves
   parentage-gone : (i : ℕ) (m : Parentage) → without i (run_at cat cs i) m ≡ kept_if (λ p. not (leb i p && ltb p (end_at cat cs i))) m
   unfolding end_at
-  parentage-gone i Absent = refl
-  parentage-gone i (Of p) = turned (leb i p.0 && ltb p.0 (i + run_at cat cs i))
+  parentage-gone i None = refl
+  parentage-gone i (Some p) = turned (leb i p.0 && ltb p.0 (i + run_at cat cs i))
     where
-      turned : (b : Bool) → pick b Absent (Of p) ≡ pick (not b) (Of p) Absent
+      turned : (b : Bool) → pick b None (Some p) ≡ pick (not b) (Some p) None
       turned true = refl
       turned false = refl
 
@@ -176,9 +173,9 @@ module _ (cat tab : Bytes) (pos : Position) (list area : Bytes) where
   x = arriving cat t area
 
   -- what a parentage becomes, by two tests that agree
-  kept_same : (above : List ℕ) (test : ℕ → Bool) (m : Parentage) → ((p : ℕ) → is_in p above ≡ test p) → pick (is_one_of above m) m Absent ≡ kept_if test m
-  kept_same above test Absent h = refl
-  kept_same above test (Of p) h = ap (λ (b : Bool). pick b (Of p) Absent) (h p.0)
+  kept_same : (above : List ℕ) (test : ℕ → Bool) (m : Parentage) → ((p : ℕ) → is_in p above ≡ test p) → pick (is_one_of above m) m None ≡ kept_if test m
+  kept_same above test None h = refl
+  kept_same above test (Some p) h = ap (λ (b : Bool). pick b (Some p) None) (h p.0)
 
   stood-among : (above : List ℕ) (i n : ℕ) (test : ℕ → Bool) → ((p : ℕ) → is_in p above ≡ test p)
       → record { place = On (cell (i + spot (segment_level cat) x (goes_before cat x) (drop i cs))); parentage = kept_if test pos.parentage; hold = false }
@@ -193,14 +190,14 @@ module _ (cat tab : Bytes) (pos : Position) (list area : Bytes) where
       (kept_same above test pos.parentage same) ∙ h)))
 
   -- the row of ISRT: for a root or not, under the parent found
-  abbrev row7 : Bool → Found → Position
+  abbrev row7 : Bool → Option CellNumber → Position
   row7 b f = record {
     place = On (cell (pick b (first_of (later_here cat tab pos 7 list area) 0 (length cs)) (new_beneath cat tab pos 7 list area f)));
     parentage = kept_if (λ p. not b && new_is_beneath cat tab pos 7 list area f p) pos.parentage;
     hold = false;
   }
 
-  abbrev above : Found
+  abbrev above : Option CellNumber
   above = along cat cs (parent_levels cat list (list_read cat list).arguments) pos.place
 
   row_done : row7 (eqb t.0 1) above ≡ done 7
@@ -240,13 +237,13 @@ module _ (cat tab : Bytes) (pos : Position) (list area : Bytes) where
         (λ m. omega (arith, ap (level_at cat cs) z, run-stops cat cs i l (omega arith)))
         ∙ later-new (suc i) (end_at cat cs i - suc i)
 
-    stood-beneath : (i : ℕ) → eqb t.0 1 ≡ false → i < length cs → suc (level_at cat cs i) ≡ segment_level cat x → above ≡ At (cell i)
-        → Stood 7 (insert_under cat cs pos area (room cat tab) x (At (cell i)))
+    stood-beneath : (i : ℕ) → eqb t.0 1 ≡ false → i < length cs → suc (level_at cat cs i) ≡ segment_level cat x → above ≡ Some (cell i)
+        → Stood 7 (insert_under cat cs pos area (room cat tab) x (Some (cell i)))
     stood-beneath i e l deep q =
         stood-among (row_at cat cs i) (suc i) (run_at cat cs i - 1) (λ p. leb p i && ltb i (end_at cat cs p)) (λ p. row-run cat cs p i l)
         (ap (λ (k : ℕ). record { place = On (cell k); parentage = kept_if (λ p. leb p i && ltb i (end_at cat cs p)) pos.parentage; hold = false })
         (under-spot i l deep)
-        ∙ ap (λ (f : Found). row7 false f) (sym q) ∙ ap (λ (b : Bool). row7 b above) (sym e) ∙ row_done)
+        ∙ ap (λ (f : Option CellNumber). row7 false f) (sym q) ∙ ap (λ (b : Bool). row7 b above) (sym e) ∙ row_done)
 
     -- the parent's level is one less
     parent-level : eqb t.0 1 ≡ false → (i : ℕ) → matches cat cs (parent_levels cat list (list_read cat list).arguments) i ≡ true
@@ -262,9 +259,9 @@ module _ (cat tab : Bytes) (pos : Position) (list area : Bytes) where
     stood-insert = pick-by (Stood 7) (eqb t.0 1) _ _ stood-top
         (λ e. elim (along-heads cat cs (numbers-levelled cat g cs good) (parent_levels cat list (list_read cat list).arguments) pos.place place) [
           | missing a b ↦
-              subst (λ (f : Found). Stood 7 (insert_under cat cs pos area (room cat tab) x f)) (sym b) (stood-missed 7 GE (omega arith) (omega arith))
+              subst (λ (f : Option CellNumber). Stood 7 (insert_under cat cs pos area (room cat tab) x f)) (sym b) (stood-missed 7 GE (omega arith) (omega arith))
           | leading i qs l m a b ↦
-              subst (λ (f : Found). Stood 7 (insert_under cat cs pos area (room cat tab) x f)) (sym b) (stood-beneath i e l (parent-level e i m) b)
+              subst (λ (f : Option CellNumber). Stood 7 (insert_under cat cs pos area (room cat tab) x f)) (sym b) (stood-beneath i e l (parent-level e i m) b)
         ])
 
   stood-called : Sound cat tab pos → (c : ℕ) → Usable cat pos c list area

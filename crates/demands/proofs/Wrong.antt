@@ -1,4 +1,5 @@
 -- The stores of specs/WrongStores.antt meet no demand: each is refuted on the bench table. And no second store meets demand 2. Assumes nothing.
+use Rattle.std.specs.Prelude.{Some}
 use mathlib.Core.Path.{◌≡◌, refl, ap, sym, ◌∙◌}
 use mathlib.Core.Bool.{Bool, true, false}
 use mathlib.Core.List.{[], ◌∷◌}
@@ -8,7 +9,6 @@ use lib.Dec.{ltb}
 use lib.ListN.{length}
 use borrow.Author.Tests.{ltb-true}
 use Rattle.terms.specs.declared.Place.TheVariants.{On}
-use Rattle.terms.specs.declared.Parentage.TheVariants.{Of}
 use Rattle.terms.specs.declared.Position.{Position}
 use Rattle.terms.specs.Names.{cell}
 use Rattle.terms.specs.Statuses.{number}
@@ -91,7 +91,7 @@ never-over d = let z : ◌≡◌ {A = ℕ} 0 9 = ap length (d catalogue table (o
 
 -- on cell 3, with a hold: its run has three cells
 abbrev held_step : Position
-held_step = record { place = On (cell 3); parentage = Of (cell 3); hold = true }
+held_step = record { place = On (cell 3); parentage = Some (cell 3); hold = true }
 
 pub not-invents-removed : Demand2 invents_removed → ⊥
 unfolding computed catalogue table invents_removed

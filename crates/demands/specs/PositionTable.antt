@@ -1,17 +1,14 @@
 -- The position afterwards, row by row: for each of the nine calls and each way it can end, what the rules (R35 to R45, R62, R63) say of the place, the
 -- parentage and the hold.
 -- Nothing here is taken from what the calls make of a position (terms, Moves; rules, Calls and Paths). Assumes nothing: these are definitions.
-use Rattle.std.specs.Prelude.{Bool, true, false, ◌&&◌, not, ℕ, zero, suc, ◌-◌, ltb, leb, eqb, length}
+use Rattle.terms.specs.declared.CellNumber.{CellNumber}
+use Rattle.std.specs.Prelude.{Bool, true, false, ◌&&◌, not, ℕ, zero, suc, ◌-◌, ltb, leb, eqb, length, Some, None, Option}
 use Rattle.terms.specs.declared.Place.{Place}
 use Rattle.terms.specs.declared.Place.TheVariants.{On, Before}
-use Rattle.terms.specs.declared.Parentage.{Parentage}
-use Rattle.terms.specs.declared.Parentage.TheVariants.{Absent, Of}
 use Rattle.terms.specs.declared.Position.{Position}
 use Rattle.terms.specs.declared.Status.{Status}
-use Rattle.terms.specs.declared.Found.{Found}
-use Rattle.terms.specs.declared.Found.TheVariants.{At, Nothing}
 use Rattle.terms.specs.Choice.{pick}
-use Rattle.terms.specs.Names.{cell}
+use Rattle.terms.specs.Names.{cell, Parentage}
 use Rattle.terms.specs.Statuses.{number}
 use Rattle.rules.specs.Block.{Bytes}
 use Rattle.rules.specs.Catalogue.{level}
@@ -89,8 +86,8 @@ number_of (Before c) = c.0
 
 -- a parentage that passes a test stays; an absent one is absent
 abbrev pub kept_if : (ℕ → Bool) → Parentage → Parentage
-kept_if t Absent = Absent
-kept_if t (Of p) = pick (t p.0) (Of p) Absent
+kept_if t None = None
+kept_if t (Some p) = pick (t p.0) (Some p) None
 
 -- what the words mean, for a call c with this list and area, on this catalogue and table, at this position
 module _ (cat tab : Bytes) (pos : Position) (c : ℕ) (list area : Bytes) where
@@ -105,9 +102,9 @@ module _ (cat tab : Bytes) (pos : Position) (c : ℕ) (list area : Bytes) where
       && goes_before cat (new cat tab pos c list area) (segment (cells cat tab pos c list area) j)
 
   -- R41: the first cell in the parent's run that must come later, or the run's end
-  abbrev pub new_beneath : Found → ℕ
-  new_beneath Nothing = 0
-  new_beneath (At p) = first_of later (suc p.0) (end_at cat (cells cat tab pos c list area) p.0 - suc p.0)
+  abbrev pub new_beneath : Option CellNumber → ℕ
+  new_beneath None = 0
+  new_beneath (Some p) = first_of later (suc p.0) (end_at cat (cells cat tab pos c list area) p.0 - suc p.0)
 
   abbrev pub new_cell : ℕ
   new_cell =
@@ -115,9 +112,9 @@ module _ (cat tab : Bytes) (pos : Position) (c : ℕ) (list area : Bytes) where
       (new_beneath (parent cat tab pos c list area))
 
   -- the new cell is beneath p: its parent lies in p's run
-  abbrev pub new_is_beneath : Found → ℕ → Bool
-  new_is_beneath Nothing p = false
-  new_is_beneath (At q) p = in_run p q.0
+  abbrev pub new_is_beneath : Option CellNumber → ℕ → Bool
+  new_is_beneath None p = false
+  new_is_beneath (Some q) p = in_run p q.0
 
   abbrev pub place_said : PlaceSaid → Place
   place_said place_stays = pos.place
@@ -128,11 +125,11 @@ module _ (cat tab : Bytes) (pos : Position) (c : ℕ) (list area : Bytes) where
 
   abbrev pub parentage_said : ParentageSaid → Parentage
   parentage_said parentage_stays = pos.parentage
-  parentage_said of_found = Of (cell (found_cell (found cat tab pos c list area)))
+  parentage_said of_found = Some (cell (found_cell (found cat tab pos c list area)))
   parentage_said if_beneath =
       kept_if (λ p. not (root cat tab pos c list area) && new_is_beneath (parent cat tab pos c list area) p) pos.parentage
   parentage_said unless_in_run = kept_if (λ p. not (in_run (number_of pos.place) p)) pos.parentage
-  parentage_said no_parentage = Absent
+  parentage_said no_parentage = None
 
   abbrev pub hold_said : HoldSaid → Bool
   hold_said hold_stays = pos.hold

@@ -1,6 +1,7 @@
 -- The statuses, row by row (R49 to R60), in the order of R61, then GA and GK. What a row is given for stands beside its letters.
 -- Assumes nothing: these are definitions.
-use Rattle.std.specs.Prelude.{Bool, true, false, ◌&&◌, ◌||◌, not, List, [], ◌∷◌, ℕ, suc, ◌-◌, ltb, leb, eqb, length}
+use Rattle.terms.specs.declared.CellNumber.{CellNumber}
+use Rattle.std.specs.Prelude.{Bool, true, false, ◌&&◌, ◌||◌, not, List, [], ◌∷◌, ℕ, suc, ◌-◌, ltb, leb, eqb, length, Some, None, Option}
 use Rattle.terms.specs.declared.TypeCode.{TypeCode}
 use Rattle.terms.specs.declared.Place.{Place}
 use Rattle.terms.specs.declared.Place.TheVariants.{On, Before}
@@ -8,8 +9,6 @@ use Rattle.terms.specs.declared.Position.{Position}
 use Rattle.terms.specs.declared.Argument.{Argument}
 use Rattle.terms.specs.declared.Status.{Status}
 use Rattle.terms.specs.declared.Status.TheVariants.{Blank, GA, GK, GB, GE, GP, CX, TX, PX, AD, AC, AJ, AK, AH, AB, DJ, DA, II, FX, PD}
-use Rattle.terms.specs.declared.Found.{Found}
-use Rattle.terms.specs.declared.Found.TheVariants.{At, Nothing}
 use Rattle.terms.specs.Choice.{pick}
 use Rattle.terms.specs.Names.{same_type}
 use Rattle.terms.specs.Statuses.{number}
@@ -41,14 +40,14 @@ unfoldable pub first_given : List Row → Status
 first_given [] = Blank
 first_given (r ∷ rs) = pick r.given r.status (first_given rs)
 
-abbrev pub is_nothing : Found → Bool
-is_nothing Nothing = true
-is_nothing (At c) = false
+abbrev pub is_nothing : Option CellNumber → Bool
+is_nothing None = true
+is_nothing (Some c) = false
 
 -- the cell found
-abbrev pub found_cell : Found → ℕ
-found_cell Nothing = 0
-found_cell (At c) = c.0
+abbrev pub found_cell : Option CellNumber → ℕ
+found_cell None = 0
+found_cell (Some c) = c.0
 
 abbrev pub is_on : Place → Bool
 is_on (On c) = true
@@ -89,7 +88,7 @@ module _ (cat tab : Bytes) (pos : Position) (c : ℕ) (list area : Bytes) where
   fault = number (list_read cat list).fault
 
   -- what a get finds: along the position; after the place; after the place and beneath the parentage
-  abbrev pub found : Found
+  abbrev pub found : Option CellNumber
   found =
       let ls = get_levels cat list arguments in
       pick (unique c) (along cat cells ls pos.place)
@@ -115,13 +114,13 @@ module _ (cat tab : Bytes) (pos : Position) (c : ℕ) (list area : Bytes) where
   abbrev pub root : Bool
   root = eqb new_type.0 1
 
-  abbrev pub parent : Found
+  abbrev pub parent : Option CellNumber
   parent = along cat cells (parent_levels cat list arguments) pos.place
 
   -- a twin has its key: one of the n cells from i on, all the cells or those beneath the parent
-  abbrev pub taken_beneath : Found → Bool
-  taken_beneath Nothing = false
-  taken_beneath (At p) = key_taken cat cells new (suc p.0) (run_at cat cells p.0 - 1)
+  abbrev pub taken_beneath : Option CellNumber → Bool
+  taken_beneath None = false
+  taken_beneath (Some p) = key_taken cat cells new (suc p.0) (run_at cat cells p.0 - 1)
 
   abbrev pub taken : Bool
   taken = pick root (key_taken cat cells new 0 (length cells)) (taken_beneath parent)

@@ -1,8 +1,7 @@
 -- Stores that must not get through: each is refuted against a demand in proofs/Wrong.antt, and so is `once` of report_loops,
 -- which gets one segment and from then on answers GE. Assumes nothing: these are definitions.
-use Rattle.std.specs.Prelude.{false, ◌||◌, suc, eqb, set}
+use Rattle.std.specs.Prelude.{false, ◌||◌, suc, eqb, set, Some}
 use Rattle.terms.specs.declared.Place.TheVariants.{On}
-use Rattle.terms.specs.declared.Parentage.TheVariants.{Of}
 use Rattle.terms.specs.declared.Status.TheVariants.{Blank, GB, CX}
 use Rattle.terms.specs.declared.Answer.{Answer}
 use Rattle.terms.specs.Choice.{pick}
@@ -25,7 +24,7 @@ unfoldable pub always_first : Store
 always_first cat tab pos c list area =
     pick (get c)
     (record {
-      answer = answer_of cat Blank (record { place = On (cell 0); parentage = Of (cell 0); hold = false }) (segment (listing cat tab) 0) 0;
+      answer = answer_of cat Blank (record { place = On (cell 0); parentage = Some (cell 0); hold = false }) (segment (listing cat tab) 0) 0;
       table = tab;
       area = over (shown_bytes cat (segment (listing cat tab) 0)) area;
     })

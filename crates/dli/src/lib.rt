@@ -87,8 +87,7 @@ pub fn get_sound(
         ≡ sound_outcome cat.now tab.now pos number list.now area.old }
 {
     let size = wide(tab[5]);
-    let s = refusals::misused_sound(cat, size, pos, number, list, area);
-    if terms::statuses::number(s) != 0 {
+    if let Err(s) = refusals::misused_sound(cat, size, pos, number, list, area) {
         return answers::stopped(s, pos);
     }
     called_get_sound(cat, tab, size, pos, number, list, area)
@@ -108,8 +107,7 @@ pub fn change_sound(
         ≡ sound_outcome cat.now tab.old pos number list.now area.now }
 {
     let size = wide(tab[5]);
-    let refusal = refusals::misused_sound(cat, size, pos, number, list, area);
-    if terms::statuses::number(refusal) != 0 {
+    if let Err(refusal) = refusals::misused_sound(cat, size, pos, number, list, area) {
         return answers::stopped(refusal, pos);
     }
     called_change_sound(cat, tab, size, pos, number, list, area)
@@ -146,8 +144,7 @@ pub fn call(
     ensures { made result tab.new area.new
         ≡ outcome cat.now tab.old pos number list.now area.old }
 {
-    let s = refusals::unsound(cat, tab, pos);
-    if terms::statuses::number(s) != 0 {
+    if let Err(s) = refusals::unsound(cat, tab, pos) {
         return answers::stopped(s, pos);
     }
     call_sound(cat, tab, pos, number, list, area)

@@ -1,10 +1,9 @@
 -- What rests on a child being deeper than its parent: the test on the cells and the well-formedness of their forest are the same.
 -- Assumes nothing.
-use Rattle.std.specs.Prelude.{◌≡◌, Bool, length}
+use Rattle.std.specs.Prelude.{◌≡◌, Bool, length, None}
 use Rattle.std.proofs.Math.Path.{ap, sym, subst}
 use Rattle.std.proofs.Common.{◌∙◌}
 use Rattle.std.proofs.Math.Bool.{true}
-use Rattle.std.proofs.Math.Option.{none}
 use mathlib.Core.List.{List, [], ◌++◌, append-nil}
 use Prim.Native.Nat.{ℕ, suc, ◌<◌}
 use native.Mathlib.Omega.{arith}
@@ -21,8 +20,8 @@ module _ {A : Type 0} (typ : A → ℕ) (fit : ℕ → A → Bool) (ok : A → A
       pub good-wf : (cs : List A) → good typ fit ok cs ≡ true → Wf typ fit ok 0 (forest_of (lev typ fit ok rise one rank deeper) cs)
       unfolding good
       good-wf cs e =
-          let i = sound typ fit ok (length cs) 0 none cs in
-          let r : read typ fit ok (length cs) 0 none cs ≡ [] = nil-of (read typ fit ok (length cs) 0 none cs) e in
+          let i = sound typ fit ok (length cs) 0 None cs in
+          let r : read typ fit ok (length cs) 0 None cs ≡ [] = nil-of (read typ fit ok (length cs) 0 None cs) e in
           let c : cells_of i.0 ≡ cs = sym (append-nil (cells_of i.0)) ∙ (rw r at i.3) in
           let g : forest_of (lev typ fit ok rise one rank deeper) (cells_of i.0) ≡ i.0 = forest-cells (lev typ fit ok rise one rank deeper) i.0 (shape-levelled (lev typ fit ok rise one rank deeper) (suc (rank 0)) i.0 (levelled typ fit ok rise one rank deeper 0 i.0 i.1)) in
           subst (Wf typ fit ok 0) (sym g ∙ ap (forest_of (lev typ fit ok rise one rank deeper)) c) i.1
@@ -31,7 +30,7 @@ module _ {A : Type 0} (typ : A → ℕ) (fit : ℕ → A → Bool) (ok : A → A
       unfolding good
       wf-good cs w =
           let e : cells_of (forest_of (lev typ fit ok rise one rank deeper) cs) ++ [] ≡ cs = append-nil (cells_of (forest_of (lev typ fit ok rise one rank deeper) cs)) ∙ cells-forest (lev typ fit ok rise one rank deeper) cs in
-          let r : read typ fit ok (length cs) 0 none (cells_of (forest_of (lev typ fit ok rise one rank deeper) cs) ++ []) ≡ [] = complete typ fit ok rise one (length cs) 0 none (forest_of (lev typ fit ok rise one rank deeper) cs) [] (rw cells-forest (omega arith)) w tt tt in
+          let r : read typ fit ok (length cs) 0 None (cells_of (forest_of (lev typ fit ok rise one rank deeper) cs) ++ []) ≡ [] = complete typ fit ok rise one (length cs) 0 None (forest_of (lev typ fit ok rise one rank deeper) cs) [] (rw cells-forest (omega arith)) w tt tt in
           rw (rw e at r)
 
       -- so the test on the forest and the reader of the cells give the same answer

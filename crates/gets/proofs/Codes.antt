@@ -2,7 +2,7 @@
 use mathlib.Core.Path.{◌≡◌, ap, sym, ◌∙◌}
 use mathlib.Core.Bool.{Bool, true, false, not}
 use mathlib.Core.List.{List, []}
-use Prim.Native.Nat.{ℕ, suc, ◌-◌, ◌<◌, ◌≤◌}
+use Prim.Native.Nat.{ℕ, suc, ◌-◌, ◌<◌}
 use native.Mathlib.Omega.{arith}
 use borrow.Author.Tests.{lt-ltb, le-ltb, eq-eqb, ne_eqb}
 use Rattle.terms.specs.declared.TypeCode.{TypeCode}
@@ -62,8 +62,8 @@ module _ (cat : Bytes) (u t : TypeCode) where
     pub levels-more : was < here → Blank ≡ change_status cat u t
     levels-more h = type-more (omega arith)
 
-    pub levels-same : (t.0 ≡ u.0 → ⊥) → was ≤ here → here ≤ was → GK ≡ change_status cat u t
-    levels-same n a b = type-other (omega arith) n
+    pub levels-same : (t.0 ≡ u.0 → ⊥) → here ≡ was → GK ≡ change_status cat u t
+    levels-same n e = type-other (omega arith) n
 
 -- of cell i of a table
 module _ (cat : Bytes) (cs : List Segment) (i : ℕ) (on : Bool) where

@@ -1,4 +1,5 @@
 -- The gets, branch by branch: what was found or not, and its status. Assumes nothing.
+use Rattle.std.specs.Prelude.{Some, None, Option}
 use mathlib.Core.Path.{◌≡◌, refl, ap, sym, ◌∙◌}
 use mathlib.Core.Bool.{Bool, true, false}
 use mathlib.Core.List.{List, [], ◌∷◌, ◌++◌}
@@ -10,16 +11,12 @@ use borrow.Author.Tests.{ltb-true, ltb-false}
 use Rattle.terms.specs.declared.TypeCode.{TypeCode}
 use Rattle.terms.specs.declared.CellNumber.{CellNumber}
 use Rattle.terms.specs.declared.Place.{Place}
-use Rattle.terms.specs.declared.Parentage.{Parentage}
-use Rattle.terms.specs.declared.Parentage.TheVariants.{Absent, Of}
 use Rattle.terms.specs.declared.Position.{Position}
 use Rattle.terms.specs.declared.Status.{Status}
 use Rattle.terms.specs.declared.Status.TheVariants.{Blank, GB, GE}
 use Rattle.terms.specs.declared.Answer.{Answer}
-use Rattle.terms.specs.declared.Found.{Found}
-use Rattle.terms.specs.declared.Found.TheVariants.{At, Nothing}
 use Rattle.terms.specs.Choice.{pick}
-use Rattle.terms.specs.Names.{cell}
+use Rattle.terms.specs.Names.{cell, Parentage}
 use Rattle.terms.specs.Moves.{after_place, is_absent, moved_onto}
 use Rattle.rules.specs.Block.{Bytes, part}
 use Rattle.rules.specs.Catalogue.{length_of}
@@ -90,7 +87,7 @@ module _ {cat tab : Bytes} {size : ℕ} {pos : Position} {list : Bytes} (r : Rea
   }
 
   -- where a search beneath p begins: the list is not empty
-  pub search-beneath : (t : TypeCode) → t ≡ last → (length list ≡ 0 → ⊥) → (p : CellNumber) → pos.parentage ≡ Of p → (from : ℕ) → from ≡ after_place pos.place
+  pub search-beneath : (t : TypeCode) → t ≡ last → (length list ≡ 0 → ⊥) → (p : CellNumber) → pos.parentage ≡ Some p → (from : ℕ) → from ≡ after_place pos.place
       → Beneath cat tab t p.0 from
   search-beneath t e n p f from z =
       let k = type-range cat last (last-asks cat list sound-list (omega arith)).type in
@@ -151,16 +148,16 @@ module _ {cat tab : Bytes} {size : ℕ} {pos : Position} {list : Bytes} (r : Rea
     pub status-named : (length list ≡ 0 → ⊥) → Blank ≡ level_status cat cs ls pos.place i
     status-named n = sym (status-filled ls pos.place i (levels-some n))
 
-  module _ (area : Bytes) (hold : Bool) (t : TypeCode) (found : Found) (te : t ≡ last) where
+  module _ (area : Bytes) (hold : Bool) (t : TypeCode) (found : Option CellNumber) (te : t ≡ last) where
     module _ (e : found ≡ along cat cs (complete cat list (list_read cat list).arguments t) pos.place) where
       along-is : along cat cs ls pos.place ≡ found
       along-is = ap (λ (l : List Level). along cat cs l pos.place) (sym (levels-of t te)) ∙ sym e
 
-      pub unique-found : (c : CellNumber) → found ≡ At c → got_at cat cs Blank (Of c) hold c.0 area ≡ get_unique cat cs pos area hold ls
+      pub unique-found : (c : CellNumber) → found ≡ Some c → got_at cat cs Blank (Some c) hold c.0 area ≡ get_unique cat cs pos area hold ls
       unfolding get_unique
       unique-found c f = rw (along-is ∙ f)
 
-      pub unique-missed : found ≡ Nothing → left (bare GE (after_miss GE pos)) area ≡ get_unique cat cs pos area hold ls
+      pub unique-missed : found ≡ None → left (bare GE (after_miss GE pos)) area ≡ get_unique cat cs pos area hold ls
       unfolding get_unique
       unique-missed f = rw (along-is ∙ f)
 
@@ -168,21 +165,21 @@ module _ {cat tab : Bytes} {size : ℕ} {pos : Position} {list : Bytes} (r : Rea
       first-is : first_match cat cs ls (after_place pos.place) to ≡ found
       first-is = ap (λ (l : List Level). first_match cat cs l (after_place pos.place) to) (sym (levels-of t te)) ∙ ap (λ (n : ℕ). first_match cat cs (complete cat list (list_read cat list).arguments t) n to) (sym fe) ∙ sym e
 
-      pub next-found : (c : CellNumber) (s : Status) → to ≡ length cs → found ≡ At c → s ≡ level_status cat cs ls pos.place c.0
-          → got_at cat cs s (Of c) hold c.0 area ≡ get_next cat cs pos area hold ls
+      pub next-found : (c : CellNumber) (s : Status) → to ≡ length cs → found ≡ Some c → s ≡ level_status cat cs ls pos.place c.0
+          → got_at cat cs s (Some c) hold c.0 area ≡ get_next cat cs pos area hold ls
       unfolding get_next
       next-found c s n f z = rw (← n, first-is ∙ f, z)
 
-      pub next-missed : (s : Status) → to ≡ length cs → found ≡ Nothing → s ≡ miss_status ls → left (bare s (after_miss s pos)) area ≡ get_next cat cs pos area hold ls
+      pub next-missed : (s : Status) → to ≡ length cs → found ≡ None → s ≡ miss_status ls → left (bare s (after_miss s pos)) area ≡ get_next cat cs pos area hold ls
       unfolding get_next
       next-missed s n f z = rw (← n, first-is ∙ f, z)
 
-      pub within-found : (p c : CellNumber) (s : Status) → pos.parentage ≡ Of p → to ≡ end_at cat cs p.0 → found ≡ At c → s ≡ level_status cat cs ls pos.place c.0
-          → got_at cat cs s (Of p) hold c.0 area ≡ get_next_within cat cs pos area hold ls
+      pub within-found : (p c : CellNumber) (s : Status) → pos.parentage ≡ Some p → to ≡ end_at cat cs p.0 → found ≡ Some c → s ≡ level_status cat cs ls pos.place c.0
+          → got_at cat cs s (Some p) hold c.0 area ≡ get_next_within cat cs pos area hold ls
       unfolding get_next_within
       within-found p c s x n f z = rw (x, ← n, first-is ∙ f, z)
 
-      pub within-missed : (p : CellNumber) → pos.parentage ≡ Of p → to ≡ end_at cat cs p.0 → found ≡ Nothing → left (bare GE (after_miss GE pos)) area ≡ get_next_within cat cs pos area hold ls
+      pub within-missed : (p : CellNumber) → pos.parentage ≡ Some p → to ≡ end_at cat cs p.0 → found ≡ None → left (bare GE (after_miss GE pos)) area ≡ get_next_within cat cs pos area hold ls
       unfolding get_next_within
       within-missed p x n f = rw (x, ← n, first-is ∙ f)
 
@@ -199,14 +196,14 @@ module _ {cat tab : Bytes} {size : ℕ} {pos : Position} (r : Ready cat tab size
   to_end = to ∙ sym (listing-length cat tab)
 
   pub cell-found : (s : Status) → i < n → s ≡ level_status cat (listing cat tab) [] pos.place i
-      → got_at cat (listing cat tab) s (Of (cell i)) hold i area ≡ get_next cat (listing cat tab) pos area hold []
+      → got_at cat (listing cat tab) s (Some (cell i)) hold i area ≡ get_next cat (listing cat tab) pos area hold []
   cell-found s l e =
-      next-found r area hold last_code (At (cell i)) refl i at n (all-match (search-good r last_code refl) i n no_code l) (cell i) s to_end refl
+      next-found r area hold last_code (Some (cell i)) refl i at n (all-match (search-good r last_code refl) i n no_code l) (cell i) s to_end refl
       (e ∙ status-none r i refl) ∙ sym (next-empty r area hold refl)
 
   pub cell-missed : n ≤ i → left (bare GB (after_miss GB pos)) area ≡ get_next cat (listing cat tab) pos area hold []
   cell-missed l =
-      next-missed r area hold last_code Nothing refl i at n
+      next-missed r area hold last_code None refl i at n
       (first-none cat (listing cat tab) (complete cat [] (list_read cat []).arguments last_code) i n l) GB to_end refl (miss-empty r refl)
       ∙ sym (next-empty r area hold refl)
 
@@ -215,7 +212,7 @@ cell-in-run cat tab p i k e = omega (arith, ltb-true i (end_at cat (listing cat 
 
 -- GNP with an empty list: the cell after the place is the match, if it lies in the parentage's run
 module _ {cat tab : Bytes} {size : ℕ} {pos : Position} (r : Ready cat tab size pos []) (area : Bytes) (hold : Bool)
-    (i : ℕ) (at : i ≡ after_place pos.place) (p : CellNumber) (x : pos.parentage ≡ Of p) (b : Bool) (w : b ≡ ltb i (end_at cat (listing cat tab) p.0)) where
+    (i : ℕ) (at : i ≡ after_place pos.place) (p : CellNumber) (x : pos.parentage ≡ Some p) (b : Bool) (w : b ≡ ltb i (end_at cat (listing cat tab) p.0)) where
   abbrev no_type : TypeCode
   no_type = (last_argument (list_read cat []).arguments).code
 
@@ -226,17 +223,17 @@ module _ {cat tab : Bytes} {size : ℕ} {pos : Position} (r : Ready cat tab size
   end = end_at cat (listing cat tab) p.0
 
   pub cell-within : (s : Status) → b ≡ true → s ≡ level_status cat (listing cat tab) [] pos.place i
-      → got_at cat (listing cat tab) s (Of p) hold i area ≡ get_next_within cat (listing cat tab) pos area hold []
+      → got_at cat (listing cat tab) s (Some p) hold i area ≡ get_next_within cat (listing cat tab) pos area hold []
   cell-within s l e =
-      within-found r area hold no_type (At (cell i)) refl i at end
+      within-found r area hold no_type (Some (cell i)) refl i at end
       (all-match (search-good r no_type refl) i end no-type (ltb-true i end (sym w ∙ l))) p (cell i) s x refl refl
       (e ∙ status-none r i refl) ∙ sym (within-empty r area hold refl)
 
   pub cell-outside : b ≡ false → left (bare GE (after_miss GE pos)) area ≡ get_next_within cat (listing cat tab) pos area hold []
   cell-outside l =
-      within-missed r area hold no_type Nothing refl i at end
+      within-missed r area hold no_type None refl i at end
       (first-none cat (listing cat tab) (complete cat [] (list_read cat []).arguments no_type) i end (ltb-false i end (sym w ∙ l))) p x refl refl
       ∙ sym (within-empty r area hold refl)
 
-pub absent-not : (pos : Position) → pos.parentage ≡ Absent → is_absent pos.parentage ≡ false → ⊥
+pub absent-not : (pos : Position) → pos.parentage ≡ None → is_absent pos.parentage ≡ false → ⊥
 absent-not pos e h = let z : true ≡ false = rw e at h in let y : ◌≡◌ {A = ℕ} 1 0 = ap (λ (b : Bool). pick b 1 0) z in omega arith

@@ -1,8 +1,7 @@
 // The gets: what is found, the status of it, and the position on it.
 #![tactic(auto)]
 
-ghost use Rattle.std.specs.Prelude.{◌≡◌, true, false, [], ◌++◌, suc, ◌<◌, ◌≤◌, length};
-ghost use Rattle.terms.specs.declared.Parentage.TheVariants.{Of};
+ghost use Rattle.std.specs.Prelude.{◌≡◌, true, false, [], ◌++◌, suc, ◌<◌, ◌≤◌, length, Some};
 ghost use Rattle.terms.specs.Moves.{after_place, is_on, is_absent};
 ghost use Rattle.rules.specs.Catalogue.{is_type, good_catalogue};
 ghost use Rattle.rules.specs.Cells.{segment, shown_bytes};
@@ -24,7 +23,8 @@ use cells::lookup::{code_at, count, data_part};
 use search::along::along;
 use search::beneath::{first_beneath, is_within};
 use search::forward::first_match;
-use terms::{Answer, CellNumber, Found, Parentage, Place, Position, Status, TypeCode};
+use std::cmp::Ordering;
+use terms::{Answer, CellNumber, Parentage, Place, Position, Status, TypeCode};
 
 // Writes a cell's L bytes to the front of the area, and tells its type.
 pub fn show(cat: &[u8], tab: &[u8], size: usize, c: CellNumber, area: &mut [u8]) -> TypeCode
@@ -73,10 +73,7 @@ fn after_place(q: Place) -> usize
 fn is_on(q: Place) -> bool
     ensures { result ≡ is_on q }
 {
-    match q {
-        Place::On(c) => true,
-        Place::Before(c) => false,
-    }
+    matches!(q, Place::On(_))
 }
 
 // GA, GK or blank, of a segment of type t that is got behind one of type u, with an empty list. Twins, a first child and a child of the same parent
@@ -85,27 +82,23 @@ fn change_status(cat: &[u8], u: TypeCode, t: TypeCode) -> Status
     requires { (good_catalogue cat.now ≡ true) × (is_type cat.now u ≡ true) × (is_type cat.now t ≡ true) }
     ensures { result ≡ change_status cat.now u t }
 {
-    if t.0 == u.0 {
+    if t == u {
         return Status::Blank;
     }
-    let above = parent(cat, t).0;
-    if above == u.0 {
+    let above = parent(cat, t);
+    if above == u {
         return Status::Blank;
     }
-    if above == parent(cat, u).0 {
+    if above == parent(cat, u) {
         return Status::GK;
     }
     let mut row = [0u8; 33];
     levels(cat, &mut row);
-    let was = level_by(&row, cat, u);
-    let now = level_by(&row, cat, t);
-    if now < was {
-        return Status::GA;
+    match level_by(&row, cat, t).cmp(&level_by(&row, cat, u)) {
+        Ordering::Less => Status::GA,
+        Ordering::Equal => Status::GK,
+        Ordering::Greater => Status::Blank,
     }
-    if was < now {
-        return Status::Blank;
-    }
-    Status::GK
 }
 
 // The status of cell c, which a get-next with an empty list found: the place was on the cell before it, or in the gap.
@@ -135,22 +128,11 @@ pub fn get_unique(
         ≡ get_unique cat.now (listing cat.now tab.now) pos area.old hold
         (get_levels cat.now list.now (list_read cat.now list.now).arguments) }
 {
-    let place = pos.place;
     let t = last_of(cat, list).code;
-    let Found::At(c) = along(cat, tab, size, list, &list[..0], t, place) else {
-        return missed(Status::GE, pos);
-    };
-    got(
-        cat,
-        tab,
-        size,
-        c,
-        Status::Blank,
-        Parentage::Of(c),
-        hold,
-        pos,
-        area,
-    )
+    match along(cat, tab, size, list, &list[..0], t, pos.place) {
+        Some(c) => got(cat, tab, size, c, Status::Blank, Some(c), hold, pos, area),
+        None => missed(Status::GE, pos),
+    }
 }
 
 // GN with an empty list, which matches every cell: there is nothing to search. GB where no cell is left (R50). It is the call that a
@@ -167,14 +149,13 @@ fn get_next_cell(
     ensures { left result area.new
         ≡ get_next cat.now (listing cat.now tab.now) pos area.old hold [] }
 {
-    let place = pos.place;
-    let i = after_place(place);
+    let i = after_place(pos.place);
     if count(tab) <= i {
         return missed(Status::GB, pos);
     }
     let c = CellNumber(i);
-    let s = next_status(cat, tab, size, is_on(place), c);
-    got(cat, tab, size, c, s, Parentage::Of(c), hold, pos, area)
+    let s = next_status(cat, tab, size, is_on(pos.place), c);
+    got(cat, tab, size, c, s, Some(c), hold, pos, area)
 }
 
 // GN (R34). GB, GA and GK come with an empty list only, where the next cell is the match. `again` tells that the place is on
@@ -200,14 +181,12 @@ pub fn get_next(
     if are_empty(one, two) {
         return get_next_cell(cat, tab, size, pos, area, hold);
     }
-    let place = pos.place;
     let t = last_type(cat, one, two);
-    let from = after_place(place);
-    let Found::At(c) = first_match(cat, tab, size, one, two, t, again, from, count(tab)) else {
+    let from = after_place(pos.place);
+    let Some(c) = first_match(cat, tab, size, one, two, t, again, from, count(tab)) else {
         return missed(Status::GE, pos);
     };
-    let s = Status::Blank;
-    got(cat, tab, size, c, s, Parentage::Of(c), hold, pos, area)
+    got(cat, tab, size, c, Status::Blank, Some(c), hold, pos, area)
 }
 
 // GNP with an empty list: the next cell, if it is beneath p.
@@ -220,18 +199,17 @@ fn get_next_cell_within(
     hold: bool,
     p: CellNumber,
 ) -> Answer
-    requires { Ready cat.now tab.now size pos [] × (size ≤ suc (length area.old)) × (pos.parentage ≡ Of p) }
+    requires { Ready cat.now tab.now size pos [] × (size ≤ suc (length area.old)) × (pos.parentage ≡ Some p) }
     ensures { left result area.new
         ≡ get_next_within cat.now (listing cat.now tab.now) pos area.old hold [] }
 {
-    let place = pos.place;
-    let i = after_place(place);
+    let i = after_place(pos.place);
     if !is_within(cat, tab, size, p, i) {
         return missed(Status::GE, pos);
     }
     let c = CellNumber(i);
-    let s = next_status(cat, tab, size, is_on(place), c);
-    got(cat, tab, size, c, s, Parentage::Of(p), hold, pos, area)
+    let s = next_status(cat, tab, size, is_on(pos.place), c);
+    got(cat, tab, size, c, s, Some(p), hold, pos, area)
 }
 
 // GNP (R35): GN up to the end of the parentage's run.
@@ -252,19 +230,16 @@ pub fn get_next_within(
         (get_levels cat.now (one.now ++ two.now)
         (list_read cat.now (one.now ++ two.now)).arguments) }
 {
-    let place = pos.place;
-    let parentage = pos.parentage;
-    let Parentage::Of(p) = parentage else {
+    let Some(p) = pos.parentage else {
         return missed(Status::GP, pos);
     };
     if are_empty(one, two) {
         return get_next_cell_within(cat, tab, size, pos, area, hold, p);
     }
     let t = last_type(cat, one, two);
-    let from = after_place(place);
-    let Found::At(c) = first_beneath(cat, tab, size, one, two, t, p, from) else {
+    let from = after_place(pos.place);
+    let Some(c) = first_beneath(cat, tab, size, one, two, t, p, from) else {
         return missed(Status::GE, pos);
     };
-    let s = Status::Blank;
-    got(cat, tab, size, c, s, parentage, hold, pos, area)
+    got(cat, tab, size, c, Status::Blank, Some(p), hold, pos, area)
 }

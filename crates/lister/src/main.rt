@@ -45,16 +45,13 @@ fn list(rt: &HostRuntime, cat: &[u8], tab: &[u8]) -> io::Result<()> {
         return rt.write_all(&out[..end]);
     }
     let mut pos = Position::fresh();
-    let mut left = count(tab) + 1;
-    while 0 < left {
+    for _ in 0..=count(tab) {
         let line = next_line(cat, tab, pos, &mut out);
-        let end = line.long;
-        rt.write_all(&out[..end])?;
+        rt.write_all(&out[..line.long])?;
         if line.done {
             return Ok(());
         }
         pos = line.position;
-        left -= 1;
     }
     Ok(())
 }

@@ -1,20 +1,21 @@
 -- The listing's call on sound blocks, its line in the buffer, and the lines one behind the other. Assumes nothing.
+use Rattle.terms.specs.declared.CellNumber.{CellNumber}
+use Rattle.terms.specs.Names.{Parentage}
+use Rattle.std.specs.Prelude.{Some, None, Option}
 use mathlib.Core.Path.{◌≡◌, refl, ap, sym, ◌∙◌}
-use mathlib.Core.Bool.{true, false}
+use mathlib.Core.Bool.{Bool, true, false}
 use mathlib.Core.List.{List, [], ◌++◌}
 use Prim.Native.Nat.{ℕ, suc, ◌+◌, ◌-◌, ◌<◌, ◌≤◌}
 use native.Mathlib.Omega.{arith}
-use lib.Dec.{ltb}
+use lib.Dec.{ltb, leb}
 use lib.ListN.{length, take, drop, replicate}
 use lib.Seq.{take_at}
-use borrow.Author.Tests.{lt-ltb, le-ltb, le-leb, lt-leb}
-use Rattle.terms.specs.declared.Parentage.{Parentage}
+use borrow.Author.Tests.{lt-ltb, le-ltb, le-leb}
 use Rattle.terms.specs.declared.Position.{Position}
 use Rattle.terms.specs.declared.Status.{Status}
 use Rattle.terms.specs.declared.Status.TheVariants.{Blank, CX, TX}
-use Rattle.terms.specs.declared.Found.{Found}
-use Rattle.terms.specs.declared.Found.TheVariants.{At, Nothing}
 use Rattle.terms.specs.declared.Answer.{Answer}
+use Rattle.terms.specs.Choice.{pick}
 use Rattle.terms.specs.Statuses.{number}
 use Rattle.terms.specs.Moves.{after_place, fresh}
 use Rattle.forest.specs.Good.{on, off, is}
@@ -83,11 +84,11 @@ module _ (cat tab : Bytes) (pos : Position) (f : SoundFor cat tab pos) where
       did-next cat tab pos 2 [] zero_area f Blank 0 asked-blank refl refl refl
       ∙ sym (sound-same cat tab pos f.catalogue f.table f.position 2 [] zero_area)
 
-  found-short : (miss : Status) (status : ℕ → Status) (parentage : ℕ → Parentage) (k : Found) → first_match cat cs ls (after_place pos.place) (length cs) ≡ k
+  found-short : (miss : Status) (status : ℕ → Status) (parentage : ℕ → Parentage) (k : Option CellNumber) → first_match cat cs ls (after_place pos.place) (length cs) ≡ k
       → (gotten cat cs pos zero_area miss status parentage false k).answer.length ≤ 120
   unfolding answer_of segment_long
-  found-short miss status parentage Nothing e = omega arith
-  found-short miss status parentage (At c) e =
+  found-short miss status parentage None e = omega arith
+  found-short miss status parentage (Some c) e =
       let l : c.0 < count tab = omega (arith, first-in cat cs ls (after_place pos.place) (length cs) c e, listing-length cat tab) in
       omega (arith, data-fits (blocks-sound (byte tab 5) refl) c.0 l, size_small)
 
@@ -115,33 +116,21 @@ module _ (cat tab : Bytes) (pos : Position) (f : SoundFor cat tab pos) where
       }
 
       module _ (n : ℕ) (h : n ≡ number r.status) (before : Bytes) (end : ℕ) (after : Bytes) (fits : end ≤ length after) where
-        pub listed-last : 10 ≤ n → Wrote 0 (last_line r.status) before end after → Listed cat tab pos before (record { position = r.position; long = end; done = true }) after
+        pub listed-line : Wrote 0 (pick (leb 10 n) (last_line r.status) (cell_line r area)) before end after
+            → Listed cat tab pos before (record { position = r.position; long = end; done = leb 10 n }) after
         unfolding line_of
-        listed-last l w =
-            let q : ends_listing (made r tab area) ≡ true = le-leb 10 (number r.status) (omega arith) in
-            let t : last_line r.status ≡ line_of (made r tab area) = rw q in
+        listed-line w =
+            let d : leb 10 n ≡ ends_listing (made r tab area) = ap (leb 10) h in
             record {
               position = ap (λ (o : Outcome). o.answer.position) made-is;
-              done = sym q ∙ ap ends_listing made-is;
-              text = wrote_as w (t ∙ ap line_of made-is);
+              done = d ∙ ap ends_listing made-is;
+              text = wrote_as w (ap (λ (b : Bool). pick b (last_line r.status) (cell_line r area)) d ∙ ap line_of made-is);
               fits = fits;
               sound = sound-next;
             }
 
-        pub listed-cell : n < 10 → Wrote 0 (cell_line r area) before end after → Listed cat tab pos before (record { position = r.position; long = end; done = false }) after
-        unfolding line_of
-        listed-cell l w =
-            let q : ends_listing (made r tab area) ≡ false = lt-leb 10 (number r.status) (omega arith) in
-            let t : cell_line r area ≡ line_of (made r tab area) = rw q in
-            record {
-              position = ap (λ (o : Outcome). o.answer.position) made-is;
-              done = sym q ∙ ap ends_listing made-is;
-              text = wrote_as w (t ∙ ap line_of made-is);
-              fits = fits;
-              sound = sound-next;
-            }
-
-lines-stop : (cat tab : Bytes) (pos : Position) (k : ℕ) → ends_listing (issued cat tab pos) ≡ true → lines_from (suc k) cat tab pos ≡ last_line (issued cat tab pos).answer.status
+lines-stop : (cat tab : Bytes) (pos : Position) (k : ℕ) → ends_listing (issued cat tab pos) ≡ true
+    → lines_from (suc k) cat tab pos ≡ last_line (issued cat tab pos).answer.status
 unfolding lines_from
 lines-stop cat tab pos k q = rw (lines_from, q)
 

@@ -15,7 +15,8 @@ use reader::read_next;
 use terms::statuses::number;
 use terms::{Answer, Position, Status};
 
-// A line that was written: the position after its call, how many bytes it has, and whether it is the last.
+// A line that was written: the position after its call, how many bytes it has, and whether it is the last. `done` is no variant, since the position is
+// promised behind the last line too.
 #[derive(Clone, Copy)]
 pub struct Line {
     pub position: Position,
@@ -28,15 +29,13 @@ fn cell_line(out: &mut [u8], a: Answer, area: &[u8]) -> usize
     requires { (a.length ≤ length area.now) × (22 + 2 * a.length ≤ length out.old) }
     ensures { Wrote 0 (cell_line a area.now) out.old result out.new × (result ≤ 22 + 2 * a.length) }
 {
-    let p = a.position;
-    let status = a.status;
-    let cell_end = put_decimal(out, 0, p.cell().0);
+    let cell_end = put_decimal(out, 0, a.position.cell().0);
     let type_start = put_byte(out, cell_end, 0x20);
     let type_end = put_decimal(out, type_start, wide(a.code.0));
     let level_start = put_byte(out, type_end, 0x20);
     let level_end = put_decimal(out, level_start, wide(a.level));
     let status_start = put_byte(out, level_end, 0x20);
-    let status_end = put_letters(out, status_start, status);
+    let status_end = put_letters(out, status_start, a.status);
     let data_start = put_byte(out, status_end, 0x20);
     let long = wide(a.length);
     let data_end = put_hex(out, data_start, &area[..long]);
@@ -52,7 +51,8 @@ pub fn last_line(out: &mut [u8], s: Status) -> usize
     put_byte(out, next, 0x0A)
 }
 
-// CX, or TX, or blank where the lines can be listed: "a longer file is TX, after CX"
+// CX, or TX, or blank where the lines can be listed: "a longer file is TX, after CX". A status as those of the checks (R65), which it hands on: a Result of
+// it would be no plainer.
 pub fn listing_refusal(cat: &[u8], tab: &[u8]) -> Status
     ensures { result ≡ listing_refusal cat.now tab.now }
 {
@@ -73,20 +73,15 @@ pub fn next_line(cat: &[u8], tab: &[u8], pos: Position, out: &mut [u8]) -> Line
 {
     let mut area = [0u8; 120];
     let a = read_next(cat, tab, &cat[..0], &cat[..0], pos, &mut area);
-    let s = a.status;
-    let after = a.position;
-    if 10 <= number(s) {
-        let end = last_line(out, s);
-        return Line {
-            position: after,
-            long: end,
-            done: true,
-        };
-    }
-    let long = cell_line(out, a, &area);
+    let done = 10 <= number(a.status);
+    let long = if done {
+        last_line(out, a.status)
+    } else {
+        cell_line(out, a, &area)
+    };
     Line {
-        position: after,
-        long: long,
-        done: false,
+        position: a.position,
+        long,
+        done,
     }
 }

@@ -25,7 +25,7 @@ pub(crate) fn put_letters(out: &mut [u8], at: usize, s: Status) -> usize
     put_byte(out, next, two[1])
 }
 
-// A number of at most k digits: the higher ones first.
+// A number of at most k digits: the higher ones first. It calls itself, since a `for` would have to count the digits, or to write them backwards, first.
 fn put_digits(out: &mut [u8], at: usize, k: usize, n: usize) -> usize
     requires { at + k ≤ length out.old }
     ensures { Wrote at (digits k n) out.old result out.new × (result ≤ at + k) }
@@ -60,11 +60,9 @@ pub(crate) fn put_hex(out: &mut [u8], at: usize, from: &[u8]) -> usize
     ensures { Wrote at (hex from.now) out.old result out.new × (result ≡ at + 2 * length from.now) }
 {
     let mut next = at;
-    let mut i = 0;
-    while i < from.len() {
-        next = put_byte(out, next, hex_digit(from[i] / 16));
-        next = put_byte(out, next, hex_digit(from[i] % 16));
-        i += 1;
+    for &b in from {
+        next = put_byte(out, next, hex_digit(b / 16));
+        next = put_byte(out, next, hex_digit(b % 16));
     }
     next
 }

@@ -1,10 +1,10 @@
 -- What the maker writes, and that it is a good table with no cells. Assumes nothing.
 use mathlib.Core.Path.{◌≡◌, refl, ap, sym, ◌∙◌}
 use mathlib.Core.Bool.{true, false, or-true}
-use mathlib.Core.List.{[], ◌∷◌, ◌++◌, flat_map}
+use mathlib.Core.List.{[], flat_map}
 use Prim.Native.Nat.{ℕ, ◌+◌, ◌-◌, ◌*◌, ◌/◌, ◌≤◌}
 use native.Mathlib.Omega.{arith}
-use lib.ListN.{length, take, drop, set, replicate, length-replicate}
+use lib.ListN.{length, drop, length-replicate}
 use borrow.Author.Tests.{le-leb, eq-eqb}
 use Rattle.terms.specs.declared.Status.{Status}
 use Rattle.terms.specs.declared.Status.TheVariants.{Blank, CX, TX}
@@ -21,23 +21,6 @@ use Rattle.table_check.specs.Keys.{plain_keys, has_keys}
 use Rattle.table_check.specs.Frame.{good_frame, emptied}
 use Rattle.table_check.proofs.Space.{room-is}
 use Rattle.table_check.proofs.Frame.{table-frame}
-
--- the eight bytes of the header, written one after the other
-abbrev pub headed : ℕ → Bytes → Bytes
-headed size tab = set (set (set (set (set (set (set (set tab 0 0x48) 1 0x44) 2 0x54) 3 0) 4 1) 5 size) 6 0) 7 0
-
--- and zeros behind it
-pub written : (size : ℕ) (tab : Bytes) → 8 ≤ length tab → take 8 (headed size tab) ++ replicate (length (drop 8 (headed size tab))) 0 ≡ emptied size tab
-unfolding emptied
-written size [] h = absurd (omega arith)
-written size (a ∷ []) h = absurd (omega arith)
-written size (a ∷ b ∷ []) h = absurd (omega arith)
-written size (a ∷ b ∷ c ∷ []) h = absurd (omega arith)
-written size (a ∷ b ∷ c ∷ d ∷ []) h = absurd (omega arith)
-written size (a ∷ b ∷ c ∷ d ∷ e ∷ []) h = absurd (omega arith)
-written size (a ∷ b ∷ c ∷ d ∷ e ∷ f ∷ []) h = absurd (omega arith)
-written size (a ∷ b ∷ c ∷ d ∷ e ∷ f ∷ g ∷ []) h = absurd (omega arith)
-written size (a ∷ b ∷ c ∷ d ∷ e ∷ f ∷ g ∷ i ∷ rest) h = let z : length (a ∷ b ∷ c ∷ d ∷ e ∷ f ∷ g ∷ i ∷ rest) - 8 ≡ length rest = omega arith in rw z
 
 pub emptied-length : (size : ℕ) (tab : Bytes) → 8 ≤ length tab → length (emptied size tab) ≡ length tab
 unfolding emptied
@@ -64,7 +47,8 @@ module _ (cat tab : Bytes) where
   unfolding make_status made_table
   made-unfit g h = (rw (g, h), rw (make_status, g, h))
 
-  pub made-done : (size : ℕ) (y : Bytes) → size ≡ cell_size cat → y ≡ emptied size tab → good_catalogue cat ≡ true → good_room cat tab ≡ true → (Blank ≡ make_status cat tab) × (y ≡ made_table cat tab)
+  pub made-done : (size : ℕ) (y : Bytes) → size ≡ cell_size cat → y ≡ emptied size tab
+      → good_catalogue cat ≡ true → good_room cat tab ≡ true → (Blank ≡ make_status cat tab) × (y ≡ made_table cat tab)
   unfolding make_status made_table
   made-done size y e f g h = (rw (g, h), f ∙ rw (e, make_status, g, h) (emptied-is h))
 

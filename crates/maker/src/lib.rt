@@ -12,18 +12,12 @@ use table_check::room::good_room;
 use terms::Status;
 
 // R64: the bytes of a table without segments.
+#[tactic(auto, unfolding(table_check::specs::Frame::emptied))]
 fn write_empty(tab: &mut [u8], size: u8)
     requires { 8 ≤ length tab.old }
     ensures { tab.new ≡ emptied size tab.old }
 {
-    tab[0] = 0x48;
-    tab[1] = 0x44;
-    tab[2] = 0x54;
-    tab[3] = 0;
-    tab[4] = 1;
-    tab[5] = size;
-    tab[6] = 0;
-    tab[7] = 0;
+    tab[..8].copy_from_slice(&[b'H', b'D', b'T', 0, 1, size, 0, 0]);
     clear(&mut tab[8..]);
 }
 

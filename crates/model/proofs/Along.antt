@@ -1,4 +1,6 @@
 -- Along the position: the search of document 000 along a path (formulas 36 to 38) finds what R30 finds by cell numbers. Assumes nothing.
+use Rattle.terms.specs.declared.CellNumber.{CellNumber}
+use Rattle.std.specs.Prelude.{Some, None, Option}
 use mathlib.Core.Path.{◌≡◌, refl, ap, sym, ◌∙◌}
 use mathlib.Core.Bool.{Bool, true, false}
 use mathlib.Core.List.{List, [], ◌∷◌, ◌++◌, map, append-nil, map-id}
@@ -10,8 +12,6 @@ use lib.Seq.{length-take-le}
 use borrow.Author.Tests.{ltb-true, lt-ltb, le-ltb, eq-eqb, ne_eqb}
 use Rattle.terms.specs.declared.Place.{Place}
 use Rattle.terms.specs.declared.Place.TheVariants.{On, Before}
-use Rattle.terms.specs.declared.Found.{Found}
-use Rattle.terms.specs.declared.Found.TheVariants.{At, Nothing}
 use Rattle.terms.specs.Choice.{pick}
 use Rattle.terms.specs.Names.{cell}
 use Rattle.forest.specs.Forest.{Forest, void, node, cells_of, inside, outside, side}
@@ -183,47 +183,47 @@ module _ (cat : Bytes) (cs : List Segment) where
   unfolding last_implied
   keep_out l ls i p e = ap (λ (n : ℕ). last_implied (take n (l ∷ ls))) (try-out l ls i p e)
 
-  kept_in : (l : Level) (ls : List Level) (i : ℕ) (p : Path) (q : Found) → agrees cat l (segment cs i) ≡ true
-      → kept_on cat cs (l ∷ ls) (i ∷ p) q ≡ kept_on cat cs ls p (pick (is_implied l.asked) (At (cell i)) q)
+  kept_in : (l : Level) (ls : List Level) (i : ℕ) (p : Path) (q : Option CellNumber) → agrees cat l (segment cs i) ≡ true
+      → kept_on cat cs (l ∷ ls) (i ∷ p) q ≡ kept_on cat cs ls p (pick (is_implied l.asked) (Some (cell i)) q)
   unfolding kept_on
   kept_in l ls i p q e = rw (kept_on, e)
 
-  kept_out : (l : Level) (ls : List Level) (i : ℕ) (p : Path) (q : Found) → agrees cat l (segment cs i) ≡ false → kept_on cat cs (l ∷ ls) (i ∷ p) q ≡ q
+  kept_out : (l : Level) (ls : List Level) (i : ℕ) (p : Path) (q : Option CellNumber) → agrees cat l (segment cs i) ≡ false → kept_on cat cs (l ∷ ls) (i ∷ p) q ≡ q
   unfolding kept_on
   kept_out l ls i p q e = rw (kept_on, e)
 
   -- what is kept so far, of a path of which k segments are kept
-  abbrev kept_at : ℕ → Path → Found → Found
-  kept_at k p q = pick (ltb 0 k) (At (cell (end (take k p)))) q
+  abbrev kept_at : ℕ → Path → Option CellNumber → Option CellNumber
+  kept_at k p q = pick (ltb 0 k) (Some (cell (end (take k p)))) q
 
-  kept-some : (n : ℕ) (p : Path) (q : Found) → kept_at (suc n) p q ≡ At (cell (end (take (suc n) p)))
-  kept-some n p q = ap (λ (b : Bool). pick b (At (cell (end (take (suc n) p)))) q) (lt-ltb 0 (suc n) (omega arith))
+  kept-some : (n : ℕ) (p : Path) (q : Option CellNumber) → kept_at (suc n) p q ≡ Some (cell (end (take (suc n) p)))
+  kept-some n p q = ap (λ (b : Bool). pick b (Some (cell (end (take (suc n) p)))) q) (lt-ltb 0 (suc n) (omega arith))
 
   -- LAW: the cell kept is the end of the path kept
-  kept-length : (ls : List Level) (p : Path) (q : Found) → kept_on cat cs ls p q ≡ kept_at (keep_length ls p) p q
+  kept-length : (ls : List Level) (p : Path) (q : Option CellNumber) → kept_on cat cs ls p q ≡ kept_at (keep_length ls p) p q
   unfolding kept_on try_path last_implied
   kept-length [] p q = refl
   kept-length (l ∷ ls) [] q = refl
   kept-length (l ∷ ls) (i ∷ p) q = elim (is (agrees cat l (segment cs i))) [
     | on e ↦
-        let q' : Found = pick (is_implied l.asked) (At (cell i)) q in
+        let q' : Option CellNumber = pick (is_implied l.asked) (Some (cell i)) q in
         let r : kept_on cat cs (l ∷ ls) (i ∷ p) q ≡ kept_at (keep_length ls p) p q' = kept_in l ls i p q e ∙ kept-length ls p q' in
         elim (side 0 (keep_length ls p)) [
           | inside m ↦
               let f : length (take (keep_length ls p) p) ≡ keep_length ls p = length-take-le (keep_length ls p) p (omega (arith, keep-le ls p, (try-le ls p).0)) in
               let s : keep_length (l ∷ ls) (i ∷ p) ≡ suc (keep_length ls p) = keep-in l ls i p e ∙ rw (lt-ltb 0 (keep_length ls p) m) in
-              r ∙ ap (λ (b : Bool). pick b (At (cell (end (take (keep_length ls p) p)))) q') (lt-ltb 0 (keep_length ls p) m)
-              ∙ ap (λ (x : ℕ). At (cell x)) (sym (end-cons i (take (keep_length ls p) p) (omega arith)))
+              r ∙ ap (λ (b : Bool). pick b (Some (cell (end (take (keep_length ls p) p)))) q') (lt-ltb 0 (keep_length ls p) m)
+              ∙ ap (λ (x : ℕ). Some (cell x)) (sym (end-cons i (take (keep_length ls p) p) (omega arith)))
               ∙ sym (ap (λ (x : ℕ). kept_at x (i ∷ p) q) s ∙ kept-some (keep_length ls p) (i ∷ p) q)
           | outside m ↦
               let s : keep_length (l ∷ ls) (i ∷ p) ≡ pick (is_implied l.asked) 1 0 = keep-in l ls i p e ∙ rw (le-ltb 0 (keep_length ls p) m) in
-              r ∙ ap (λ (b : Bool). pick b (At (cell (end (take (keep_length ls p) p)))) q') (le-ltb 0 (keep_length ls p) m)
+              r ∙ ap (λ (b : Bool). pick b (Some (cell (end (take (keep_length ls p) p)))) q') (le-ltb 0 (keep_length ls p) m)
               ∙ implied-or (is_implied l.asked) i p q ∙ sym (ap (λ (x : ℕ). kept_at x (i ∷ p) q) s)
         ]
     | off e ↦ kept_out l ls i p q e ∙ sym (ap (λ (x : ℕ). kept_at x (i ∷ p) q) (keep_out l ls i p e))
   ]
     where
-      implied-or : (b : Bool) (i : ℕ) (p : Path) (q : Found) → pick b (At (cell i)) q ≡ kept_at (pick b 1 0) (i ∷ p) q
+      implied-or : (b : Bool) (i : ℕ) (p : Path) (q : Option CellNumber) → pick b (Some (cell i)) q ≡ kept_at (pick b 1 0) (i ∷ p) q
       implied-or true i p q = refl
       implied-or false i p q = refl
 
@@ -295,7 +295,7 @@ module _ (cat : Bytes) (cs : List Segment) where
       -- beneath cell j, the end of the first n segments of a path that agree, with this much of the list left
       heads-rest : (n j : ℕ) (left : List Level) → drop n whole ≡ left → n ≤ length whole → j < length cs → level_at cat cs j ≡ n
           → ((p : Path) → agree cat cs whole (path_to cat cs j ++ p) ≡ agree cat cs left p)
-          → Heads cat cs whole (map (λ p. path_to cat cs j ++ p) (search cat cs left (kids j (data_part cat cs)))) (sought_beneath cat cs whole (At (cell j)))
+          → Heads cat cs whole (map (λ p. path_to cat cs j ++ p) (search cat cs left (kids j (data_part cat cs)))) (sought_beneath cat cs whole (Some (cell j)))
       heads-rest n j [] d a b h g =
           let e : length (drop n whole) ≡ length whole - n = length-drop n whole in
           let f : length (drop n whole) ≡ 0 = rw d in
@@ -310,7 +310,7 @@ module _ (cat : Bytes) (cs : List Segment) where
           let s : size (data_part cat cs) ≡ length cs = size-numbers in
           let fit : j + size K < size (data_part cat cs) = kids-fit j (data_part cat cs) (omega arith) in
           heads-by cat cs whole (map (λ p. path_to cat cs j ++ p) (search cat cs (m ∷ ms) K)) (select (agree cat cs whole) (cell_paths (suc j) (size K)))
-          (sought_beneath cat cs whole (At (cell j))) (seek cat cs whole (suc j) (size K))
+          (sought_beneath cat cs whole (Some (cell j))) (seek cat cs whole (suc j) (size K))
           (ap (map (λ p. path_to cat cs j ++ p)) (search-select cat cs m ms K)
           ∙ select-map (agree cat cs whole) (agree cat cs (m ∷ ms)) (path_to cat cs j) g (all_paths K)
           ∙ ap (select (agree cat cs whole)) (paths-run j b))
@@ -321,7 +321,7 @@ module _ (cat : Bytes) (cs : List Segment) where
       heads-front : (c n : ℕ) → c < length cs → suc n ≤ try_path cat cs whole (path_to cat cs c)
           → Heads cat cs whole
           (map (λ p. take (suc n) (path_to cat cs c) ++ p) (search cat cs (drop (suc n) whole) (get_dp cat cs (take (suc n) (path_to cat cs c)))))
-          (sought_beneath cat cs whole (At (cell (end (take (suc n) (path_to cat cs c))))))
+          (sought_beneath cat cs whole (Some (cell (end (take (suc n) (path_to cat cs c))))))
       heads-front c n b h =
           let cur : Path = path_to cat cs c in
           let s : size (data_part cat cs) ≡ length cs = size-numbers in
@@ -336,24 +336,24 @@ module _ (cat : Bytes) (cs : List Segment) where
           let u : length (path_to cat cs j) ≡ level_at cat cs j = path-deep j b' in
           heads-by cat cs whole (map (λ p. take (suc n) cur ++ p) (search cat cs (drop (suc n) whole) (get_dp cat cs (take (suc n) cur))))
           (map (λ p. path_to cat cs j ++ p) (search cat cs (drop (suc n) whole) (kids j (data_part cat cs))))
-          (sought_beneath cat cs whole (At (cell (end (take (suc n) cur))))) (sought_beneath cat cs whole (At (cell j)))
+          (sought_beneath cat cs whole (Some (cell (end (take (suc n) cur))))) (sought_beneath cat cs whole (Some (cell j)))
           (ap (λ (x : Path). map (λ p. x ++ p) (search cat cs (drop (suc n) whole) (get_dp cat cs x))) e
           ∙ ap (λ (f : Forest ℕ). map (λ p. path_to cat cs j ++ p) (search cat cs (drop (suc n) whole) f))
           (beneath-path (path_to cat cs j) (omega arith) ∙ ap (λ (x : ℕ). kids x (data_part cat cs)) (end-path cat cs j)))
-          (ap (λ (x : Path). sought_beneath cat cs whole (At (cell (end x)))) e ∙ ap (λ (x : ℕ). sought_beneath cat cs whole (At (cell x))) (end-path cat cs j))
+          (ap (λ (x : Path). sought_beneath cat cs whole (Some (cell (end x)))) e ∙ ap (λ (x : ℕ). sought_beneath cat cs whole (Some (cell x))) (end-path cat cs j))
           (heads-rest (suc n) j (drop (suc n) whole) refl (omega (arith, t.1)) b' (omega arith)
           (λ p. ap (λ (x : Path). agree cat cs whole (x ++ p)) (sym e) ∙ agree-front (suc n) whole (path_to cat cs c) p h))
 
       heads-kept : (c k : ℕ) → c < length cs → k ≤ try_path cat cs whole (path_to cat cs c)
           → Heads cat cs whole (map (λ p. take k (path_to cat cs c) ++ p) (search cat cs (drop k whole) (get_dp cat cs (take k (path_to cat cs c)))))
-          (sought_beneath cat cs whole (kept_at k (path_to cat cs c) Nothing))
+          (sought_beneath cat cs whole (kept_at k (path_to cat cs c) None))
       heads-kept c zero b h =
           heads-by cat cs whole (map (λ p. p) (search cat cs whole (data_part cat cs))) (search cat cs whole (data_part cat cs))
           (first_match cat cs whole 0 (length cs)) (first_match cat cs whole 0 (length cs))
           (map-id (search cat cs whole (data_part cat cs))) refl (heads-whole l ls)
-      heads-kept c (suc n) b h = rw (kept-some n (path_to cat cs c) Nothing) (heads-front c n b h)
+      heads-kept c (suc n) b h = rw (kept-some n (path_to cat cs c) None) (heads-front c n b h)
 
-    kept-none : (p : Path) → kept_on cat cs [] p Nothing ≡ Nothing
+    kept-none : (p : Path) → kept_on cat cs [] p None ≡ None
     unfolding kept_on
     kept-none p = refl
 
@@ -362,7 +362,7 @@ module _ (cat : Bytes) (cs : List Segment) where
     unfolding along search_along
     along-heads [] (Before c) g = heads-none
     along-heads [] (On c) g =
-        heads-by cat cs [] (all_paths (data_part cat cs)) (all_paths (data_part cat cs)) (sought_beneath cat cs [] (kept_on cat cs [] (path_to cat cs c.0) Nothing))
+        heads-by cat cs [] (all_paths (data_part cat cs)) (all_paths (data_part cat cs)) (sought_beneath cat cs [] (kept_on cat cs [] (path_to cat cs c.0) None))
         (first_match cat cs [] 0 (length cs))
         refl (ap (sought_beneath cat cs []) (kept-none (path_to cat cs c.0))) heads-none
     along-heads (l ∷ ls) (Before c) g = heads-whole l ls
@@ -371,6 +371,6 @@ module _ (cat : Bytes) (cs : List Segment) where
         let p : Path = path_to cat cs c.0 in
         let k : ℕ = keep_length (l ∷ ls) (path_to cat cs c.0) in
         heads-by cat cs (l ∷ ls) (search_along cat cs (l ∷ ls) p) (search_along cat cs (l ∷ ls) p)
-        (sought_beneath cat cs (l ∷ ls) (kept_on cat cs (l ∷ ls) p Nothing)) (sought_beneath cat cs (l ∷ ls) (kept_at k p Nothing))
-        refl (ap (sought_beneath cat cs (l ∷ ls)) (kept-length (l ∷ ls) p Nothing))
+        (sought_beneath cat cs (l ∷ ls) (kept_on cat cs (l ∷ ls) p None)) (sought_beneath cat cs (l ∷ ls) (kept_at k p None))
+        refl (ap (sought_beneath cat cs (l ∷ ls)) (kept-length (l ∷ ls) p None))
         (heads-kept l ls c.0 k b (keep-le (l ∷ ls) p))

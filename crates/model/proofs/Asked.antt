@@ -1,4 +1,5 @@
 -- What the refusals leave: the facts on which a call that is not refused may lean. Assumes nothing.
+use Rattle.std.specs.Prelude.{Err, Ok, Some, Result}
 use mathlib.Core.Path.{◌≡◌, refl, sym, ◌∙◌, subst}
 use mathlib.Core.Bool.{Bool, true, false, ◌&&◌, ◌||◌, not}
 use mathlib.Core.List.{List, [], ◌∷◌}
@@ -11,11 +12,8 @@ use Rattle.terms.specs.declared.TypeCode.{TypeCode}
 use Rattle.terms.specs.declared.CellNumber.{CellNumber}
 use Rattle.terms.specs.declared.Place.{Place}
 use Rattle.terms.specs.declared.Place.TheVariants.{On, Before}
-use Rattle.terms.specs.declared.Parentage.TheVariants.{Of}
 use Rattle.terms.specs.declared.Position.{Position}
 use Rattle.terms.specs.declared.Argument.{Argument}
-use Rattle.terms.specs.declared.ArgumentRead.{ArgumentRead}
-use Rattle.terms.specs.declared.ArgumentRead.TheVariants.{Got, Fault}
 use Rattle.terms.specs.declared.Status.{Status}
 use Rattle.terms.specs.declared.Status.TheVariants.{Blank, GP, CX, TX, PX, AD, AJ, AK, AH, AB, DJ}
 use Rattle.terms.specs.Choice.{pick}
@@ -140,9 +138,9 @@ module _ (cat list : Bytes) where
   unfolding good_next
   next-type before t h = both_left (is_type cat t) (eqb before.0 0 || type_beneath cat t before) h
 
-  abbrev Named : ArgumentRead → Type 0
-  Named (Got a) = is_type cat a.code ≡ true
-  Named (Fault s) = Unit {0}
+  abbrev Named : Result Argument Status → Type 0
+  Named (Ok a) = is_type cat a.code ≡ true
+  Named (Err s) = Unit {0}
 
   named-at : (before : TypeCode) (at : ℕ) → Named (argument_at cat list before at)
   unfolding argument_at
@@ -150,14 +148,14 @@ module _ (cat list : Bytes) where
     | on h ↦
         let k : is_type cat (code (byte list at)) ≡ true = next-type before (code (byte list at)) h in
         rw h
-        (pick-of Named (leb (length list) (at + 1)) (Fault AJ) _ tt
-        (pick-of Named (eqb (byte list (at + 1)) 0) (Got _) _ k
-        (pick-of Named (ltb 6 (byte list (at + 1))) (Fault AJ) _ tt
-        (pick-of Named (leb (length list) (at + 2)) (Fault AJ) _ tt
-        (pick-of Named (not (is_field_of cat list (code (byte list at)) (field (byte list (at + 2))))) (Fault AK) _ tt
-        (pick-of Named (ltb (length list) (at + 3 + field_length cat (field (byte list (at + 2))))) (Fault AJ) _ tt
+        (pick-of Named (leb (length list) (at + 1)) (Err AJ) _ tt
+        (pick-of Named (eqb (byte list (at + 1)) 0) (Ok _) _ k
+        (pick-of Named (ltb 6 (byte list (at + 1))) (Err AJ) _ tt
+        (pick-of Named (leb (length list) (at + 2)) (Err AJ) _ tt
+        (pick-of Named (not (is_field_of cat list (code (byte list at)) (field (byte list (at + 2))))) (Err AK) _ tt
+        (pick-of Named (ltb (length list) (at + 3 + field_length cat (field (byte list (at + 2))))) (Err AJ) _ tt
         (pick-of Named (not (is_value (field_value cat (field (byte list (at + 2)))) (part list (at + 3) (field_length cat (field (byte list (at + 2)))))))
-        (Fault AJ) (Got _) tt k)))))))
+        (Err AJ) (Ok _) tt k)))))))
     | off h ↦ rw h tt
   ]
 
@@ -173,10 +171,10 @@ module _ (cat list : Bytes) where
     | off e ↦ go n before at e (argument_at cat list before at) refl (named-at before at) (λ t k. typed-from n t k)
   ]
     where
-      go : (n : ℕ) (before : TypeCode) (at : ℕ) → leb (length list) at ≡ false → (r : ArgumentRead) → argument_at cat list before at ≡ r → Named r
+      go : (n : ℕ) (before : TypeCode) (at : ℕ) → leb (length list) at ≡ false → (r : Result Argument Status) → argument_at cat list before at ≡ r → Named r
           → ((t : TypeCode) (k : ℕ) → Typed (arguments_from cat list n t k).arguments) → Typed (arguments_from cat list (suc n) before at).arguments
-      go n before at e (Fault s) q h f = rw (arguments_from, e, q) tt
-      go n before at e (Got a) q h f = rw (arguments_from, e, q) (h, f a.code a.next)
+      go n before at e (Err s) q h f = rw (arguments_from, e, q) tt
+      go n before at e (Ok a) q h f = rw (arguments_from, e, q) (h, f a.code a.next)
 
   typed-last : (ar : List Argument) → Typed ar → is_nil ar ≡ false → is_type cat (last_argument ar).code ≡ true
   typed-last [] t e = never true refl e
@@ -206,7 +204,7 @@ module _ (cat : Bytes) (cs : List Segment) where
       both_right (good_place cat cs pos.place && good_parentage cat cs pos.place pos.parentage) (good_hold cat cs pos.place pos.hold) e
 
   -- LAW: the parentage lies before the place
-  pub parent-before : (q : Place) (p : CellNumber) → good_place cat cs q ≡ true → good_parentage cat cs q (Of p) ≡ true
+  pub parent-before : (q : Place) (p : CellNumber) → good_place cat cs q ≡ true → good_parentage cat cs q (Some p) ≡ true
       → (p.0 < length cs) × (p.0 < after_place q)
   parent-before (On c) p g e =
       let l : c.0 < length cs = ltb-true c.0 (length cs) g in

@@ -1,7 +1,7 @@
 -- GU, GN and GNP over the forest are those over the cells: the same cell, the same status, and paths that are the same position. Assumes nothing.
+use Rattle.std.specs.Prelude.{Some, None, Option}
 use mathlib.Core.Path.{◌≡◌, refl, ap, sym, ◌∙◌}
 use mathlib.Core.Bool.{Bool, true, ◌&&◌, and-true}
-use mathlib.Core.Option.{none, some}
 use mathlib.Core.List.{List, [], ◌∷◌}
 use Prim.Native.Nat.{ℕ, suc, ◌<◌}
 use native.Mathlib.Omega.{arith}
@@ -11,13 +11,10 @@ use borrow.Author.Tests.{lt-ltb, le-leb, lt-leb, ltb-true}
 use Rattle.terms.specs.declared.CellNumber.{CellNumber}
 use Rattle.terms.specs.declared.Place.{Place}
 use Rattle.terms.specs.declared.Place.TheVariants.{On, Before}
-use Rattle.terms.specs.declared.Parentage.{Parentage}
-use Rattle.terms.specs.declared.Parentage.TheVariants.{Of}
 use Rattle.terms.specs.declared.Position.{Position}
 use Rattle.terms.specs.declared.Status.{Status}
 use Rattle.terms.specs.declared.Status.TheVariants.{Blank, GE}
-use Rattle.terms.specs.declared.Found.{Found}
-use Rattle.terms.specs.Names.{cell}
+use Rattle.terms.specs.Names.{cell, Parentage}
 use Rattle.terms.specs.Moves.{after_place, moved_onto, hold_dropped}
 use Rattle.forest.specs.Forest.{inside, outside, side}
 use Rattle.forest.specs.Shape.{Levelled}
@@ -47,14 +44,14 @@ module _ (cat : Bytes) (cs : List Segment) (pos : Position) (area : Bytes) where
   shows s p i = record {
     answer = answer_of cat s p (segment cs i) 0;
     change = nothing;
-    cells = none;
+    cells = None;
     area = over (shown_bytes cat (segment cs i)) area;
   }
 
   -- what a get makes of the first of its paths, and of the cell found; and of the position where there is none
   retrieved-agree : (miss : Status) (unfound : Standing) → numbered unfound ≡ after_miss miss pos
       → (on_p : Path → Status) (on_c : ℕ → Status) (moved : Path → Standing) (parentage : ℕ → Parentage) (hold : Bool) (ls : List Level)
-      (ps : List Path) (f : Found) → Heads cat cs ls ps f → ((i : ℕ) → i < length cs → on_p (path_to cat cs i) ≡ on_c i)
+      (ps : List Path) (f : Option CellNumber) → Heads cat cs ls ps f → ((i : ℕ) → i < length cs → on_p (path_to cat cs i) ≡ on_c i)
       → ((i : ℕ) → numbered (moved (path_to cat cs i)) ≡ moved_onto i (parentage i) hold)
       → retrieved cat cs here area miss unfound on_p moved ps ≡ gotten cat cs pos area miss on_c parentage hold f
   retrieved-agree miss unfound left on_p on_c moved parentage hold ls ps f h status onto = elim h [
@@ -79,8 +76,8 @@ module _ (cat : Bytes) (cs : List Segment) (pos : Position) (area : Bytes) where
   ran_out_lem (l ∷ ls) = let-go
 
   -- the parentage that a get leaves: R36 of GU and GN, R35 of GNP
-  moved-both : (hold : Bool) (i : ℕ) → numbered (moved_to (path_to cat cs i) hold) ≡ moved_onto i (Of (cell i)) hold
-  moved-both hold i = ap (λ (k : ℕ). moved_onto k (Of (cell k)) hold) (end-path cat cs i)
+  moved-both : (hold : Bool) (i : ℕ) → numbered (moved_to (path_to cat cs i) hold) ≡ moved_onto i (Some (cell i)) hold
+  moved-both hold i = ap (λ (k : ℕ). moved_onto k (Some (cell k)) hold) (end-path cat cs i)
 
   moved-within : (hold : Bool) (i : ℕ) → numbered (moved_within here.parent (path_to cat cs i) hold) ≡ moved_onto i pos.parentage hold
   moved-within hold i =
@@ -93,7 +90,7 @@ module _ (cat : Bytes) (cs : List Segment) (pos : Position) (area : Bytes) where
   next-takes (Before c) i l = rw (end-path cat cs i, lt-ltb i (length cs) l) (sym (and-true (leb c.0 i)))
 
   within-takes : (q : Place) (c : CellNumber) → c.0 < length cs → c.0 < after_place q → (i : ℕ) → i < length cs
-      → (follows (placed cat cs q) (path_to cat cs i) && beneath (some (path_to cat cs c.0)) (path_to cat cs i))
+      → (follows (placed cat cs q) (path_to cat cs i) && beneath (Some (path_to cat cs c.0)) (path_to cat cs i))
       ≡ (leb (after_place q) i && ltb i (end_at cat cs c.0))
   within-takes q c b h i l = elim (side i (after_place q)) [
     | inside m ↦ rw (next-takes q i l, lt-leb (after_place q) i m)
@@ -126,7 +123,7 @@ module _ (cat : Bytes) (cs : List Segment) (pos : Position) (area : Bytes) where
     pub unique-agree : (hold : Bool) (ls : List Level) → int_gu cat cs here area hold ls ≡ get_unique cat cs pos area hold ls
     unfolding int_gu get_unique
     unique-agree hold ls =
-        retrieved-agree GE (let_go here) let-go (λ p. Blank) (λ i. Blank) (λ p. moved_to p hold) (λ i. Of (cell i)) hold ls
+        retrieved-agree GE (let_go here) let-go (λ p. Blank) (λ i. Blank) (λ p. moved_to p hold) (λ i. Some (cell i)) hold ls
         (eval_along cat cs ls (placed cat cs pos.place)) (along cat cs ls pos.place) (along-heads cat cs exact ls pos.place place)
         (λ i l. refl) (moved-both hold)
 
@@ -136,13 +133,13 @@ module _ (cat : Bytes) (cs : List Segment) (pos : Position) (area : Bytes) where
     next_agree hold ls =
         retrieved-agree (miss_status ls) (ran_out cat cs here area ls) (ran_out_lem ls)
         (step_status cat cs ls (placed cat cs pos.place)) (level_status cat cs ls pos.place)
-        (λ p. moved_to p hold) (λ i. Of (cell i)) hold ls
+        (λ p. moved_to p hold) (λ i. Some (cell i)) hold ls
         (select (follows (placed cat cs pos.place)) (eval cat cs ls)) (first_match cat cs ls (after_place pos.place) (length cs))
         (first_found cat cs ls (follows (placed cat cs pos.place)) (after_place pos.place) (length cs) (omega arith) (next-takes pos.place))
         (status-agree ls pos.place place) (moved-both hold)
 
     -- LAW: GNP, where the parentage lies before the place, as in a good position
-    pub within-agree : (hold : Bool) (ls : List Level) (c : CellNumber) → pos.parentage ≡ Of c → c.0 < length cs → c.0 < after_place pos.place
+    pub within-agree : (hold : Bool) (ls : List Level) (c : CellNumber) → pos.parentage ≡ Some c → c.0 < length cs → c.0 < after_place pos.place
         → int_gnp cat cs here area hold ls ≡ get_next_within cat cs pos area hold ls
     unfolding int_gnp get_next_within
     within-agree hold ls c p l h =
@@ -151,6 +148,6 @@ module _ (cat : Bytes) (cs : List Segment) (pos : Position) (area : Bytes) where
         (select (λ x. follows (placed cat cs pos.place) x && beneath (parented cat cs pos.parentage) x) (eval cat cs ls))
         (first_match cat cs ls (after_place pos.place) (parent_end cat cs pos.parentage))
         (rw p
-        (first_found cat cs ls (λ x. follows (placed cat cs pos.place) x && beneath (some (path_to cat cs c.0)) x) (after_place pos.place)
+        (first_found cat cs ls (λ x. follows (placed cat cs pos.place) x && beneath (Some (path_to cat cs c.0)) x) (after_place pos.place)
         (end_at cat cs c.0) (end-le cat cs c.0 l) (within-takes pos.place c l h)))
         (status-agree ls pos.place place) (moved-within hold)

@@ -1,19 +1,17 @@
 -- REPL and DLET over the forest are those over the cells. Assumes nothing.
+use Rattle.std.specs.Prelude.{None, Some}
 use mathlib.Core.Path.{◌≡◌, refl, ap, sym, ◌∙◌}
 use mathlib.Core.Bool.{Bool, true, false, ◌&&◌, not}
-use mathlib.Core.Option.{none, some}
 use mathlib.Core.List.{List, ◌++◌}
 use Prim.Native.Nat.{ℕ, suc, ◌+◌, ◌<◌}
 use lib.Dec.{ltb, leb}
 use lib.ListN.{length, take, drop, set}
 use Rattle.terms.specs.declared.CellNumber.{CellNumber}
 use Rattle.terms.specs.declared.Place.TheVariants.{Before}
-use Rattle.terms.specs.declared.Parentage.{Parentage}
-use Rattle.terms.specs.declared.Parentage.TheVariants.{Absent, Of}
 use Rattle.terms.specs.declared.Position.{Position}
 use Rattle.terms.specs.declared.Status.TheVariants.{DA}
 use Rattle.terms.specs.Choice.{pick}
-use Rattle.terms.specs.Names.{cell}
+use Rattle.terms.specs.Names.{cell, Parentage}
 use Rattle.terms.specs.Moves.{place_number, hold_dropped, without, after_delete}
 use Rattle.forest.specs.Forest.{Forest, cells_of, forest_of}
 use Rattle.forest.specs.Edit.{size, kids}
@@ -86,19 +84,19 @@ module _ (cat : Bytes) (cs : List Segment) (pos : Position) (area : Bytes) (on-c
   deleted-gone i n ds = refl
 
   -- R45, of the parentage: the path deleted is the front of the parent path
-  parentage-gone : (i : ℕ) (q : Parentage) → ((c : CellNumber) → q ≡ Of c → c.0 < length cs)
+  parentage-gone : (i : ℕ) (q : Parentage) → ((c : CellNumber) → q ≡ Some c → c.0 < length cs)
       → parentage_of (adjust_deletion (path_to cat cs i) (parented cat cs q)) ≡ without i (run_at cat cs i) q
   unfolding end_at
-  parentage-gone i Absent known = refl
-  parentage-gone i (Of c) known =
-      ap (λ (b : Bool). parentage_of (pick b none (some (path_to cat cs c.0)))) (prefix-row cat cs i c.0 ∙ row-run cat cs i c.0 (known c refl))
+  parentage-gone i None known = refl
+  parentage-gone i (Some c) known =
+      ap (λ (b : Bool). parentage_of (pick b None (Some (path_to cat cs c.0)))) (prefix-row cat cs i c.0 ∙ row-run cat cs i c.0 (known c refl))
       ∙ go (leb i c.0 && ltb c.0 (i + run_at cat cs i))
     where
-      go : (b : Bool) → parentage_of (pick b none (some (path_to cat cs c.0))) ≡ pick b Absent (Of c)
+      go : (b : Bool) → parentage_of (pick b None (Some (path_to cat cs c.0))) ≡ pick b None (Some c)
       go true = refl
-      go false = ap (λ (k : ℕ). Of (cell k)) (end-path cat cs c.0)
+      go false = ap (λ (k : ℕ). Some (cell k)) (end-path cat cs c.0)
 
-  module _ (known : (c : CellNumber) → pos.parentage ≡ Of c → c.0 < length cs) where
+  module _ (known : (c : CellNumber) → pos.parentage ≡ Some c → c.0 < length cs) where
     moved-gap : numbered (after_cut (path_to cat cs held) here) ≡ after_delete held (run_at cat cs held) pos
     moved-gap =
         ap (λ (k : ℕ). record { place = Before (cell k); parentage = parentage_of (adjust_deletion (path_to cat cs held) here.parent); hold = false })

@@ -1,7 +1,7 @@
 -- ISRT: the leaf put among the siblings of a forest is the cell put among the cells, at the same number, with the same twins. Assumes nothing.
+use Rattle.std.specs.Prelude.{None, Some}
 use mathlib.Core.Path.{◌≡◌, refl, ap, sym, ◌∙◌}
 use mathlib.Core.Bool.{Bool, true, false, ◌&&◌, ◌||◌, not}
-use mathlib.Core.Option.{none, some}
 use mathlib.Core.List.{List, [], ◌∷◌, ◌++◌, map, append_assoc, append-nil}
 use Prim.Native.Nat.{ℕ, suc, ◌+◌, ◌-◌, ◌<◌, ◌≤◌}
 use native.Mathlib.Omega.{arith}
@@ -10,12 +10,10 @@ use lib.ListN.{length, get_or, take, drop, length-append, length-drop}
 use lib.Seq.{take-add, drop-drop, take_at}
 use borrow.Author.Tests.{lt-ltb, le-ltb, eq-eqb, ne_eqb, eqb-true}
 use Rattle.terms.specs.declared.Place.TheVariants.{On}
-use Rattle.terms.specs.declared.Parentage.{Parentage}
-use Rattle.terms.specs.declared.Parentage.TheVariants.{Absent, Of}
 use Rattle.terms.specs.declared.Position.{Position}
 use Rattle.terms.specs.declared.Status.TheVariants.{II, FX, PD}
 use Rattle.terms.specs.Choice.{pick}
-use Rattle.terms.specs.Names.{code, cell, same_type}
+use Rattle.terms.specs.Names.{code, cell, same_type, Parentage}
 use Rattle.terms.specs.Moves.{after_insert}
 use Rattle.forest.specs.Forest.{Forest, void, node, cells_of, forest_of, rest}
 use Rattle.forest.proofs.Forest.{cells-forest}
@@ -33,7 +31,7 @@ use Rattle.rules.specs.Cells.{Segment, segment, blank, segment_level, keyed, sam
 use Rattle.rules.specs.Matching.{path_to}
 use Rattle.rules.specs.Change.{put}
 use Rattle.rules.specs.Calls.{After, refused, changed, is_one_of, key_taken, inserted, insert_among}
-use Rattle.terms.specs.Operators.{is_equal}
+use Rattle.std.specs.Ordering.{is_eq}
 use Rattle.rules.specs.Paths.{Path, adjust_insertion, after_put, parentage_of, numbered}
 use Rattle.rules.specs.Tree.{data_part, segments, find_position, has_key, put_under, insert_rec}
 use Rattle.rules.proofs.Paths.{end-append, end-path, prefix-row, prefix-none}
@@ -172,7 +170,7 @@ module _ (cat : Bytes) (cs : List Segment) where
     same-level : (c : Segment) → same_key cat x c ≡ true → lev x ≡ lev c
     unfolding same_key
     same-level c e =
-        let z : x.code.0 ≡ c.code.0 = eqb-true x.code.0 c.code.0 (both_left (same_type x.code c.code) (is_equal (key_order cat x c)) e) in
+        let z : x.code.0 ≡ c.code.0 = eqb-true x.code.0 c.code.0 (both_left (same_type x.code c.code) (is_eq (key_order cat x c)) e) in
         ap (λ (t : ℕ). level cat (code t)) z
 
     none_deep : (n : ℕ) (k : Forest Segment) → Levelled lev n k → lev x < n → any_of (same_key cat x) (cells_of k) ≡ false
@@ -202,19 +200,19 @@ module _ (cat : Bytes) (cs : List Segment) where
     taken-cells i n f a l e = has-key f a ∙ ap (any_of (same_key cat x)) (e ∙ cells-between i n l) ∙ any-map (segment cs) (same_key cat x) (range i n)
 
     -- R42, of the parentage: the parent path is the front of the path to its parent
-    parentage-kept : (p : ℕ) (q : Parentage) → parentage_of (adjust_insertion (path_to cat cs p) (parented cat cs q)) ≡ pick (is_one_of (row_at cat cs p) q) q Absent
-    parentage-kept p Absent = refl
-    parentage-kept p (Of q) =
-        ap (λ (b : Bool). parentage_of (pick b (some (path_to cat cs q.0)) none)) (prefix-row cat cs q.0 p) ∙ go (is_in q.0 (row_at cat cs p))
+    parentage-kept : (p : ℕ) (q : Parentage) → parentage_of (adjust_insertion (path_to cat cs p) (parented cat cs q)) ≡ pick (is_one_of (row_at cat cs p) q) q None
+    parentage-kept p None = refl
+    parentage-kept p (Some q) =
+        ap (λ (b : Bool). parentage_of (pick b (Some (path_to cat cs q.0)) None)) (prefix-row cat cs q.0 p) ∙ go (is_in q.0 (row_at cat cs p))
       where
-        go : (b : Bool) → parentage_of (pick b (some (path_to cat cs q.0)) none) ≡ pick b (Of q) Absent
-        go true = ap (λ (i : ℕ). Of (cell i)) (end-path cat cs q.0)
+        go : (b : Bool) → parentage_of (pick b (Some (path_to cat cs q.0)) None) ≡ pick b (Some q) None
+        go true = ap (λ (i : ℕ). Some (cell i)) (end-path cat cs q.0)
         go false = refl
 
     -- and the top is beneath none
-    parentage-top : (q : Parentage) → parentage_of (adjust_insertion [] (parented cat cs q)) ≡ pick (is_one_of [] q) q Absent
-    parentage-top Absent = refl
-    parentage-top (Of q) = ap (λ (b : Bool). parentage_of (pick b (some (path_to cat cs q.0)) none)) (prefix-none cat cs q.0)
+    parentage-top : (q : Parentage) → parentage_of (adjust_insertion [] (parented cat cs q)) ≡ pick (is_one_of [] q) q None
+    parentage-top None = refl
+    parentage-top (Some q) = ap (λ (b : Bool). parentage_of (pick b (Some (path_to cat cs q.0)) None)) (prefix-none cat cs q.0)
 
     -- what an insert answers, by its position before and after
     abbrev after : ℕ → Position → Position → Bool → ℕ → List Segment → After
@@ -236,7 +234,7 @@ module _ (cat : Bytes) (cs : List Segment) where
     inserted-after m above taken r new = refl
 
     moved_same : (inspos above : List ℕ) (r : ℕ)
-        → parentage_of (adjust_insertion inspos (parented cat cs pos.parentage)) ≡ pick (is_one_of above pos.parentage) pos.parentage Absent
+        → parentage_of (adjust_insertion inspos (parented cat cs pos.parentage)) ≡ pick (is_one_of above pos.parentage) pos.parentage None
         → numbered (after_put inspos r (paths cat cs pos)) ≡ after_insert r (is_one_of above pos.parentage) pos
     moved_same inspos above r e =
         ap (λ (i : ℕ). record { place = On (cell i); parentage = parentage_of (adjust_insertion inspos (parented cat cs pos.parentage)); hold = false })
@@ -244,7 +242,7 @@ module _ (cat : Bytes) (cs : List Segment) where
         ∙ ap (λ (q : Parentage). record { place = On (cell r); parentage = q; hold = false }) e
 
     inserted_same : (m : ℕ) (inspos above : List ℕ) (taken had : Bool) (r k : ℕ) (new ds : List Segment)
-        → parentage_of (adjust_insertion inspos (parented cat cs pos.parentage)) ≡ pick (is_one_of above pos.parentage) pos.parentage Absent
+        → parentage_of (adjust_insertion inspos (parented cat cs pos.parentage)) ≡ pick (is_one_of above pos.parentage) pos.parentage None
         → taken ≡ had → r ≡ k → new ≡ ds
         → put_under cat cs (paths cat cs pos) area m x inspos taken r new ≡ inserted cat cs pos area m x above had k ds
     inserted_same m inspos above taken had r k new ds a b c d =

@@ -1,7 +1,7 @@
 -- Tables stay good: what specs/Kept.antt states. Assumes nothing.
+use Rattle.std.specs.Prelude.{Some, None, Option}
 use mathlib.Core.Path.{◌≡◌, refl, ap, sym, ◌∙◌, subst}
 use mathlib.Core.Bool.{Bool, true, false, ◌&&◌, not}
-use mathlib.Core.Option.{Option, none, some}
 use mathlib.Core.List.{List, [], ◌∷◌, ◌++◌}
 use Prim.Native.Nat.{ℕ, zero, suc, ◌+◌, ◌-◌, ◌<◌, ◌≤◌}
 use native.Mathlib.Omega.{arith}
@@ -13,17 +13,13 @@ use Rattle.terms.specs.declared.TypeCode.{TypeCode}
 use Rattle.terms.specs.declared.CellNumber.{CellNumber}
 use Rattle.terms.specs.declared.Place.{Place}
 use Rattle.terms.specs.declared.Place.TheVariants.{On, Before}
-use Rattle.terms.specs.declared.Parentage.{Parentage}
-use Rattle.terms.specs.declared.Parentage.TheVariants.{Absent, Of}
 use Rattle.terms.specs.declared.Position.{Position}
 use Rattle.terms.specs.declared.Argument.{Argument}
 use Rattle.terms.specs.declared.Answer.{Answer}
 use Rattle.terms.specs.declared.Status.{Status}
 use Rattle.terms.specs.declared.Status.TheVariants.{Blank, GE, DA, II, FX, PD}
-use Rattle.terms.specs.declared.Found.{Found}
-use Rattle.terms.specs.declared.Found.TheVariants.{At, Nothing}
 use Rattle.terms.specs.Choice.{pick}
-use Rattle.terms.specs.Names.{code, cell}
+use Rattle.terms.specs.Names.{code, cell, Parentage}
 use Rattle.terms.specs.Statuses.{number}
 use Rattle.terms.specs.Moves.{place_number, after_place, moved_onto, hold_dropped, after_insert, after_delete, without}
 use Rattle.forest.specs.Forest.{forest_of, inside, outside, side}
@@ -73,9 +69,9 @@ sits-of cat cs pos a b c = rw (a, b, c)
 parentage-same : (cat : Bytes) (cs ds : List Segment) → level_at cat ds ≡ level_at cat cs → length ds ≡ length cs → (q : Place) (p : Parentage)
     → good_parentage cat ds q p ≡ good_parentage cat cs q p
 unfolding row_at end_at run_at
-parentage-same cat cs ds e l q Absent = refl
-parentage-same cat cs ds e l (On c) (Of p) = ap (λ (lev : ℕ → ℕ). is_in p.0 (c.0 ∷ ancestors lev c.0)) e
-parentage-same cat cs ds e l (Before c) (Of p) =
+parentage-same cat cs ds e l q None = refl
+parentage-same cat cs ds e l (On c) (Some p) = ap (λ (lev : ℕ → ℕ). is_in p.0 (c.0 ∷ ancestors lev c.0)) e
+parentage-same cat cs ds e l (Before c) (Some p) =
     ap (λ (lev : ℕ → ℕ). ltb p.0 c.0 && leb c.0 (p.0 + run lev (length ds) p.0)) e
     ∙ ap (λ (n : ℕ). ltb p.0 c.0 && leb c.0 (p.0 + run (level_at cat cs) n p.0)) l
 
@@ -84,13 +80,13 @@ place_same cat cs ds l (On c) = ap (ltb c.0) l
 place_same cat cs ds l (Before c) = ap (leb c.0) l
 
 -- a cell found from i on and before e
-abbrev Within : ℕ → ℕ → Found → Type 0
-Within i e Nothing = Unit {0}
-Within i e (At c) = (i ≤ c.0) × (c.0 < e)
+abbrev Within : ℕ → ℕ → Option CellNumber → Type 0
+Within i e None = Unit {0}
+Within i e (Some c) = (i ≤ c.0) × (c.0 < e)
 
-widen : (i j e : ℕ) (f : Found) → i ≤ j → Within j e f → Within i e f
-widen i j e Nothing l w = tt
-widen i j e (At c) l w = (omega (arith, w.0), w.1)
+widen : (i j e : ℕ) (f : Option CellNumber) → i ≤ j → Within j e f → Within i e f
+widen i j e None l w = tt
+widen i j e (Some c) l w = (omega (arith, w.0), w.1)
 
 module _ (cat : Bytes) (cs : List Segment) (ls : List Level) where
   seek-within : (i n : ℕ) → Within i (i + n) (seek cat cs ls i n)
@@ -109,7 +105,7 @@ module _ (cat : Bytes) (cs : List Segment) (ls : List Level) where
   unfolding first_match
   match-within i e l = let z : i + (e - i) ≡ e = omega arith in subst (λ (k : ℕ). Within i k (seek cat cs ls i (e - i))) z (seek-within i (e - i))
 
-  match_none : (i e : ℕ) → e ≤ i → first_match cat cs ls i e ≡ Nothing
+  match_none : (i e : ℕ) → e ≤ i → first_match cat cs ls i e ≡ None
   unfolding first_match
   match_none i e l = let z : e - i ≡ 0 = omega arith in ap (seek cat cs ls i) z ∙ seek-none cat cs ls i
 
@@ -120,8 +116,8 @@ place-le cat cs (Before c) e = leb-true c.0 (length cs) e
 -- what a call on these cells keeps; isrt says whether it is an ISRT, writing whether it is one that may change the cells
 module _ (cat : Bytes) (cs : List Segment) (m : ℕ) (area : Bytes) where
   abbrev cells_now : Option (List Segment) → List Segment
-  cells_now none = cs
-  cells_now (some ds) = ds
+  cells_now None = cs
+  cells_now (Some ds) = ds
 
   record Keeps (isrt writing : Bool) (a : After) : Type 0 where
     formed : good_listing cat (cells_now a.cells) ≡ true
@@ -131,7 +127,7 @@ module _ (cat : Bytes) (cs : List Segment) (m : ℕ) (area : Bytes) where
     counted : length (cells_now a.cells) + a.answer.removed ≡ length cs + pick (isrt && is_blank a.answer.status) 1 0
     near : place_number a.answer.position.place ≤ length cs
     front : take (place_number a.answer.position.place) (cells_now a.cells) ≡ take (place_number a.answer.position.place) cs
-    only : (writing && is_blank a.answer.status) ≡ false → a.cells ≡ none
+    only : (writing && is_blank a.answer.status) ≡ false → a.cells ≡ None
     long : length a.area ≡ length area
     filled : IsBytes a.area
 
@@ -181,9 +177,9 @@ module _ (cat : Bytes) (cs : List Segment) (m : ℕ) (area : Bytes) where
         (λ h. keeps-refused isrt writing s (not_done isrt (is_blank s) e)) (λ h. keeps-missed isrt writing s (not_done isrt (is_blank s) e))
 
     -- the gets
-    abbrev Lands : (ℕ → Parentage) → Found → Type 0
-    Lands parentage Nothing = Unit {0}
-    Lands parentage (At c) = (c.0 < length cs) × (good_parentage cat cs (On c) (parentage c.0) ≡ true)
+    abbrev Lands : (ℕ → Parentage) → Option CellNumber → Type 0
+    Lands parentage None = Unit {0}
+    Lands parentage (Some c) = (c.0 < length cs) × (good_parentage cat cs (On c) (parentage c.0) ≡ true)
 
     module _ (writing : Bool) (wide : cell_size cat - 1 ≤ length area) where
       type-wide : (t : TypeCode) → is_type cat t ≡ true → length_of cat t ≤ length area
@@ -192,11 +188,11 @@ module _ (cat : Bytes) (cs : List Segment) (m : ℕ) (area : Bytes) where
       over-long : (b : Bytes) → length b ≤ length area → length (over b area) ≡ length area
       over-long b l = omega (arith, length-append b (drop (length b) area), length-drop (length b) area)
 
-      keeps-gotten : (miss : Status) (status : ℕ → Status) (parentage : ℕ → Parentage) (hold : Bool) (f : Found) → Lands parentage f
+      keeps-gotten : (miss : Status) (status : ℕ → Status) (parentage : ℕ → Parentage) (hold : Bool) (f : Option CellNumber) → Lands parentage f
           → Keeps false writing (gotten cat cs pos area miss status parentage hold f)
       unfolding answer_of shown_bytes
-      keeps-gotten miss status parentage hold Nothing l = keeps-missed false writing miss refl
-      keeps-gotten miss status parentage hold (At c) l =
+      keeps-gotten miss status parentage hold None l = keeps-missed false writing miss refl
+      keeps-gotten miss status parentage hold (Some c) l =
           let s : Fits cat (segment cs c.0) = all-at (Fits cat) blank cs c.0 whole l.0 in
           let w : length_of cat (segment cs c.0).code ≤ length area = type-wide (segment cs c.0).code s.known in
           record {
@@ -217,39 +213,39 @@ module _ (cat : Bytes) (cs : List Segment) (m : ℕ) (area : Bytes) where
       own_row : (i : ℕ) → i < length cs → is_in i (row_at cat cs i) ≡ true
       own_row i l = in_row cat cs i i (omega arith) l (end-some cat cs i)
 
-      lands-unique : (ls : List Level) → Lands (λ i. Of (cell i)) (along cat cs ls pos.place)
+      lands-unique : (ls : List Level) → Lands (λ i. Some (cell i)) (along cat cs ls pos.place)
       lands-unique ls = elim (along-heads cat cs (numbers-levelled cat g cs good) ls pos.place (good-place cat cs pos here)) [
-        | missing a b ↦ subst (Lands (λ i. Of (cell i))) (sym b) tt
-        | leading i qs l h a b ↦ subst (Lands (λ i. Of (cell i))) (sym b) (l, own_row i l)
+        | missing a b ↦ subst (Lands (λ i. Some (cell i))) (sym b) tt
+        | leading i qs l h a b ↦ subst (Lands (λ i. Some (cell i))) (sym b) (l, own_row i l)
       ]
 
-      lands-own : (i e : ℕ) (f : Found) → e ≤ length cs → Within i e f → Lands (λ k. Of (cell k)) f
-      lands-own i e Nothing l w = tt
-      lands-own i e (At c) l w = let b : c.0 < length cs = omega (arith, w.1) in (b, own_row c.0 b)
+      lands-own : (i e : ℕ) (f : Option CellNumber) → e ≤ length cs → Within i e f → Lands (λ k. Some (cell k)) f
+      lands-own i e None l w = tt
+      lands-own i e (Some c) l w = let b : c.0 < length cs = omega (arith, w.1) in (b, own_row c.0 b)
 
       after-le : (q : Place) → good_place cat cs q ≡ true → after_place q ≤ length cs
       after-le (On c) e = ltb-true c.0 (length cs) e
       after-le (Before c) e = leb-true c.0 (length cs) e
 
-      lands-next : (ls : List Level) → Lands (λ i. Of (cell i)) (first_match cat cs ls (after_place pos.place) (length cs))
+      lands-next : (ls : List Level) → Lands (λ i. Some (cell i)) (first_match cat cs ls (after_place pos.place) (length cs))
       lands-next ls =
           lands-own (after_place pos.place) (length cs) (first_match cat cs ls (after_place pos.place) (length cs)) (omega arith)
           (match-within cat cs ls (after_place pos.place) (length cs) (after-le pos.place (good-place cat cs pos here)))
 
       -- beneath the parentage p
-      lands-beneath : (p : CellNumber) (i : ℕ) (f : Found) → p.0 < length cs → p.0 < i → Within i (end_at cat cs p.0) f → Lands (λ k. Of p) f
-      lands-beneath p i Nothing a b w = tt
-      lands-beneath p i (At c) a b w =
+      lands-beneath : (p : CellNumber) (i : ℕ) (f : Option CellNumber) → p.0 < length cs → p.0 < i → Within i (end_at cat cs p.0) f → Lands (λ k. Some p) f
+      lands-beneath p i None a b w = tt
+      lands-beneath p i (Some c) a b w =
           let l : c.0 < length cs = omega (arith, w.1, end-le cat cs p.0 a) in
           (l, in_row cat cs p.0 c.0 (omega (arith, w.0)) l w.1)
 
       lands_within : (ls : List Level) (q : Parentage) → pos.parentage ≡ q
           → Lands (λ i. q) (first_match cat cs ls (after_place pos.place) (parent_end cat cs q))
-      lands_within ls Absent e = subst (Lands (λ i. Absent)) (sym (match_none cat cs ls (after_place pos.place) 0 (omega arith))) tt
-      lands_within ls (Of p) e =
+      lands_within ls None e = subst (Lands (λ i. None)) (sym (match_none cat cs ls (after_place pos.place) 0 (omega arith))) tt
+      lands_within ls (Some p) e =
           let b = parent-before cat cs pos.place p (good-place cat cs pos here) (rw e at (good-parentage cat cs pos here)) in
           elim (side (end_at cat cs p.0) (after_place pos.place)) [
-            | inside h ↦ subst (Lands (λ i. Of p)) (sym (match_none cat cs ls (after_place pos.place) (end_at cat cs p.0) (omega arith))) tt
+            | inside h ↦ subst (Lands (λ i. Some p)) (sym (match_none cat cs ls (after_place pos.place) (end_at cat cs p.0) (omega arith))) tt
             | outside h ↦
                 lands-beneath p (after_place pos.place) (first_match cat cs ls (after_place pos.place) (end_at cat cs p.0)) b.0 b.1
                 (match-within cat cs ls (after_place pos.place) (end_at cat cs p.0) h)
@@ -257,13 +253,13 @@ module _ (cat : Bytes) (cs : List Segment) (m : ℕ) (area : Bytes) where
 
       keeps-unique : (hold : Bool) (ls : List Level) → Keeps false writing (get_unique cat cs pos area hold ls)
       unfolding get_unique
-      keeps-unique hold ls = keeps-gotten GE (λ i. Blank) (λ i. Of (cell i)) hold (along cat cs ls pos.place) (lands-unique ls)
+      keeps-unique hold ls = keeps-gotten GE (λ i. Blank) (λ i. Some (cell i)) hold (along cat cs ls pos.place) (lands-unique ls)
 
       keeps-next : (hold : Bool) (ls : List Level) → Keeps false writing (get_next cat cs pos area hold ls)
       unfolding get_next
       keeps-next hold ls =
           keeps-gotten (miss_status ls) (level_status cat cs ls pos.place)
-          (λ i. Of (cell i)) hold (first_match cat cs ls (after_place pos.place) (length cs)) (lands-next ls)
+          (λ i. Some (cell i)) hold (first_match cat cs ls (after_place pos.place) (length cs)) (lands-next ls)
 
       keeps-within : (hold : Bool) (ls : List Level) → Keeps false writing (get_next_within cat cs pos area hold ls)
       unfolding get_next_within
@@ -293,9 +289,9 @@ module _ (cat : Bytes) (cs : List Segment) (m : ℕ) (area : Bytes) where
           abbrev Above : List ℕ → Type 0
           Above above = (p : ℕ) → is_in p above ≡ true → is_in p (row_at cat (with-x r) r) ≡ true
 
-          stays : (above : List ℕ) → Above above → (q : Parentage) → good_parentage cat (with-x r) (On (cell r)) (pick (is_one_of above q) q Absent) ≡ true
-          stays above a Absent = refl
-          stays above a (Of p) = elim (is (is_in p.0 above)) [ on e ↦ rw e (a p.0 e) | off e ↦ rw e ]
+          stays : (above : List ℕ) → Above above → (q : Parentage) → good_parentage cat (with-x r) (On (cell r)) (pick (is_one_of above q) q None) ≡ true
+          stays above a None = refl
+          stays above a (Some p) = elim (is (is_in p.0 above)) [ on e ↦ rw e (a p.0 e) | off e ↦ rw e ]
 
           keeps-inserted : (above : List ℕ) (taken : Bool) → Above above
               → (keyed cat x ≡ true → (eqb (key_kind cat x.code) 1 && taken) ≡ false → good_listing cat (with-x r) ≡ true)
@@ -363,7 +359,7 @@ module _ (cat : Bytes) (cs : List Segment) (m : ℕ) (area : Bytes) where
               end-from cat (with-x r) p (suc r) (omega (arith, w.0)) (omega (arith, r-fit)) (new_deep p w.0 w.1) in
               in_row cat (with-x r) p r (omega (arith, w.0)) (omega (arith, r-fit)) (omega arith)
 
-          keeps-beneath : is_child cat (type_number (segment cs q)) x ≡ true → Keeps true true (insert_under cat cs pos area m x (At (cell q)))
+          keeps-beneath : is_child cat (type_number (segment cs q)) x ≡ true → Keeps true true (insert_under cat cs pos area m x (Some (cell q)))
           unfolding insert_among
           keeps-beneath c =
               keeps-inserted r r-fit (row_at cat cs q) (key_taken cat cs x (suc q) (run_at cat cs q - 1)) row-above
@@ -403,8 +399,8 @@ module _ (cat : Bytes) (cs : List Segment) (m : ℕ) (area : Bytes) where
             (listing-levelled cat g cs good))
             (x-child 0 (ap (λ (u : ℕ). (parent_of cat (code u)).0) z ∙ root-parent cat g)))
             (λ e. elim (along-heads cat cs (numbers-levelled cat g cs good) ls pos.place (good-place cat cs pos here)) [
-              | missing a b ↦ subst (λ (f : Found). Keeps true true (insert_under cat cs pos area m x' f)) (sym b) (keeps-missed true true GE refl)
-              | leading i qs l h a b ↦ subst (λ (f : Found). Keeps true true (insert_under cat cs pos area m x' f)) (sym b)
+              | missing a b ↦ subst (λ (f : Option CellNumber). Keeps true true (insert_under cat cs pos area m x' f)) (sym b) (keeps-missed true true GE refl)
+              | leading i qs l h a b ↦ subst (λ (f : Option CellNumber). Keeps true true (insert_under cat cs pos area m x' f)) (sym b)
                   (let k : is_type cat (parent_of cat t) ≡ true = parent-type cat g t known (eqb-false t.0 1 e) in
                   let z : (parent_of cat t).0 ≡ (segment cs i).code.0 = match-type cat cs g list ar (parent_of cat t) k i h in
                   keeps-beneath x' x_fits i l (sym (x-level ∙ level-child cat g t known ∙ ap (λ (u : ℕ). suc (level cat (code u))) z))
@@ -488,7 +484,7 @@ module _ (cat : Bytes) (cs : List Segment) (m : ℕ) (area : Bytes) where
       place-left = omega (arith, length-append (take c.0 cs) (drop (end_at cat cs c.0) cs), length-take-le c.0 cs (omega (arith, d-in)))
 
       -- a parentage before the run
-      left-parent : (p : CellNumber) → is_in p.0 (row_at cat cs c.0) ≡ true → p.0 < c.0 → good_parentage cat left (Before c) (Of p) ≡ true
+      left-parent : (p : CellNumber) → is_in p.0 (row_at cat cs c.0) ≡ true → p.0 < c.0 → good_parentage cat left (Before c) (Some p) ≡ true
       left-parent p e l =
           let w = row_in cat cs p.0 c.0 d-in e in
           let f : c.0 ≤ end_at cat left p.0 = end-from cat left p.0 c.0 l place-left
@@ -502,8 +498,8 @@ module _ (cat : Bytes) (cs : List Segment) (m : ℕ) (area : Bytes) where
 
       left-parentage : (q : Parentage) → good_parentage cat cs (On c) q ≡ true
           → good_parentage cat left (Before c) (without c.0 (run_at cat cs c.0) q) ≡ true
-      left-parentage Absent e = refl
-      left-parentage (Of p) e = elim (is (leb c.0 p.0 && ltb p.0 (c.0 + run_at cat cs c.0))) [
+      left-parentage None e = refl
+      left-parentage (Some p) e = elim (is (leb c.0 p.0 && ltb p.0 (c.0 + run_at cat cs c.0))) [
         | on h ↦ rw h
         | off h ↦ rw h (left-parent p e (elim (side p.0 c.0) [
           | inside l ↦ l
@@ -573,7 +569,7 @@ module _ (cat tab area : Bytes) (g : good_catalogue cat ≡ true) (bytes : IsByt
   landed-kept : (answer : Answer) (ch : Change) (cells : Option (List Segment)) (out : Bytes)
       → Keeps cat (listing cat tab) (room cat tab) area (is_isrt c) (leb 7 c) (record { answer = answer; change = ch; cells = cells; area = out })
       → Kept cat tab area c (landed cat tab (record { answer = answer; change = ch; cells = cells; area = out }))
-  landed-kept answer ch none out k =
+  landed-kept answer ch None out k =
       record {
         table = good;
         bytes = bytes;
@@ -586,7 +582,7 @@ module _ (cat tab area : Bytes) (g : good_catalogue cat ≡ true) (bytes : IsByt
         long = k.long;
         filled = k.filled;
       }
-  landed-kept answer ch (some ds) out k =
+  landed-kept answer ch (Some ds) out k =
       let m : ℕ = room cat tab in
       let i : ℕ = place_number answer.position.place in
       let l : listing cat (table_bytes cat m ds) ≡ ds = made-listing cat m ds k.fits k.few in
@@ -608,7 +604,7 @@ module _ (cat tab area : Bytes) (g : good_catalogue cat ≡ true) (bytes : IsByt
         filled = k.filled;
       }
     where
-      changed-not : some ds ≡ none → table_bytes cat (room cat tab) ds ≡ tab
+      changed-not : Some ds ≡ None → table_bytes cat (room cat tab) ds ≡ tab
       changed-not e = let z : ◌≡◌ {A = ℕ} 0 1 = cc in absurd (omega arith)
 
   module _ (full : IsBytes area) (pos : Position) (here : good_position cat (listing cat tab) pos ≡ true) (list : Bytes) where

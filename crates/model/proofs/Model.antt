@@ -1,4 +1,5 @@
 -- The calls over the forest are the calls over the cells: what specs/Model.antt states. Assumes nothing.
+use Rattle.std.specs.Prelude.{Some, None}
 use mathlib.Core.Path.{◌≡◌, refl, ap, sym, ◌∙◌, subst}
 use mathlib.Core.Bool.{Bool, true, false}
 use mathlib.Core.List.{List, [], ◌∷◌}
@@ -9,13 +10,10 @@ use lib.ListN.{length}
 use borrow.Author.Tests.{eqb-true, eqb-false}
 use Rattle.terms.specs.declared.TypeCode.{TypeCode}
 use Rattle.terms.specs.declared.CellNumber.{CellNumber}
-use Rattle.terms.specs.declared.Parentage.{Parentage}
-use Rattle.terms.specs.declared.Parentage.TheVariants.{Absent, Of}
 use Rattle.terms.specs.declared.Position.{Position}
 use Rattle.terms.specs.declared.Argument.{Argument}
 use Rattle.terms.specs.declared.Status.TheVariants.{GE}
-use Rattle.terms.specs.declared.Found.TheVariants.{At}
-use Rattle.terms.specs.Names.{code, cell}
+use Rattle.terms.specs.Names.{code, cell, Parentage}
 use Rattle.terms.specs.Moves.{is_absent, place_number, after_place}
 use Rattle.forest.specs.Forest.{Forest, forest_of}
 use Rattle.forest.specs.Shape.{Levelled}
@@ -77,7 +75,7 @@ module _ (cat : Bytes) (cs : List Segment) (g : good_catalogue cat ≡ true) (go
           (listing-levelled cat g cs good)) m
 
       beneath-same : (i : ℕ) (qs : List Path) → i < length cs → suc (segment_level cat (segment cs i)) ≡ segment_level cat x
-          → insert_at cat cs (paths cat cs pos) area m x (path_to cat cs i ∷ qs) ≡ insert_under cat cs pos area m x (At (cell i))
+          → insert_at cat cs (paths cat cs pos) area m x (path_to cat cs i ∷ qs) ≡ insert_under cat cs pos area m x (Some (cell i))
       beneath-same i qs l deep =
           ap (λ (k : ℕ). insert_rec cat cs (paths cat cs pos) area m x (path_to cat cs i) (suc k) (kids k (segments cat cs))
           (graft_under (segment_level cat) x (goes_before cat x) k (segments cat cs))) (end-path cat cs i)
@@ -119,9 +117,9 @@ module _ (cat : Bytes) (cs : List Segment) (g : good_catalogue cat ≡ true) (go
     place : good_place cat cs pos.place ≡ true
     place = good-place cat cs pos sits
 
-    known-parent : (c : CellNumber) → pos.parentage ≡ Of c → (c.0 < length cs) × (c.0 < after_place pos.place)
+    known-parent : (c : CellNumber) → pos.parentage ≡ Some c → (c.0 < length cs) × (c.0 < after_place pos.place)
     known-parent c q =
-        let f : good_parentage cat cs pos.place (Of c) ≡ true = rw q at (good-parentage cat cs pos sits) in
+        let f : good_parentage cat cs pos.place (Some c) ≡ true = rw q at (good-parentage cat cs pos sits) in
         parent-before cat cs pos.place c place f
 
     beneath-agree : (hold : Bool) (ls : List Level) → is_absent pos.parentage ≡ false
@@ -129,8 +127,8 @@ module _ (cat : Bytes) (cs : List Segment) (g : good_catalogue cat ≡ true) (go
     beneath-agree hold ls e = go pos.parentage refl e
       where
         go : (q : Parentage) → pos.parentage ≡ q → is_absent q ≡ false → int_gnp cat cs here area hold ls ≡ get_next_within cat cs pos area hold ls
-        go Absent q e = never true refl e
-        go (Of c) q e =
+        go None q e = never true refl e
+        go (Some c) q e =
             let b = known-parent c q in
             within-agree cat cs pos area (numbers-levelled cat g cs good) place hold ls c q b.0 b.1
 

@@ -1,7 +1,8 @@
 -- The paths of a forest: the path of an ancestor is the front of a path, a path is as long as its end is deep, and the paths beneath a segment stand behind
 -- its own. Assumes nothing.
+use Rattle.terms.specs.Names.{Parentage}
+use Rattle.std.specs.Prelude.{None, Some, Option}
 use mathlib.Core.Path.{◌≡◌, refl, ap, sym, ◌∙◌}
-use mathlib.Core.Option.{Option, none, some}
 use mathlib.Core.List.{List, [], ◌∷◌, ◌++◌, map, map-map}
 use Prim.Native.Nat.{ℕ, zero, suc, ◌+◌, ◌-◌, ◌<◌, ◌≤◌}
 use native.Mathlib.Omega.{arith}
@@ -9,8 +10,6 @@ use lib.ListN.{length, get_or, take, drop, length-append, length-map, length-dro
 use lib.Seq.{take-append-le, drop-append-le, take_at}
 use Rattle.terms.specs.declared.Place.{Place}
 use Rattle.terms.specs.declared.Place.TheVariants.{On, Before}
-use Rattle.terms.specs.declared.Parentage.{Parentage}
-use Rattle.terms.specs.declared.Parentage.TheVariants.{Absent, Of}
 use Rattle.terms.specs.declared.Position.{Position}
 use Rattle.forest.specs.Forest.{Forest, void, node, cells_of, inside, outside, side}
 use Rattle.forest.specs.Rows.{map-append, map_f}
@@ -169,8 +168,8 @@ module _ (cat : Bytes) (cs : List Segment) where
   placed (Before c) = in_gap c.0
 
   abbrev pub parented : Parentage → Option Path
-  parented Absent = none
-  parented (Of c) = some (path_to cat cs c.0)
+  parented None = None
+  parented (Some c) = Some (path_to cat cs c.0)
 
   abbrev pub paths : Position → Standing
   paths pos = record { current = placed pos.place; parent = parented pos.parentage; hold = pos.hold }

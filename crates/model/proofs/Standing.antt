@@ -1,17 +1,15 @@
 -- A good position as paths: reading it as paths (rules, Tree) and numbering them again gives it back. Assumes nothing.
+use Rattle.std.specs.Prelude.{None, Some, Option}
 use mathlib.Core.Path.{◌≡◌, refl, ap, ◌∙◌}
 use mathlib.Core.Bool.{true}
-use mathlib.Core.Option.{Option, some}
 use mathlib.Core.List.{List}
 use Prim.Native.Nat.{ℕ}
 use lib.ListN.{length}
 use borrow.Author.Tests.{ltb-true}
 use Rattle.terms.specs.declared.Place.{Place}
 use Rattle.terms.specs.declared.Place.TheVariants.{On, Before}
-use Rattle.terms.specs.declared.Parentage.{Parentage}
-use Rattle.terms.specs.declared.Parentage.TheVariants.{Absent, Of}
 use Rattle.terms.specs.declared.Position.{Position}
-use Rattle.terms.specs.Names.{cell}
+use Rattle.terms.specs.Names.{cell, Parentage}
 use Rattle.rules.specs.Block.{Bytes}
 use Rattle.rules.specs.Cells.{Segment}
 use Rattle.rules.specs.Position.{good_place, good_parentage, good_position}
@@ -27,8 +25,8 @@ module _ (cat : Bytes) (cs : List Segment) where
   current-placed (Before c) g = refl
 
   parent-parented : (q : Place) (m : Parentage) → good_place cat cs q ≡ true → good_parentage cat cs q m ≡ true → parent_path cat cs m ≡ parented cat cs m
-  parent-parented q Absent g h = refl
-  parent-parented q (Of c) g h = ap some (path-of cat cs c.0 (parent-before cat cs q c g h).0)
+  parent-parented q None g h = refl
+  parent-parented q (Some c) g h = ap Some (path-of cat cs c.0 (parent-before cat cs q c g h).0)
 
   -- LAW: a good position, read as paths
   pub standing-paths : (pos : Position) → good_position cat cs pos ≡ true → standing cat cs pos ≡ paths cat cs pos
@@ -44,8 +42,8 @@ module _ (cat : Bytes) (cs : List Segment) where
   place-back (Before c) = refl
 
   pub parentage-back : (m : Parentage) → parentage_of (parented cat cs m) ≡ m
-  parentage-back Absent = refl
-  parentage-back (Of c) = ap (λ (i : ℕ). Of (cell i)) (end-path cat cs c.0)
+  parentage-back None = refl
+  parentage-back (Some c) = ap (λ (i : ℕ). Some (cell i)) (end-path cat cs c.0)
 
   pub numbered-paths : (pos : Position) → numbered (paths cat cs pos) ≡ pos
   numbered-paths pos =

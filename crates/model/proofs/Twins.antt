@@ -1,5 +1,7 @@
 -- Twins in the order of their keys: the order is transitive, a new segment sits where it is put, and a segment with the same key may take another's place.
 -- Assumes nothing.
+use Rattle.std.specs.declared.cmp.Ordering.{Ordering}
+use Rattle.std.specs.declared.cmp.Ordering.TheVariants.{Equal, Greater, Less}
 use mathlib.Core.Path.{◌≡◌, refl, ap, sym, ◌∙◌}
 use mathlib.Core.Bool.{Bool, true, false, ◌&&◌, ◌||◌, not}
 use mathlib.Core.List.{List, [], ◌∷◌, ◌++◌}
@@ -9,11 +11,9 @@ use lib.Dec.{ltb, eqb}
 use lib.ListN.{length, get_or, drop, length-take, length-drop, get_or-append}
 use borrow.Author.Tests.{ltb-true, lt-ltb, le-ltb, eq-eqb, eqb-true}
 use Rattle.terms.specs.declared.Position.{Position}
-use Rattle.terms.specs.declared.Order.{Order}
-use Rattle.terms.specs.declared.Order.TheVariants.{Smaller, Equal, Greater}
 use Rattle.terms.specs.Choice.{pick}
 use Rattle.terms.specs.Names.{code}
-use Rattle.terms.specs.Operators.{is_smaller, is_equal, is_greater}
+use Rattle.std.specs.Ordering.{is_lt, is_eq, is_gt}
 use Rattle.forest.specs.Forest.{Forest, void, node, cells_of, inside, outside, side}
 use Rattle.forest.specs.Good.{on, off, is, both_left, both_right, Next, Wf}
 use Rattle.forest.specs.Edit.{size, edit, edit-in, edit-out, get_d_past}
@@ -62,56 +62,56 @@ same_bytes_lem (x ∷ xs) (y ∷ ys) e = elim (is (eqb x y)) [
 ]
 
 -- the order that a kind of key asks of twins
-abbrev by_kind : ℕ → Order → Bool
-by_kind k o = pick (eqb k 0) true (pick (eqb k 1) (is_smaller o) (not (is_greater o)))
+abbrev by_kind : ℕ → Ordering → Bool
+by_kind k o = pick (eqb k 0) true (pick (eqb k 1) (is_lt o) (not (is_gt o)))
 
-is-smaller : (o : Order) → is_smaller o ≡ true → o ≡ Smaller
-is-smaller Smaller e = refl
+is-smaller : (o : Ordering) → is_lt o ≡ true → o ≡ Less
+is-smaller Less e = refl
 is-smaller Equal e = never false e refl
 is-smaller Greater e = never false e refl
 
 module _ (w : ℕ) (xs ys zs : Bytes) (a : length xs ≡ length ys) (b : length ys ≡ length zs) where
-  rises : (o p : Order) → value_order w xs ys ≡ o → value_order w ys zs ≡ p → not (is_greater o) ≡ true → not (is_greater p) ≡ true
-      → not (is_greater (value_order w xs zs)) ≡ true
+  rises : (o p : Ordering) → value_order w xs ys ≡ o → value_order w ys zs ≡ p → not (is_gt o) ≡ true → not (is_gt p) ≡ true
+      → not (is_gt (value_order w xs zs)) ≡ true
   rises Greater p e f g h = never false g refl
-  rises Smaller Greater e f g h = never false h refl
+  rises Less Greater e f g h = never false h refl
   rises Equal Greater e f g h = never false h refl
-  rises Smaller Smaller e f g h = ap (λ (o : Order). not (is_greater o)) (value-transitive w xs ys zs e f)
-  rises Smaller Equal e f g h = ap (λ (o : Order). not (is_greater o)) (sym (value-right w xs ys zs b f) ∙ e)
-  rises Equal Smaller e f g h = ap (λ (o : Order). not (is_greater o)) (value-left w xs ys zs a e ∙ f)
-  rises Equal Equal e f g h = ap (λ (o : Order). not (is_greater o)) (value-left w xs ys zs a e ∙ f)
+  rises Less Less e f g h = ap (λ (o : Ordering). not (is_gt o)) (value-transitive w xs ys zs e f)
+  rises Less Equal e f g h = ap (λ (o : Ordering). not (is_gt o)) (sym (value-right w xs ys zs b f) ∙ e)
+  rises Equal Less e f g h = ap (λ (o : Ordering). not (is_gt o)) (value-left w xs ys zs a e ∙ f)
+  rises Equal Equal e f g h = ap (λ (o : Ordering). not (is_gt o)) (value-left w xs ys zs a e ∙ f)
 
   kind-trans : (k : ℕ) → by_kind k (value_order w xs ys) ≡ true → by_kind k (value_order w ys zs) ≡ true → by_kind k (value_order w xs zs) ≡ true
   kind-trans k e f = elim (is (eqb k 0)) [
     | on h ↦ rw h
     | off h ↦ elim (is (eqb k 1)) [
       | on q ↦
-          let u : is_smaller (value_order w xs ys) ≡ true = rw (h, q) at e in
-          let v : is_smaller (value_order w ys zs) ≡ true = rw (h, q) at f in
-          rw (h, q) (ap is_smaller (value-transitive w xs ys zs (is-smaller (value_order w xs ys) u) (is-smaller (value_order w ys zs) v)))
+          let u : is_lt (value_order w xs ys) ≡ true = rw (h, q) at e in
+          let v : is_lt (value_order w ys zs) ≡ true = rw (h, q) at f in
+          rw (h, q) (ap is_lt (value-transitive w xs ys zs (is-smaller (value_order w xs ys) u) (is-smaller (value_order w ys zs) v)))
       | off q ↦
-          let u : not (is_greater (value_order w xs ys)) ≡ true = rw (h, q) at e in
-          let v : not (is_greater (value_order w ys zs)) ≡ true = rw (h, q) at f in
+          let u : not (is_gt (value_order w xs ys)) ≡ true = rw (h, q) at e in
+          let v : not (is_gt (value_order w ys zs)) ≡ true = rw (h, q) at f in
           rw (h, q) (rises (value_order w xs ys) (value_order w ys zs) refl refl u v)
     ]
   ]
 
 -- behind a key that is not greater, and not the same where it is to be unique
-kind-behind : (w k : ℕ) (xs ys : Bytes) → length xs ≡ length ys → is_smaller (value_order w xs ys) ≡ false
-    → (eqb k 1 ≡ true → is_equal (value_order w xs ys) ≡ false) → by_kind k (value_order w ys xs) ≡ true
+kind-behind : (w k : ℕ) (xs ys : Bytes) → length xs ≡ length ys → is_lt (value_order w xs ys) ≡ false
+    → (eqb k 1 ≡ true → is_eq (value_order w xs ys) ≡ false) → by_kind k (value_order w ys xs) ≡ true
 kind-behind w k xs ys l e f = ap (by_kind k) (value-turned w xs ys l) ∙ go (value_order w xs ys) e f
   where
-    go : (o : Order) → is_smaller o ≡ false → (eqb k 1 ≡ true → is_equal o ≡ false) → by_kind k (turned o) ≡ true
-    go Smaller e f = never true refl e
+    go : (o : Ordering) → is_lt o ≡ false → (eqb k 1 ≡ true → is_eq o ≡ false) → by_kind k (turned o) ≡ true
+    go Less e f = never true refl e
     go Greater e f = elim (is (eqb k 0)) [ on h ↦ rw h | off h ↦ elim (is (eqb k 1)) [ on q ↦ rw (h, q) | off q ↦ rw (h, q) ] ]
     go Equal e f = elim (is (eqb k 0)) [ on h ↦ rw h | off h ↦ elim (is (eqb k 1)) [ on q ↦ never true refl (f q) | off q ↦ rw (h, q) ] ]
 
-kind-before : (k : ℕ) (o : Order) → is_smaller o ≡ true → by_kind k o ≡ true
+kind-before : (k : ℕ) (o : Ordering) → is_lt o ≡ true → by_kind k o ≡ true
 kind-before k o e = elim (is (eqb k 0)) [
   | on h ↦ rw h
   | off h ↦ elim (is (eqb k 1)) [
     | on q ↦ rw (h, q) e
-    | off q ↦ rw (h, q) (ap (λ (p : Order). not (is_greater p)) (is-smaller o e))
+    | off q ↦ rw (h, q) (ap (λ (p : Ordering). not (is_gt p)) (is-smaller o e))
   ]
 ]
 
@@ -207,7 +207,7 @@ module _ (cat : Bytes) where
   unfolding goes_before key_order
   stands-before x c e =
       stood (type_number x) (type_number c) (twin_order cat x c)
-      (elim (stands (type_number x) (type_number c) (is_smaller (value_order (key_value cat x.code) (key cat x) (key cat c))) e) [
+      (elim (stands (type_number x) (type_number c) (is_lt (value_order (key_value cat x.code) (key cat x) (key cat c))) e) [
         | less l ↦ less l
         | twin q t ↦ twin q (twin-kind x c ∙ kind-before (key_kind cat x.code) (value_order (key_value cat x.code) (key cat x) (key cat c)) t)
       ])
@@ -218,10 +218,10 @@ module _ (cat : Bytes) where
   stands-behind x c f g u e =
       let n : ltb (type_number x) (type_number c) ≡ false =
       or_left (ltb (type_number x) (type_number c))
-      (eqb (type_number x) (type_number c) && is_smaller (value_order (key_value cat x.code) (key cat x) (key cat c))) e in
-      let k : (eqb (type_number x) (type_number c) && is_smaller (value_order (key_value cat x.code) (key cat x) (key cat c))) ≡ false =
+      (eqb (type_number x) (type_number c) && is_lt (value_order (key_value cat x.code) (key cat x) (key cat c))) e in
+      let k : (eqb (type_number x) (type_number c) && is_lt (value_order (key_value cat x.code) (key cat x) (key cat c))) ≡ false =
       or-second (ltb (type_number x) (type_number c))
-      (eqb (type_number x) (type_number c) && is_smaller (value_order (key_value cat x.code) (key cat x) (key cat c))) e in
+      (eqb (type_number x) (type_number c) && is_lt (value_order (key_value cat x.code) (key cat x) (key cat c))) e in
       stood (type_number c) (type_number x) (twin_order cat c x)
       (elim (side (type_number c) (type_number x)) [
         | inside l ↦ less l
@@ -232,8 +232,8 @@ module _ (cat : Bytes) where
               let r : eqb (type_number x) (type_number c) ≡ true = eq-eqb (type_number x) (type_number c) q in
               twin (sym q)
               (twin-kind c x ∙ kind-behind (key_value cat c.code) (key_kind cat c.code) (key cat x) (key cat c) (key-same x c q f g)
-              (sym (ap is_smaller (value_same x c q)) ∙ rw r at k)
-              (λ h. sym (ap is_equal (value_same x c q)) ∙ rw r at (u (ap (λ (t : ℕ). eqb t 1) (kind-same x c q) ∙ h))))
+              (sym (ap is_lt (value_same x c q)) ∙ rw r at k)
+              (λ h. sym (ap is_eq (value_same x c q)) ∙ rw r at (u (ap (λ (t : ℕ). eqb t 1) (kind-same x c q) ∙ h))))
         ]
       ])
 

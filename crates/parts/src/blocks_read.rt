@@ -1,4 +1,4 @@
-// What a catalogue and a table say to a caller: sizes, and the segment in a cell.
+// What a catalogue and a table say to a caller: sizes, and the segment in a cell. 0 stands for none, since the twins in umbristal_c hand C plain numbers.
 ghost use Rattle.std.specs.Prelude.{◌≡◌, ◌+◌, ◌*◌, ◌<◌};
 ghost use Rattle.rules.specs.Block.{byte};
 ghost use Rattle.rules.specs.Catalogue.{types, largest};

@@ -62,17 +62,8 @@ pub fn umbristal_list_test(
     ensures { built result list.new
         ≡ list_test cat.now list.old used code operator field value.now }
 {
-    if operator == 0 {
-        return spoil(list);
-    }
     let long = wide(field_length(cat, FieldNumber(field)));
-    if value.len() != long {
-        return spoil(list);
-    }
-    if 1842 < used {
-        return spoil(list);
-    }
-    if 1842 - used < long {
+    if operator == 0 || value.len() != long || 1842 < used || 1842 - used < long {
         return spoil(list);
     }
     put_test(list, used, code, operator, field, value);

@@ -1,4 +1,4 @@
-// The parts of a position's block (R23).
+// The parts of a position's block (R23). Flags are 0 or 1, since the twins in umbristal_c hand C plain numbers.
 ghost use Rattle.std.specs.Prelude.{◌≡◌, ◌+◌, ◌*◌, eqb};
 ghost use Rattle.rules.specs.Block.{word};
 ghost use Rattle.terms.specs.Choice.{pick};
@@ -7,13 +7,13 @@ ghost use Rattle.parts.specs.Blocks.{flag};
 fn flag(b: u8) -> u8
     ensures { result ≡ pick (eqb b 1) 1 0 }
 {
-    if b == 1 { 1 } else { 0 }
+    u8::from(b == 1)
 }
 
 fn pair(high: u8, low: u8) -> u16
     ensures { result ≡ 256 * high + low }
 {
-    256 * (high as u16) + low as u16
+    u16::from_be_bytes([high, low])
 }
 
 // 1 where the place is on a cell, 0 where it is in the gap before one.

@@ -43,7 +43,7 @@ pub fn umbristal_hits(res: u64) -> u32
     umbristal_removed(res)
 }
 
-// The two letters of a status number.
+// The two letters of a status number. Arm by arm: a status from a number would have these twenty arms too, and nothing else asks for one.
 pub(crate) fn letters_of(status: u8) -> [u8; 2]
     ensures { result ≡ letters_of status }
 {

@@ -1,48 +1,24 @@
 -- The position's block, read and written part by part. Assumes nothing.
-use mathlib.Core.Path.{◌≡◌, refl, ap, sym, ◌∙◌}
-use mathlib.Core.Bool.{true, false, true≢false}
+use Rattle.std.specs.Prelude.{None, Some}
+use mathlib.Core.Path.{◌≡◌, refl, sym, ◌∙◌}
+use mathlib.Core.Bool.{true, true≢false}
 use mathlib.Core.List.{[], ◌∷◌, ◌++◌}
 use Prim.Native.Nat.{ℕ, ◌+◌, ◌*◌, ◌/◌, ◌%◌, ◌≤◌}
 use native.Mathlib.Omega.{arith}
 use lib.Dec.{eqb, leb}
 use lib.ListN.{length, set}
-use borrow.Author.Tests.{eq-eqb, ne_eqb, eqb-true, eqb-false, leb-true}
+use borrow.Author.Tests.{eq-eqb, eqb-true, eqb-false, leb-true}
 use Rattle.terms.specs.declared.CellNumber.{CellNumber}
 use Rattle.terms.specs.declared.Place.{Place}
 use Rattle.terms.specs.declared.Place.TheVariants.{On, Before}
-use Rattle.terms.specs.declared.Parentage.{Parentage}
-use Rattle.terms.specs.declared.Parentage.TheVariants.{Absent, Of}
 use Rattle.terms.specs.declared.Position.{Position}
 use Rattle.terms.specs.Choice.{pick}
-use Rattle.terms.specs.Names.{cell}
+use Rattle.terms.specs.Names.{Parentage}
 use Rattle.terms.specs.Moves.{place_cell, place_number, after_place, is_on}
 use Rattle.forest.specs.Good.{on, off, is}
-use Rattle.rules.specs.Block.{Bytes, byte, word}
-use Rattle.rules.specs.Position.{place_bytes, parentage_bytes, position_bytes, nowhere, good_block, position_of}
-use Rattle.position.specs.Block.{block_place, block_parentage, place_kind, parentage_kind, parentage_number, Writable}
-
--- read: x and n are the bytes that the code has
-module _ (b : Bytes) where
-  pub place-on : (x n : ℕ) → x ≡ byte b 0 → n ≡ word b 1 → x ≡ 1 → On (cell n) ≡ block_place b
-  place-on x n e w h = rw (eq-eqb (byte b 0) 1 (sym e ∙ h)) (ap (λ (k : ℕ). On (cell k)) w)
-
-  pub place-gap : (x n : ℕ) → x ≡ byte b 0 → n ≡ word b 1 → (x ≡ 1 → ⊥) → Before (cell n) ≡ block_place b
-  place-gap x n e w h = rw (ne_eqb (byte b 0) 1 (λ z. h (e ∙ z))) (ap (λ (k : ℕ). Before (cell k)) w)
-
-  pub parent-of : (x n : ℕ) → x ≡ byte b 3 → n ≡ word b 4 → x ≡ 1 → Of (cell n) ≡ block_parentage b
-  parent-of x n e w h = rw (eq-eqb (byte b 3) 1 (sym e ∙ h)) (ap (λ (k : ℕ). Of (cell k)) w)
-
-  pub parent-none : (x : ℕ) → x ≡ byte b 3 → (x ≡ 1 → ⊥) → Absent ≡ block_parentage b
-  parent-none x e h = rw (ne_eqb (byte b 3) 1 (λ z. h (e ∙ z)))
-
-  pub position-bad : good_block b ≡ false → nowhere ≡ position_of b
-  unfolding position_of
-  position-bad e = rw e
-
-  pub position-good : (p : Place) (q : Parentage) (x : ℕ) → good_block b ≡ true → p ≡ block_place b → q ≡ block_parentage b → x ≡ byte b 6
-      → record { place = p; parentage = q; hold = eqb x 1 } ≡ position_of b
-  unfolding position_of
-  position-good p q x e f g h = rw (e, f, g, h)
+use Rattle.rules.specs.Block.{Bytes, byte}
+use Rattle.rules.specs.Position.{place_bytes, parentage_bytes, position_bytes, good_block, position_of}
+use Rattle.position.specs.Block.{place_kind, parentage_kind, parentage_number, Writable}
 
 -- of a good block: its place alone
 module _ (b : Bytes) (e : good_block b ≡ true) where
@@ -93,10 +69,10 @@ eight-set (a ∷ b ∷ c ∷ d ∷ e ∷ f ∷ g ∷ i ∷ k ∷ rest) a₀ a₁
 eight-bytes : (q : Place) (r : Parentage) (h : ℕ)
     → place_kind q ∷ place_number q / 256 ∷ place_number q % 256 ∷ parentage_kind r ∷ parentage_number r / 256 ∷ parentage_number r % 256 ∷ h ∷ 0 ∷ []
     ≡ place_bytes q ++ (parentage_bytes r ++ (h ∷ 0 ∷ []))
-eight-bytes (On c) (Of d) h = refl
-eight-bytes (On c) Absent h = refl
-eight-bytes (Before c) (Of d) h = refl
-eight-bytes (Before c) Absent h = refl
+eight-bytes (On c) (Some d) h = refl
+eight-bytes (On c) None h = refl
+eight-bytes (Before c) (Some d) h = refl
+eight-bytes (Before c) None h = refl
 
 pub position-put : (b : Bytes) (p : Position) (c : CellNumber) (j k m h : ℕ) → Writable b p → c ≡ place_cell p.place → j ≡ parentage_number p.parentage
     → k ≡ place_kind p.place → m ≡ parentage_kind p.parentage → h ≡ pick p.hold 1 0

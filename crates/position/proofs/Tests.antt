@@ -1,16 +1,16 @@
 -- A position's three tests, arm by arm. Assumes nothing.
+use Rattle.terms.specs.Names.{Parentage}
+use Rattle.std.specs.Prelude.{Some}
 use mathlib.Core.Path.{◌≡◌, refl, ◌∙◌}
 use mathlib.Core.Bool.{true, false, ◌&&◌}
 use mathlib.Core.List.{List}
 use Prim.Native.Nat.{ℕ, ◌<◌, ◌≤◌}
 use lib.Dec.{ltb, leb}
 use lib.ListN.{length}
-use borrow.Author.Tests.{ltb-true, leb-true, lt-ltb, le-ltb, le-leb, lt-leb}
+use borrow.Author.Tests.{ltb-true, leb-true, le-leb, lt-leb}
 use Rattle.terms.specs.declared.CellNumber.{CellNumber}
 use Rattle.terms.specs.declared.Place.{Place}
 use Rattle.terms.specs.declared.Place.TheVariants.{On, Before}
-use Rattle.terms.specs.declared.Parentage.{Parentage}
-use Rattle.terms.specs.declared.Parentage.TheVariants.{Of}
 use Rattle.rules.specs.Block.{Bytes}
 use Rattle.rules.specs.Cells.{Segment, end_at}
 use Rattle.rules.specs.Table.{count, listing}
@@ -30,7 +30,7 @@ module _ (cat tab : Bytes) (q : Place) (c : CellNumber) where
   pub before-in : q ≡ Before c → good_place cat (listing cat tab) q ≡ true → c.0 ≤ count tab
   before-in e h = leb-true c.0 (count tab) (place-before (count tab) e refl ∙ h)
 
-module _ (cat : Bytes) (cs : List Segment) (q : Place) (p : Parentage) (c a : CellNumber) (is : p ≡ Of a) where
+module _ (cat : Bytes) (cs : List Segment) (q : Place) (p : Parentage) (c a : CellNumber) (is : p ≡ Some a) where
   -- the place on cell c: it lies in the run of a
   on-run : q ≡ On c → c.0 < length cs → good_parentage cat cs q p ≡ (leb a.0 c.0 && ltb c.0 (end_at cat cs a.0))
   on-run e l = rw (e, is) (row-run cat cs a.0 c.0 l)
@@ -40,10 +40,3 @@ module _ (cat : Bytes) (cs : List Segment) (q : Place) (p : Parentage) (c a : Ce
 
   pub on-yes : (end : ℕ) → q ≡ On c → c.0 < length cs → a.0 ≤ c.0 → end ≡ end_at cat cs a.0 → ltb c.0 end ≡ good_parentage cat cs q p
   on-yes end e l h r = rw (on-run e l, le-leb a.0 c.0 h, r)
-
-  -- the gap before cell c
-  pub before-not : q ≡ Before c → c.0 ≤ a.0 → false ≡ good_parentage cat cs q p
-  before-not e h = rw (e, is, le-ltb a.0 c.0 h)
-
-  pub before-yes : (end : ℕ) → q ≡ Before c → a.0 < c.0 → end ≡ end_at cat cs a.0 → leb c.0 end ≡ good_parentage cat cs q p
-  before-yes end e h r = rw (e, is, lt-ltb a.0 c.0 h, r)

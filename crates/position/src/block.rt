@@ -8,28 +8,16 @@ ghost use Rattle.position.specs.Block.{block_place, block_parentage, place_kind,
 use blocks::{byte_at, wide, word_at};
 use terms::{CellNumber, Parentage, Place, Position};
 
+#[tactic(auto, unfolding(rules::specs::Position::good_block))]
 fn good_block(block: &[u8]) -> bool
     ensures { result ≡ good_block block.now }
 {
-    if block.len() != 8 {
-        return false;
-    }
-    if 1 < byte_at(block, 0) {
-        return false;
-    }
-    if 1 < byte_at(block, 3) {
-        return false;
-    }
-    if 1 < byte_at(block, 6) {
-        return false;
-    }
-    if byte_at(block, 7) != 0 {
-        return false;
-    }
-    if byte_at(block, 3) == 1 {
-        return true;
-    }
-    word_at(block, 4) == 0
+    block.len() == 8
+        && byte_at(block, 0) <= 1
+        && byte_at(block, 3) <= 1
+        && byte_at(block, 6) <= 1
+        && byte_at(block, 7) == 0
+        && (byte_at(block, 3) == 1 || word_at(block, 4) == 0)
 }
 
 fn place_of(block: &[u8]) -> Place
@@ -47,28 +35,27 @@ fn parentage_of(block: &[u8]) -> Parentage
     ensures { result ≡ block_parentage block.now }
 {
     if byte_at(block, 3) == 1 {
-        Parentage::Of(CellNumber(word_at(block, 4)))
+        Some(CellNumber(word_at(block, 4)))
     } else {
-        Parentage::Absent
+        None
     }
 }
 
 // A block that is none is a bad position: a hold in a gap, which no table has.
+#[tactic(auto, unfolding(rules::specs::Position::position_of))]
 pub fn position_of(block: &[u8]) -> Position
     ensures { result ≡ position_of block.now }
 {
     if !good_block(block) {
         return Position {
             place: Place::Before(CellNumber(0)),
-            parentage: Parentage::Absent,
+            parentage: None,
             hold: true,
         };
     }
-    let place = place_of(block);
-    let parentage = parentage_of(block);
     Position {
-        place: place,
-        parentage: parentage,
+        place: place_of(block),
+        parentage: parentage_of(block),
         hold: byte_at(block, 6) == 1,
     }
 }
@@ -91,54 +78,29 @@ pub fn cell_after(block: &[u8]) -> usize
     256 * wide(block[1]) + low
 }
 
+// The byte that stands for the kind in the block.
 fn place_kind(place: Place) -> u8
     ensures { result ≡ place_kind place }
 {
     match place {
-        Place::On(c) => 1,
-        Place::Before(c) => 0,
+        Place::On(_) => 1,
+        Place::Before(_) => 0,
     }
 }
 
-fn parentage_kind(parentage: Parentage) -> u8
-    ensures { result ≡ parentage_kind parentage }
-{
-    match parentage {
-        Parentage::Absent => 0,
-        Parentage::Of(c) => 1,
-    }
-}
-
-fn parentage_number(parentage: Parentage) -> usize
-    ensures { result ≡ parentage_number parentage }
-{
-    match parentage {
-        Parentage::Absent => 0,
-        Parentage::Of(c) => c.0,
-    }
-}
-
-fn hold_byte(hold: bool) -> u8
-    ensures { result ≡ pick hold 1 0 }
-{
-    if hold { 1 } else { 0 }
-}
-
+// Hot, and so byte by byte: `copy_from_slice` of an array would take a frame (blocks::moves).
 pub fn put_position(block: &mut [u8], p: Position)
     requires { Writable block.old p }
     ensures { block.new ≡ position_bytes p }
 {
-    let place = p.place;
-    let parentage = p.parentage;
-    let c = p.cell();
-    let i = c.0;
-    let j = parentage_number(parentage);
-    block[0] = place_kind(place);
+    let i = p.cell().0;
+    let j = p.parentage.map_or(0, |c| c.0);
+    block[0] = place_kind(p.place);
     block[1] = (i / 256) as u8;
     block[2] = (i % 256) as u8;
-    block[3] = parentage_kind(parentage);
+    block[3] = u8::from(p.parentage.is_some());
     block[4] = (j / 256) as u8;
     block[5] = (j % 256) as u8;
-    block[6] = hold_byte(p.hold);
+    block[6] = u8::from(p.hold);
     block[7] = 0;
 }

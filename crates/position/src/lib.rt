@@ -27,10 +27,7 @@ fn good_place(cat: &[u8], tab: &[u8], q: Place) -> bool
 fn good_hold(cat: &[u8], tab: &[u8], q: Place, hold: bool) -> bool
     ensures { result ≡ good_hold cat.now (listing cat.now tab.now) q hold }
 {
-    match q {
-        Place::On(_) => true,
-        Place::Before(_) => !hold,
-    }
+    matches!(q, Place::On(_)) || !hold
 }
 
 // R20: on a cell, that cell lies in p's run; in a gap, p is before it and the gap in p's run or right behind it.
@@ -38,38 +35,22 @@ fn good_parentage(cat: &[u8], tab: &[u8], size: usize, q: Place, p: Parentage) -
     requires { Sound cat.now tab.now size × (good_place cat.now (listing cat.now tab.now) q ≡ true) }
     ensures { result ≡ good_parentage cat.now (listing cat.now tab.now) q p }
 {
-    let Parentage::Of(a) = p else {
+    let Some(a) = p else {
         return true;
     };
     match q {
-        Place::On(c) => {
-            if c.0 < a.0 {
-                return false;
-            }
-            c.0 < run_end(cat, tab, size, a).0
-        }
-        Place::Before(c) => {
-            if c.0 <= a.0 {
-                return false;
-            }
-            c.0 <= run_end(cat, tab, size, a).0
-        }
+        Place::On(c) => a.0 <= c.0 && c.0 < run_end(cat, tab, size, a).0,
+        Place::Before(c) => a.0 < c.0 && c.0 <= run_end(cat, tab, size, a).0,
     }
 }
 
 // The check, on a catalogue and a table that are good. Numbers of any size are refused.
+#[tactic(auto, unfolding(rules::specs::Position::good_position))]
 pub fn is_good_on(cat: &[u8], tab: &[u8], size: usize, p: Position) -> bool
     requires { Sound cat.now tab.now size }
     ensures { result ≡ good_position cat.now (listing cat.now tab.now) p }
 {
-    let place = p.place;
-    let parentage = p.parentage;
-    let hold = p.hold;
-    if !good_place(cat, tab, place) {
-        return false;
-    }
-    if !good_parentage(cat, tab, size, place, parentage) {
-        return false;
-    }
-    good_hold(cat, tab, place, hold)
+    good_place(cat, tab, p.place)
+        && good_parentage(cat, tab, size, p.place, p.parentage)
+        && good_hold(cat, tab, p.place, p.hold)
 }

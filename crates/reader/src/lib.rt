@@ -13,6 +13,7 @@ ghost use Rattle.answers.specs.Ready.{Ready, left, Again};
 ghost use Rattle.reader.specs.Moved.{Asking, AskingAgain, AskingWithin, got_next, got_within, moved};
 
 use blocks::wide;
+use gets::{get_next, get_next_within};
 use terms::{Answer, Position};
 
 // The slices it reads, the two lists that it asks with as one, and where it stands. A reader with one list has an empty one behind it.
@@ -45,8 +46,7 @@ fn call_next(
     ensures { left result area.new
         ≡ got_next cat.now tab.now (one.now ++ two.now) pos area.old }
 {
-    let size = wide(tab[5]);
-    gets::get_next(cat, tab, size, pos, one, two, area, false, false)
+    get_next(cat, tab, wide(tab[5]), pos, one, two, area, false, false)
 }
 
 // The same where the place is on a cell that the lists match, or before the first: so where a loop of GN with these lists stands.
@@ -62,8 +62,7 @@ fn call_again(
     ensures { left result area.new
         ≡ got_next cat.now tab.now (one.now ++ two.now) pos area.old }
 {
-    let size = wide(tab[5]);
-    gets::get_next(cat, tab, size, pos, one, two, area, false, true)
+    get_next(cat, tab, wide(tab[5]), pos, one, two, area, false, true)
 }
 
 // The same of GNP.
@@ -79,81 +78,70 @@ fn call_within(
     ensures { left result area.new
         ≡ got_within cat.now tab.now (one.now ++ two.now) pos area.old }
 {
-    let size = wide(tab[5]);
-    gets::get_next_within(cat, tab, size, pos, one, two, area, false)
+    get_next_within(cat, tab, wide(tab[5]), pos, one, two, area, false)
 }
 
-// A reader of these blocks with these lists, at this position.
-pub fn new<'a, 'b, 'c, 'd>(
-    cat: &'a [u8],
-    tab: &'b [u8],
-    one: &'c [u8],
-    two: &'d [u8],
-    position: Position,
-) -> Reader<'a, 'b, 'c, 'd>
-    ensures { (result.cat ≡ cat.entry) × (result.tab ≡ tab.entry) × (result.one ≡ one.entry) × (result.two ≡ two.entry) × (result.position ≡ position) }
-{
-    Reader {
-        cat,
-        tab,
-        one,
-        two,
-        position,
+impl<'a, 'b, 'c, 'd> Reader<'a, 'b, 'c, 'd> {
+    // A reader of these blocks with these lists, at this position.
+    pub fn new(
+        cat: &'a [u8],
+        tab: &'b [u8],
+        one: &'c [u8],
+        two: &'d [u8],
+        position: Position,
+    ) -> Reader<'a, 'b, 'c, 'd>
+        ensures { (result.cat ≡ cat.entry) × (result.tab ≡ tab.entry) × (result.one ≡ one.entry) × (result.two ≡ two.entry) × (result.position ≡ position) }
+    {
+        Reader {
+            cat,
+            tab,
+            one,
+            two,
+            position,
+        }
     }
-}
 
-// GN from where the reader stands; it stands where the answer says then.
-pub fn next<'a, 'b, 'c, 'd>(r: Reader<'a, 'b, 'c, 'd>, area: &mut [u8]) -> Step<'a, 'b, 'c, 'd>
-    requires { Asking r.cat.now r.tab.now r.one.now r.two.now r.position area.old }
-    ensures { (left result.answer area.new
-        ≡ got_next r.entry.cat.now r.entry.tab.now (r.entry.one.now ++ r.entry.two.now) r.entry.position area.old)
-        × (result.reader ≡ moved r.entry result.answer.position) }
-{
-    let answer = call_next(r.cat, r.tab, r.one, r.two, r.position, area);
-    let reader = Reader {
-        cat: r.cat,
-        tab: r.tab,
-        one: r.one,
-        two: r.two,
-        position: answer.position,
-    };
-    Step { answer, reader }
-}
+    // The answer of a call, with the reader where the answer says.
+    fn moved(self, answer: Answer) -> Step<'a, 'b, 'c, 'd>
+        ensures answers { result.answer ≡ answer }
+        ensures moves { result.reader ≡ moved self.entry answer.position }
+    {
+        let reader = Reader {
+            position: answer.position,
+            ..self
+        };
+        Step { answer, reader }
+    }
 
-// GN once more, where it has found the last cell or begins: nothing that the lists ask above that cell is tested again.
-pub fn again<'a, 'b, 'c, 'd>(r: Reader<'a, 'b, 'c, 'd>, area: &mut [u8]) -> Step<'a, 'b, 'c, 'd>
-    requires { AskingAgain r.cat.now r.tab.now r.one.now r.two.now r.position area.old }
-    ensures { (left result.answer area.new ≡ got_next r.entry.cat.now r.entry.tab.now
-        (r.entry.one.now ++ r.entry.two.now) r.entry.position area.old)
-        × (result.reader ≡ moved r.entry result.answer.position) }
-{
-    let answer = call_again(r.cat, r.tab, r.one, r.two, r.position, area);
-    let reader = Reader {
-        cat: r.cat,
-        tab: r.tab,
-        one: r.one,
-        two: r.two,
-        position: answer.position,
-    };
-    Step { answer, reader }
-}
+    // GN from where the reader stands; it stands where the answer says then.
+    pub fn next(self, area: &mut [u8]) -> Step<'a, 'b, 'c, 'd>
+        requires { Asking self.cat.now self.tab.now self.one.now self.two.now self.position area.old }
+        ensures { (left result.answer area.new
+            ≡ got_next self.entry.cat.now self.entry.tab.now (self.entry.one.now ++ self.entry.two.now) self.entry.position area.old)
+            × (result.reader ≡ moved self.entry result.answer.position) }
+    {
+        self.moved(call_next(self.cat, self.tab, self.one, self.two, self.position, area))
+    }
 
-// GNP likewise: the next cell beneath the parentage.
-pub fn within<'a, 'b, 'c, 'd>(r: Reader<'a, 'b, 'c, 'd>, area: &mut [u8]) -> Step<'a, 'b, 'c, 'd>
-    requires { AskingWithin r.cat.now r.tab.now r.one.now r.two.now r.position area.old }
-    ensures { (left result.answer area.new
-        ≡ got_within r.entry.cat.now r.entry.tab.now (r.entry.one.now ++ r.entry.two.now) r.entry.position area.old)
-        × (result.reader ≡ moved r.entry result.answer.position) }
-{
-    let answer = call_within(r.cat, r.tab, r.one, r.two, r.position, area);
-    let reader = Reader {
-        cat: r.cat,
-        tab: r.tab,
-        one: r.one,
-        two: r.two,
-        position: answer.position,
-    };
-    Step { answer, reader }
+    // GN once more, where it has found the last cell or begins: nothing that the lists ask above that cell is tested again.
+    pub fn again(self, area: &mut [u8]) -> Step<'a, 'b, 'c, 'd>
+        requires { AskingAgain self.cat.now self.tab.now self.one.now self.two.now self.position area.old }
+        ensures { (left result.answer area.new ≡ got_next self.entry.cat.now self.entry.tab.now
+            (self.entry.one.now ++ self.entry.two.now) self.entry.position area.old)
+            × (result.reader ≡ moved self.entry result.answer.position) }
+    {
+        self.moved(call_again(self.cat, self.tab, self.one, self.two, self.position, area))
+    }
+
+    // GNP likewise: the next cell beneath the parentage.
+    pub fn within(self, area: &mut [u8]) -> Step<'a, 'b, 'c, 'd>
+        requires { AskingWithin self.cat.now self.tab.now self.one.now self.two.now self.position area.old }
+        ensures { (left result.answer area.new
+            ≡ got_within self.entry.cat.now self.entry.tab.now (self.entry.one.now ++ self.entry.two.now) self.entry.position area.old)
+            × (result.reader ≡ moved self.entry result.answer.position) }
+    {
+        self.moved(call_within(self.cat, self.tab, self.one, self.two, self.position, area))
+    }
 }
 
 // A reader made and asked once: what a loop with plain slices calls. The answer's position is where the reader moved to.
@@ -172,8 +160,7 @@ pub fn read_next(
         (get_levels cat.now (one.now ++ two.now)
         (list_read cat.now (one.now ++ two.now)).arguments) }
 {
-    let s = next(new(cat, tab, one, two, pos), area);
-    s.answer
+    Reader::new(cat, tab, one, two, pos).next(area).answer
 }
 
 // The same in a loop of GN with these lists.
@@ -192,8 +179,7 @@ pub fn read_again(
         (get_levels cat.now (one.now ++ two.now)
         (list_read cat.now (one.now ++ two.now)).arguments) }
 {
-    let s = again(new(cat, tab, one, two, pos), area);
-    s.answer
+    Reader::new(cat, tab, one, two, pos).again(area).answer
 }
 
 // The same of GNP.
@@ -213,6 +199,5 @@ pub fn read_within(
         (get_levels cat.now (one.now ++ two.now)
         (list_read cat.now (one.now ++ two.now)).arguments) }
 {
-    let s = within(new(cat, tab, one, two, pos), area);
-    s.answer
+    Reader::new(cat, tab, one, two, pos).within(area).answer
 }

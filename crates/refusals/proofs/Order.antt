@@ -9,7 +9,9 @@ use borrow.Author.Tests.{le-leb, lt-leb, ne_eqb, eqb-true, eqb-false}
 use Rattle.terms.specs.declared.Position.{Position}
 use Rattle.terms.specs.declared.Status.{Status}
 use Rattle.terms.specs.declared.Status.TheVariants.{AD}
-use Rattle.terms.specs.Statuses.{number}
+use Rattle.std.specs.Prelude.{Ok, Err}
+use Rattle.terms.specs.Statuses.{number, verdict}
+use Rattle.terms.proofs.Verdict.{verdict-ok, verdict-err}
 use Rattle.forest.specs.Good.{is_nil, on, off, is}
 use Rattle.forest.specs.Forest.{inside, outside, side}
 use Rattle.rules.specs.Block.{Bytes}
@@ -18,7 +20,6 @@ use Rattle.rules.specs.Table.{cell_size}
 use Rattle.rules.specs.Arguments.{ListRead, list_read}
 use Rattle.rules.specs.Outcome.{misused}
 use Rattle.arguments.specs.Sound.{SoundList}
-use Rattle.answers.proofs.Statuses.{blank-is}
 use Rattle.arguments.proofs.Sound.{list-empty, list-filled}
 use Rattle.refusals.specs.Refusals.{too_short, misused_get, misused_insert, misused_held}
 
@@ -30,19 +31,19 @@ nil-length cat list s = elim (is (eqb (length list) 0)) [
 ]
 
 module _ (cat : Bytes) (pos : Position) (c : ℕ) (list area : Bytes) where
-  pub number-none : c ≡ 0 → AD ≡ misused cat pos c list area
+  pub number-none : c ≡ 0 → Err AD ≡ verdict (misused cat pos c list area)
   unfolding misused
   number-none e = rw e
 
-  pub number-above : 9 < c → AD ≡ misused cat pos c list area
+  pub number-above : 9 < c → Err AD ≡ verdict (misused cat pos c list area)
   unfolding misused
   number-above l = rw (le-leb 1 c (omega arith), lt-leb c 9 l)
 
-  pub list-faulty : (c ≡ 0 → ⊥) → c ≤ 9 → (f : Status) → f ≡ (list_read cat list).fault → (number f ≡ 0 → ⊥) → f ≡ misused cat pos c list area
+  pub list-faulty : (c ≡ 0 → ⊥) → c ≤ 9 → (f : Status) → verdict (list_read cat list).fault ≡ Err f → Err f ≡ verdict (misused cat pos c list area)
   unfolding misused
-  list-faulty n l f e z =
-      let y : (number (list_read cat list).fault ≡ 0) → ⊥ = λ q. z (ap number e ∙ q) in
-      rw (le-leb 1 c (omega arith), le-leb c 9 l, ne_eqb (number (list_read cat list).fault) 0 y) e
+  list-faulty n l f e =
+      let y = verdict-err (list_read cat list).fault e in
+      rw (le-leb 1 c (omega arith), le-leb c 9 l, ne_eqb (number (list_read cat list).fault) 0 y.0) (sym e)
 
   module _ (size : ℕ) (sized : size ≡ cell_size cat) (s : SoundList cat list) where
     pub get-misused : (c ≡ 0 → ⊥) → c < 7 → misused_get size pos c area ≡ misused cat pos c list area
@@ -74,5 +75,5 @@ unfolding cell_size
 sized-some cat size e = omega arith
 
 -- no fault was told
-pub sound-list : (cat list : Bytes) (f : Status) (n : ℕ) → good_catalogue cat ≡ true → f ≡ (list_read cat list).fault → n ≡ number f → n ≡ 0 → SoundList cat list
-sound-list cat list f n g e h z = record { catalogue = g; read = sym e ∙ blank-is f (sym h ∙ z) }
+pub sound-list : (cat list : Bytes) → good_catalogue cat ≡ true → {u : Unit {0}} → verdict (list_read cat list).fault ≡ Ok u → SoundList cat list
+sound-list cat list g e = record { catalogue = g; read = verdict-ok (list_read cat list).fault e }

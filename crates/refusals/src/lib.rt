@@ -2,52 +2,39 @@
 #![tactic(auto)]
 
 ghost use Rattle.std.specs.Prelude.{◌≡◌, true, ◌≤◌};
-ghost use Rattle.terms.specs.Moves.{is_absent};
+ghost use Rattle.terms.specs.Statuses.{verdict};
 ghost use Rattle.rules.specs.Catalogue.{good_catalogue};
 ghost use Rattle.rules.specs.Table.{cell_size};
-ghost use Rattle.rules.specs.Arguments.{is_qualified};
 ghost use Rattle.rules.specs.Outcome.{is_gnp, unsound, misused};
 ghost use Rattle.arguments.specs.Sound.{SoundList};
 ghost use Rattle.refusals.specs.Refusals.{too_short, misused_get, misused_insert, misused_held};
 
-use arguments::lookup::{is_qualified, last_of};
+use arguments::lookup::last_of;
 use arguments::read::fault;
 use cells::lookup::cell_size;
 use terms::{Parentage, Position, Status};
 
 // 20, 21, 22: the blocks and the position.
-pub fn unsound(cat: &[u8], tab: &[u8], pos: Position) -> Status
-    ensures { result ≡ unsound cat.now tab.now pos }
+pub fn unsound(cat: &[u8], tab: &[u8], pos: Position) -> Result<(), Status>
+    ensures { result ≡ verdict (unsound cat.now tab.now pos) }
 {
     if !catalogue_check::check::is_good(cat) {
-        return Status::CX;
+        return Err(Status::CX);
     }
     if !table_check::check::is_good_on(cat, tab) {
-        return Status::TX;
+        return Err(Status::TX);
     }
     if !position::is_good_on(cat, tab, cell_size(cat), pos) {
-        return Status::PX;
+        return Err(Status::PX);
     }
-    Status::Blank
-}
-
-fn is_absent(p: Parentage) -> bool
-    ensures { result ≡ is_absent p }
-{
-    match p {
-        Parentage::Absent => true,
-        Parentage::Of(_) => false,
-    }
+    Ok(())
 }
 
 // Whether the call is GNP or GHNP.
 fn is_gnp(number: u8) -> bool
     ensures { result ≡ is_gnp number }
 {
-    if number == 3 {
-        return true;
-    }
-    number == 6
+    number == 3 || number == 6
 }
 
 // AB (R56).
@@ -55,65 +42,67 @@ fn is_short(size: usize, number: u8, area: &[u8]) -> bool
     requires { 1 ≤ size }
     ensures { result ≡ too_short size number area.now }
 {
-    if number == 9 {
-        return false;
-    }
-    area.len() < size - 1
+    number != 9 && area.len() < size - 1
 }
 
 // Of a get: 28, 12.
-fn misused_get(size: usize, pos: Position, number: u8, area: &[u8]) -> Status
+fn misused_get(size: usize, pos: Position, number: u8, area: &[u8]) -> Result<(), Status>
     requires { 1 ≤ size }
-    ensures { result ≡ misused_get size pos number area.now }
+    ensures { result ≡ verdict (misused_get size pos number area.now) }
 {
-    let parentage = pos.parentage;
     if is_short(size, number, area) {
-        return Status::AB;
+        return Err(Status::AB);
     }
-    if !is_gnp(number) {
-        return Status::Blank;
+    if is_gnp(number) && pos.parentage.is_none() {
+        return Err(Status::GP);
     }
-    if is_absent(parentage) {
-        return Status::GP;
-    }
-    Status::Blank
+    Ok(())
 }
 
 // Of ISRT: 27, the other AJ, 28.
-fn misused_insert(cat: &[u8], size: usize, number: u8, list: &[u8], area: &[u8]) -> Status
+fn misused_insert(
+    cat: &[u8],
+    size: usize,
+    number: u8,
+    list: &[u8],
+    area: &[u8],
+) -> Result<(), Status>
     requires { (1 ≤ size) × SoundList cat.now list.now }
-    ensures { result ≡ misused_insert cat.now size number list.now area.now }
+    ensures { result ≡ verdict (misused_insert cat.now size number list.now area.now) }
 {
-    if list.len() == 0 {
-        return Status::AH;
+    if list.is_empty() {
+        return Err(Status::AH);
     }
-    let last = last_of(cat, list);
-    let q = last.qualification;
-    if is_qualified(q) {
-        return Status::AJ;
+    if last_of(cat, list).qualification.is_some() {
+        return Err(Status::AJ);
     }
     if is_short(size, number, area) {
-        return Status::AB;
+        return Err(Status::AB);
     }
-    Status::Blank
+    Ok(())
 }
 
 // Of REPL and DLET: the other AJ, 28, 29.
-fn misused_held(size: usize, pos: Position, number: u8, list: &[u8], area: &[u8]) -> Status
+fn misused_held(
+    size: usize,
+    pos: Position,
+    number: u8,
+    list: &[u8],
+    area: &[u8],
+) -> Result<(), Status>
     requires { 1 ≤ size }
-    ensures { result ≡ misused_held size pos number list.now area.now }
+    ensures { result ≡ verdict (misused_held size pos number list.now area.now) }
 {
-    let hold = pos.hold;
-    if list.len() != 0 {
-        return Status::AJ;
+    if !list.is_empty() {
+        return Err(Status::AJ);
     }
     if is_short(size, number, area) {
-        return Status::AB;
+        return Err(Status::AB);
     }
-    if !hold {
-        return Status::DJ;
+    if !pos.hold {
+        return Err(Status::DJ);
     }
-    Status::Blank
+    Ok(())
 }
 
 // 23, list faults, and then what the call of this number looks at.
@@ -124,20 +113,14 @@ pub fn misused_sound(
     number: u8,
     list: &[u8],
     area: &[u8],
-) -> Status
+) -> Result<(), Status>
     requires { (size ≡ cell_size cat.now) × (good_catalogue cat.now ≡ true) }
-    ensures { result ≡ misused cat.now pos number list.now area.now }
+    ensures { result ≡ verdict (misused cat.now pos number list.now area.now) }
 {
-    if number == 0 {
-        return Status::AD;
+    if number == 0 || 9 < number {
+        return Err(Status::AD);
     }
-    if 9 < number {
-        return Status::AD;
-    }
-    let f = fault(cat, list);
-    if terms::statuses::number(f) != 0 {
-        return f;
-    }
+    fault(cat, list)?;
     if number < 7 {
         return misused_get(size, pos, number, area);
     }

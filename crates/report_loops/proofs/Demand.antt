@@ -1,7 +1,7 @@
 -- The promise meets demand 3. Assumes nothing.
+use Rattle.std.specs.Prelude.{Some}
 use mathlib.Core.Path.{◌≡◌, refl, ap, ◌∙◌}
 use mathlib.Core.Bool.{Bool, true, false}
-use mathlib.Core.Option.{some}
 use mathlib.Core.List.{List, [], ◌∷◌, ◌++◌, map}
 use Prim.Native.Nat.{ℕ, suc, ◌-◌, ◌<◌, ◌≤◌}
 use native.Mathlib.Omega.{arith}
@@ -90,7 +90,7 @@ module _ (cat tab area : Bytes) where
         let r = scanned k l (start tab area) (start-fit cat tab A.catalogue A.table area A.long) (omega arith) in
         record { shows = r.seen ∙ ap (map (seen_at cat tab)) (hits-picked list A); ends = r.last }
 
-    single-ends : (pos : Position) → good_position cat (listing cat tab) pos ≡ true → (loop (promised cat 2 list) (suc (count tab)) (record { table = tab; position = pos; area = area })).last ≡ some (no_more list)
+    single-ends : (pos : Position) → good_position cat (listing cat tab) pos ≡ true → (loop (promised cat 2 list) (suc (count tab)) (record { table = tab; position = pos; area = area })).last ≡ Some (no_more list)
     single-ends pos p =
         (scanned (suc (count tab)) (omega arith) (record { table = tab; position = pos; area = area }) (record { table = refl; position = p; area = A.long }) (good-within cat (listing cat tab) pos p)).last
 
@@ -138,7 +138,7 @@ pub demand3 : Demand3 outcome
 demand3 = record {
   agree = λ cat tab one two area A C k l. let s = single-reports cat tab area (one ++ two) A k l in (
     nested-reports cat tab area one two A C k l,
-    record { shows = s.shows; ends = s.ends ∙ ap some (more-missed (one ++ two) (joined-some one two C.first)) },
+    record { shows = s.shows; ends = s.ends ∙ ap Some (more-missed (one ++ two) (joined-some one two C.first)) },
     picked-ascends cat tab (one ++ two),
   );
   read = λ cat tab list area A k l. single-reports cat tab area list A k l;

@@ -1,8 +1,8 @@
 -- The gets of the promise, on sound input: each seeks the first match after the place, GN before the end of the cells, GNP before the end of the
 -- parentage's run; it shows the cell it finds, and moves onto it. Assumes nothing.
+use Rattle.std.specs.Prelude.{Some, None}
 use mathlib.Core.Path.{◌≡◌, refl, ap, ◌∙◌}
 use mathlib.Core.Bool.{Bool, true, false, ◌&&◌, not}
-use mathlib.Core.Option.{none}
 use mathlib.Core.List.{List, [], ◌∷◌}
 use Prim.Native.Nat.{ℕ, zero, suc, ◌+◌, ◌-◌, ◌<◌, ◌≤◌}
 use native.Mathlib.Omega.{arith}
@@ -12,14 +12,11 @@ use lib.Seq.{take_at}
 use borrow.Author.Tests.{lt-ltb, le-ltb, le-leb, ltb-true, leb-true}
 use Rattle.terms.specs.declared.Place.{Place}
 use Rattle.terms.specs.declared.Place.TheVariants.{On, Before}
-use Rattle.terms.specs.declared.Parentage.{Parentage}
-use Rattle.terms.specs.declared.Parentage.TheVariants.{Of}
 use Rattle.terms.specs.declared.Position.{Position}
 use Rattle.terms.specs.declared.Status.{Status}
 use Rattle.terms.specs.declared.Status.TheVariants.{Blank, GA, GK, GE}
-use Rattle.terms.specs.declared.Found.TheVariants.{At, Nothing}
 use Rattle.terms.specs.Choice.{pick}
-use Rattle.terms.specs.Names.{cell, same_type}
+use Rattle.terms.specs.Names.{cell, same_type, Parentage}
 use Rattle.terms.specs.Statuses.{number}
 use Rattle.terms.specs.Moves.{after_place, moved_onto}
 use Rattle.forest.specs.Good.{both_left}
@@ -46,22 +43,22 @@ use Rattle.report_loops.proofs.Scan.{after, Seeks}
 
 -- the search of the rules
 module _ (cat : Bytes) (cs : List Segment) (ls : List Level) where
-  seek-nothing : (k i : ℕ) → Without (matches cat cs ls) i (i + k) → seek cat cs ls i k ≡ Nothing
+  seek-nothing : (k i : ℕ) → Without (matches cat cs ls) i (i + k) → seek cat cs ls i k ≡ None
   seek-nothing zero i h = seek-none cat cs ls i
   seek-nothing (suc k) i h =
       let z : suc k - 1 ≡ k = omega arith in
       seek-next cat cs ls i (suc k) (omega arith) (h i (omega arith) (omega arith)) ∙ ap (seek cat cs ls (suc i)) z ∙ seek-nothing k (suc i) (λ m a b. h m (omega arith) (omega arith))
 
-  seek-at : (d i j k : ℕ) → i + d ≡ j → j < i + k → matches cat cs ls j ≡ true → Without (matches cat cs ls) i j → seek cat cs ls i k ≡ At (cell j)
+  seek-at : (d i j k : ℕ) → i + d ≡ j → j < i + k → matches cat cs ls j ≡ true → Without (matches cat cs ls) i j → seek cat cs ls i k ≡ Some (cell j)
   seek-at zero i j k q l s h = let z : i ≡ j = omega arith in rw (← z) (seek-here cat cs ls i k (omega arith) (rw z s))
   seek-at (suc d) i j k q l s h =
       seek-next cat cs ls i k (omega arith) (h i (omega arith) (omega arith)) ∙ seek-at d (suc i) j (k - 1) (omega arith) (omega arith) s (λ m a b. h m (omega arith) b)
 
-  pub first-nothing : (i e : ℕ) → Without (matches cat cs ls) i e → first_match cat cs ls i e ≡ Nothing
+  pub first-nothing : (i e : ℕ) → Without (matches cat cs ls) i e → first_match cat cs ls i e ≡ None
   unfolding first_match
   first-nothing i e h = seek-nothing (e - i) i (λ m a b. h m a (omega arith))
 
-  pub first-at : (i j e : ℕ) → i ≤ j → j < e → matches cat cs ls j ≡ true → Without (matches cat cs ls) i j → first_match cat cs ls i e ≡ At (cell j)
+  pub first-at : (i j e : ℕ) → i ≤ j → j < e → matches cat cs ls j ≡ true → Without (matches cat cs ls) i j → first_match cat cs ls i e ≡ Some (cell j)
   unfolding first_match
   first-at i j e a b s h = seek-at (j - i) i j (e - i) (omega arith) (omega arith) s h
 
@@ -83,7 +80,7 @@ miss-late (l ∷ ls) = refl
 
 module _ (cat : Bytes) (cs : List Segment) where
   -- a get that moved onto a cell in the run of its parentage leaves a good position
-  pub moved-good : (p j : ℕ) → p ≤ j → j < end_at cat cs p → j < length cs → good_position cat cs (moved_onto j (Of (cell p)) false) ≡ true
+  pub moved-good : (p j : ℕ) → p ≤ j → j < end_at cat cs p → j < length cs → good_position cat cs (moved_onto j (Some (cell p)) false) ≡ true
   unfolding good_position
   moved-good p j a b l = rw (lt-ltb j (length cs) l, row-run cat cs p j l, le-leb p j a, lt-ltb j (end_at cat cs p) b)
 
@@ -103,7 +100,7 @@ module _ (cat tab : Bytes) (pos : Position) (list area : Bytes) (g : good_catalo
   unfolding outcome outcome_of after_call unless unsound after_sound misused called
   gn-is = simp (g, h, p, f, l)
 
-  gnp-is : (q : ℕ) → pos.parentage ≡ Of (cell q) → outcome cat tab pos 3 list area ≡ landed cat tab (get_next_within cat (listing cat tab) pos area false (get_levels cat list (list_read cat list).arguments))
+  gnp-is : (q : ℕ) → pos.parentage ≡ Some (cell q) → outcome cat tab pos 3 list area ≡ landed cat tab (get_next_within cat (listing cat tab) pos area false (get_levels cat list (list_read cat list).arguments))
   unfolding outcome outcome_of after_call unless unsound after_sound misused called
   gnp-is q e = simp (g, h, p, f, l, e)
 
@@ -128,7 +125,7 @@ module _ (cat tab : Bytes) (g : good_catalogue cat ≡ true) (h : good_table cat
   -- .. and what GNP needs besides: the parentage p, before the place
   pub record Under (p : ℕ) (s : State) : Type 0 where
     pub fit : Fit s
-    pub parentage : s.position.parentage ≡ Of (cell p)
+    pub parentage : s.position.parentage ≡ Some (cell p)
     pub later : p < after s
 
   pub start-fit : (area : Bytes) → cell_size cat ≤ suc (length area) → Fit (start tab area)
@@ -143,7 +140,7 @@ module _ (cat tab : Bytes) (g : good_catalogue cat ≡ true) (h : good_table cat
     got status q j = landed cat tab (record {
       answer = answer_of cat status (moved_onto j q false) (segment cs j) 0;
       change = nothing;
-      cells = none;
+      cells = None;
       area = over (shown_bytes cat (segment cs j)) area;
     })
 
@@ -153,7 +150,7 @@ module _ (cat tab : Bytes) (g : good_catalogue cat ≡ true) (h : good_table cat
     area-kept : (b : Bytes) → cell_size cat ≤ suc (length (over b area))
     area-kept b = rw (length-append b (drop (length b) area), length-drop (length b) area) (omega arith)
 
-    got-fit : (status : Status) (p j : ℕ) → p ≤ j → j < end_at cat cs p → j < length cs → Fit (handed_on (got status (Of (cell p)) j))
+    got-fit : (status : Status) (p j : ℕ) → p ≤ j → j < end_at cat cs p → j < length cs → Fit (handed_on (got status (Some (cell p)) j))
     unfolding answer_of
     got-fit status p j a b m = record { table = refl; position = moved-good cat cs p j a b m; area = area-kept (shown_bytes cat (segment cs j)) }
 
@@ -185,11 +182,11 @@ module _ (cat tab : Bytes) (g : good_catalogue cat ≡ true) (h : good_table cat
       gn-gone n = gn-call ∙ rw (first-nothing cat cs levels (after s) (length cs) n)
 
       gn-got : (j : ℕ) → after s ≤ j → j < length cs → test j ≡ true → Without test (after s) j
-          → promised cat 2 list s ≡ got pos s.area F.area (level_status cat cs levels pos.place j) (Of (cell j)) j
+          → promised cat 2 list s ≡ got pos s.area F.area (level_status cat cs levels pos.place j) (Some (cell j)) j
       unfolding get_next
       gn-got j a b t n = gn-call ∙ rw (first-at cat cs levels (after s) j (length cs) a b t n)
 
-      module _ (p : ℕ) (e : pos.parentage ≡ Of (cell p)) where
+      module _ (p : ℕ) (e : pos.parentage ≡ Some (cell p)) where
         gnp-call : promised cat 3 list s ≡ landed cat tab (get_next_within cat cs pos s.area false levels)
         gnp-call = ap (λ (t : Bytes). outcome cat t pos 3 list s.area) F.table ∙ gnp-is cat tab pos list s.area g h F.position f (short s.area F.area) p e
 
@@ -198,7 +195,7 @@ module _ (cat tab : Bytes) (g : good_catalogue cat ≡ true) (h : good_table cat
         gnp-gone n = gnp-call ∙ rw (e, first-nothing cat cs levels (after s) (end_at cat cs p) n)
 
         gnp-got : (j : ℕ) → after s ≤ j → j < end_at cat cs p → test j ≡ true → Without test (after s) j
-            → promised cat 3 list s ≡ got pos s.area F.area (level_status cat cs levels pos.place j) (Of (cell p)) j
+            → promised cat 3 list s ≡ got pos s.area F.area (level_status cat cs levels pos.place j) (Some (cell p)) j
         unfolding get_next_within
         gnp-got j a b t n = gnp-call ∙ rw (e, first-at cat cs levels (after s) j (end_at cat cs p) a b t n)
 
@@ -214,7 +211,7 @@ module _ (cat tab : Bytes) (g : good_catalogue cat ≡ true) (h : good_table cat
       });
       one = λ s j F a b t n. rw (gn-got s F j a b t n) (record {
         goes_on = level-early cat cs levels s.position.place j;
-        shows = got-sight s.position s.area F.area (level_status cat cs levels s.position.place j) (Of (cell j)) j b;
+        shows = got-sight s.position s.area F.area (level_status cat cs levels s.position.place j) (Some (cell j)) j b;
         moves = refl;
         fit = record { fit = got-fit s.position s.area F.area (level_status cat cs levels s.position.place j) j j (omega arith) (end_after cat cs j) b; parentage = refl; later = omega arith };
       });
@@ -232,7 +229,7 @@ module _ (cat tab : Bytes) (g : good_catalogue cat ≡ true) (h : good_table cat
       });
       one = λ s j U a b t n. let l : j < length cs = omega (arith, end-within cat cs p m) in rw (gnp-got s U.fit p U.parentage j a b t n) (record {
         goes_on = level-early cat cs levels s.position.place j;
-        shows = got-sight s.position s.area U.fit.area (level_status cat cs levels s.position.place j) (Of (cell p)) j l;
+        shows = got-sight s.position s.area U.fit.area (level_status cat cs levels s.position.place j) (Some (cell p)) j l;
         moves = refl;
         fit = record { fit = got-fit s.position s.area U.fit.area (level_status cat cs levels s.position.place j) p j (omega (arith, U.later)) b l; parentage = refl; later = omega (arith, U.later) };
       });

@@ -1,7 +1,7 @@
 -- Law B: a loop of gets, with a loop of gets within the run under each cell found, shows what one loop with the joined test shows. Assumes nothing.
+use Rattle.std.specs.Prelude.{Some}
 use mathlib.Core.Path.{◌≡◌, refl, ap, sym, ◌∙◌}
 use mathlib.Core.Bool.{Bool, true, false}
-use mathlib.Core.Option.{some}
 use mathlib.Core.List.{List, ◌++◌, map, map-append}
 use Prim.Native.Nat.{ℕ, zero, suc, ◌-◌, ◌<◌, ◌≤◌}
 use native.Mathlib.Omega.{arith}
@@ -31,7 +31,7 @@ module _ (get₁ get₂ : State → Outcome) (m k : ℕ) (s : State) where
   unfolding nested_loop
   nested-last e = rw (nested_loop, e)
 
-  nested-on : is_last (get₁ s) ≡ false → (loop get₂ m (handed_on (get₁ s))).last ≡ some GE
+  nested-on : is_last (get₁ s) ≡ false → (loop get₂ m (handed_on (get₁ s))).last ≡ Some GE
       → nested_loop get₁ get₂ m (suc k) s ≡ behind (loop get₂ m (handed_on (get₁ s))).seen (nested_loop get₁ get₂ m k (loop get₂ m (handed_on (get₁ s))).handed)
   unfolding nested_loop
   nested-on e f = rw (nested_loop, e, f)
@@ -83,13 +83,13 @@ module _ (n : ℕ) (end : ℕ → ℕ) (outer inner joined : ℕ → Bool) (N : 
       (S₁ : Seeks see Fit Under outer n GE get₁) (S₂ : (p : ℕ) → p < n → Seeks see (Under p) (λ j. Under p) inner (end p) GE get₂)
       (again : (p : ℕ) (s : State) → Under p s → Fit s) (m : ℕ) (enough : n < m) where
     nested-from : (k e : ℕ) (s : State) → Fit s → after s ≤ e → e ≤ n → Without outer (after s) e → Closed e → n - e < k
-        → ((nested_loop get₁ get₂ m k s).seen ≡ map see (hits joined e n)) × ((nested_loop get₁ get₂ m k s).last ≡ some GE)
+        → ((nested_loop get₁ get₂ m k s).seen ≡ map see (hits joined e n)) × ((nested_loop get₁ get₂ m k s).last ≡ Some GE)
     nested-from zero e s f a b h w l = absurd (omega arith)
     nested-from (suc k) e s f a b h w l = elim (first outer e n) [
       | nothing g ↦
           let o = S₁.none s f (λ q x y. elim (side q e) [ inside z ↦ h q x z | outside z ↦ g q z y ]) in
           rw (nested-last get₁ get₂ m k s o.ends)
-          (sym (ap (map see) (hits-none joined e n (λ j y z. none-joined e n w g j z y (omega arith)))), ap some o.status)
+          (sym (ap (map see) (hits-none joined e n (λ j y z. none-joined e n w g j z y (omega arith)))), ap Some o.status)
       | found i u v t g ↦
           let o = S₁.one s i f (omega arith) v t (λ q x y. elim (side q e) [ inside z ↦ h q x z | outside z ↦ g q z y ]) in
           let a₁ : i < end i = N.later i v in
@@ -109,5 +109,5 @@ module _ (n : ℕ) (end : ℕ → ℕ) (outer inner joined : ℕ → Bool) (N : 
 
     -- LAW B: from the first cell on, with more calls allowed than there are cells
     pub nested-seeks : (k : ℕ) (s : State) → Fit s → after s ≡ 0 → n < k
-        → ((nested_loop get₁ get₂ m k s).seen ≡ map see (hits joined 0 n)) × ((nested_loop get₁ get₂ m k s).last ≡ some GE)
+        → ((nested_loop get₁ get₂ m k s).seen ≡ map see (hits joined 0 n)) × ((nested_loop get₁ get₂ m k s).last ≡ Some GE)
     nested-seeks k s f a l = nested-from k 0 s f (omega arith) (omega arith) (λ q x y. absurd (omega arith)) (λ p x y. absurd (omega arith)) (omega arith)

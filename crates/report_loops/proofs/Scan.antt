@@ -1,8 +1,8 @@
 -- Law A: a loop of gets, each of which seeks the first cell after the place that passes a test, shows exactly the cells that pass, in their order.
 -- Assumes nothing.
+use Rattle.std.specs.Prelude.{Some}
 use mathlib.Core.Path.{◌≡◌, ap, sym, ◌∙◌}
 use mathlib.Core.Bool.{Bool, true, false}
-use mathlib.Core.Option.{some}
 use mathlib.Core.List.{[], ◌∷◌, map}
 use Prim.Native.Nat.{ℕ, zero, suc, ◌-◌, ◌<◌, ◌≤◌}
 use native.Mathlib.Omega.{arith}
@@ -39,7 +39,7 @@ pub record Seeks (see : ℕ → Seen) (Fit : State → Type 0) (Then : ℕ → S
 -- what a loop from s on has done
 pub record Done (see : ℕ → Seen) (Fit : State → Type 0) (t : ℕ → Bool) (e : ℕ) (miss : Status) (s : State) (r : Shown) : Type 0 where
   pub seen : r.seen ≡ map see (hits t (after s) e)
-  pub last : r.last ≡ some miss
+  pub last : r.last ≡ Some miss
   pub fit : Fit r.handed
   pub on : miss ≡ GE → after s ≤ after r.handed
   pub within : miss ≡ GE → after r.handed ≤ e
@@ -65,7 +65,7 @@ module _ (see : ℕ → Seen) (Fit : State → Type 0) (Then : ℕ → State →
         rw (loop-last get k s m.ends)
         (record {
           seen = sym (ap (map see) (hits-none t (after s) e g));
-          last = ap some m.status;
+          last = ap Some m.status;
           fit = m.fit;
           on = λ q. omega (arith, m.stays q);
           within = λ q. omega (arith, m.stays q);

@@ -1,5 +1,6 @@
 -- Stores that do not meet demand 3, each refuted on the bench table: one that gets one segment and from then on answers GE, one whose GNP goes on
 -- beneath the next parent. Assumes nothing.
+use Rattle.terms.specs.Names.{Parentage}
 use mathlib.Core.Path.{◌≡◌, refl, ap}
 use mathlib.Core.Bool.{true, false}
 use mathlib.Core.List.{[], ◌∷◌, ◌++◌}
@@ -8,7 +9,6 @@ use native.Mathlib.Omega.{arith}
 use lib.Dec.{eqb}
 use lib.ListN.{length}
 use Rattle.terms.specs.declared.Place.TheVariants.{On, Before}
-use Rattle.terms.specs.declared.Parentage.{Parentage}
 use Rattle.terms.specs.declared.Status.TheVariants.{GE}
 use Rattle.rules.specs.Block.{Bytes}
 use Rattle.rules.specs.Calls.{missed}

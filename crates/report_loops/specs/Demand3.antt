@@ -6,8 +6,7 @@
 -- And R66: when a loop of get-next has come to its end.
 --
 -- Assumes nothing: this is the statement; the proof is in proofs/.
-use Rattle.std.specs.Prelude.{◌≡◌, true, List, [], ◌∷◌, ◌++◌, map, ℕ, suc, ◌<◌, ◌≤◌, length}
-use Rattle.std.proofs.Math.Option.{some}
+use Rattle.std.specs.Prelude.{◌≡◌, true, List, [], ◌∷◌, ◌++◌, map, ℕ, suc, ◌<◌, ◌≤◌, length, Some}
 use Rattle.terms.specs.declared.Position.{Position}
 use Rattle.terms.specs.declared.Status.{Status}
 use Rattle.terms.specs.declared.Status.TheVariants.{Blank, GB, GE}
@@ -40,7 +39,7 @@ module _ (cat tab : Bytes) where
   -- a report has shown these cells, and ended with this status
   pub record Reports (shown : Shown) (cells : List ℕ) (status : Status) : Type 0 where
     pub shows : shown.seen ≡ map seen_at cells
-    pub ends : shown.last ≡ some status
+    pub ends : shown.last ≡ Some status
 
 -- each number is greater than those before it: none stands twice
 abbrev pub AllAbove : ℕ → List ℕ → Type 0
@@ -81,4 +80,4 @@ pub record Demand3 (store : Store) : Type 0 where
       → Reports cat tab (single (calling store cat) tab area k list) (picked cat tab list) (no_more list)
   -- from any good position, call n + 1 is the last
   pub end : (cat tab list area : Bytes) (pos : Position) → Accepted cat tab list area → good_position cat (listing cat tab) pos ≡ true
-      → (loop (calling store cat 2 list) (suc (count tab)) (record { table = tab; position = pos; area = area })).last ≡ some (no_more list)
+      → (loop (calling store cat 2 list) (suc (count tab)) (record { table = tab; position = pos; area = area })).last ≡ Some (no_more list)

@@ -1,6 +1,5 @@
 -- Loops of gets: each call takes up the table, the position and the area that the call before it left. Assumes nothing: these are definitions.
-use Rattle.std.specs.Prelude.{Bool, true, false, List, [], ◌∷◌, ◌++◌, ℕ, zero, suc, leb, eqb, take}
-use Rattle.std.proofs.Math.Option.{Option, none, some}
+use Rattle.std.specs.Prelude.{Bool, true, false, List, [], ◌∷◌, ◌++◌, ℕ, zero, suc, leb, eqb, take, None, Some, Option}
 use Rattle.terms.specs.declared.Position.{Position}
 use Rattle.terms.specs.declared.Status.{Status}
 use Rattle.terms.specs.declared.Status.TheVariants.{GE}
@@ -49,17 +48,17 @@ pub record Shown : Type 0 where
   pub handed : State
 
 abbrev pub ended : Outcome → Shown
-ended o = record { seen = []; last = some o.answer.status; handed = handed_on o }
+ended o = record { seen = []; last = Some o.answer.status; handed = handed_on o }
 
 abbrev pub out_of_calls : State → Shown
-out_of_calls s = record { seen = []; last = none; handed = s }
+out_of_calls s = record { seen = []; last = None; handed = s }
 
 abbrev pub behind : List Seen → Shown → Shown
 behind xs r = record { seen = xs ++ r.seen; last = r.last; handed = r.handed }
 
 abbrev pub is_ge : Option Status → Bool
-is_ge none = false
-is_ge (some s) = eqb (number s) (number GE)
+is_ge None = false
+is_ge (Some s) = eqb (number s) (number GE)
 
 -- get, and get again, until a status ends it: at most k calls
 unfoldable pub loop : (State → Outcome) → ℕ → State → Shown

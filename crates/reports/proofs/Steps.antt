@@ -1,5 +1,6 @@
 -- One get of a loop, as the reader promises it: it finds the first of the cells that match, or none is left; and the positions that the loops make are
 -- good. Assumes nothing.
+use Rattle.std.specs.Prelude.{Some}
 use mathlib.Core.Path.{◌≡◌, refl, ap, sym, ◌∙◌}
 use mathlib.Core.Bool.{Bool, true, false}
 use mathlib.Core.List.{List}
@@ -9,7 +10,6 @@ use lib.Dec.{ltb}
 use lib.ListN.{length}
 use borrow.Author.Tests.{le-leb, lt-leb, le-ltb}
 use Rattle.terms.specs.declared.CellNumber.{CellNumber}
-use Rattle.terms.specs.declared.Parentage.TheVariants.{Of}
 use Rattle.terms.specs.declared.Position.{Position}
 use Rattle.terms.specs.declared.Status.{Status}
 use Rattle.terms.specs.declared.Status.TheVariants.{GE}
@@ -42,7 +42,7 @@ pub record Stands (cat tab : Bytes) (pos : Position) (area : Bytes) : Type 0 whe
   pub long : cell_size cat ≤ suc (length area)
 
 -- a loop of GN goes on from a cell that its list matches
-pub again-cell : (cat tab list : Bytes) (c : CellNumber) → test cat tab list c.0 ≡ true → Again cat tab list (moved_onto c.0 (Of c) false)
+pub again-cell : (cat tab list : Bytes) (c : CellNumber) → test cat tab list c.0 ≡ true → Again cat tab list (moved_onto c.0 (Some c) false)
 again-cell cat tab list c h l = let z : suc c.0 - 1 ≡ c.0 = omega arith in rw z h
 
 -- c is the first cell from `at` on and before e that passes
@@ -86,13 +86,13 @@ module _ {cat tab list : Bytes} (g : Given cat tab list (byte tab 5)) where
 
   -- on a cell of p's run, with parentage p
   pub stands-under : (p c : CellNumber) (area : Bytes) → p.0 < count tab → p.0 ≤ c.0 → c.0 < end_at cat cs p.0 → length area ≡ 120
-      → Stands cat tab (moved_onto c.0 (Of p) false) area
+      → Stands cat tab (moved_onto c.0 (Some p) false) area
   stands-under p c area l a b m =
       let n : c.0 < length cs = omega (arith, end-within cat cs p.0 (omega (arith, listing-length cat tab))) in
-      stands-long (moved_onto c.0 (Of p) false) area (moved-good cat cs p.0 c.0 a b n) m
+      stands-long (moved_onto c.0 (Some p) false) area (moved-good cat cs p.0 c.0 a b n) m
 
   -- on a cell that get-next found, which is the parentage now
-  pub stands_on : (c : CellNumber) (area : Bytes) → c.0 < length cs → length area ≡ 120 → Stands cat tab (moved_onto c.0 (Of c) false) area
+  pub stands_on : (c : CellNumber) (area : Bytes) → c.0 < length cs → length area ≡ 120 → Stands cat tab (moved_onto c.0 (Some c) false) area
   stands_on c area l m = stands-under c c area (omega (arith, listing-length cat tab)) (omega arith) (end_after cat cs c.0) m
 
   module _ {pos : Position} {area : Bytes} (w : Stands cat tab pos area) where
@@ -119,7 +119,7 @@ module _ {cat tab list : Bytes} (g : Given cat tab list (byte tab 5)) where
     unfolding outcome outcome_of after_call unless unsound after_sound misused called
     next-call = simp (g.sound.catalogue, g.sound.table, w.good, g.read, enough)
 
-    within-call : (p : CellNumber) → pos.parentage ≡ Of p → promised cat 3 list s ≡ landed cat tab (get_next_within cat cs pos area false ls)
+    within-call : (p : CellNumber) → pos.parentage ≡ Some p → promised cat 3 list s ≡ landed cat tab (get_next_within cat cs pos area false ls)
     unfolding outcome outcome_of after_call unless unsound after_sound misused called
     within-call p e = simp (g.sound.catalogue, g.sound.table, w.good, g.read, enough, e)
 
@@ -155,7 +155,7 @@ module _ {cat tab list : Bytes} (g : Given cat tab list (byte tab 5)) where
         next_one l = moved (length cs) (omega arith) (sought-one cat tab next-seeks fit next-made (goes_on l))
 
       -- LAW: GNP seeks up to the end of the parentage's run
-      module _ (e : left r next ≡ get_next_within cat cs pos area false ls) (p : CellNumber) (x : pos.parentage ≡ Of p) where
+      module _ (e : left r next ≡ get_next_within cat cs pos area false ls) (p : CellNumber) (x : pos.parentage ≡ Some p) where
         among : p.0 < length cs
         among = omega (arith, parent_in cat tab pos w.good p x, listing-length cat tab)
 

@@ -22,7 +22,8 @@ pub record Passed (cat tab list : Bytes) (before : Bytes) (k i : ℕ) (out : Byt
   pub inside : i ≤ count tab
   pub fewer : k ≤ i
   pub left : k + length (hits (meets cat list (listing cat tab) (list_read cat list).arguments) i (count tab)) ≡ length (picked cat tab list)
-  pub shown : shown_from k (hits (meets cat list (listing cat tab) (list_read cat list).arguments) i (count tab)) out ≡ shown_from 0 (picked cat tab list) before
+  pub shown : shown_from k (hits (meets cat list (listing cat tab) (list_read cat list).arguments) i (count tab)) out
+      ≡ shown_from 0 (picked cat tab list) before
   pub room : length out ≡ length before
 
 module _ {cat tab list : Bytes} {size : ℕ} (g : Given cat tab list size) where

@@ -1,5 +1,5 @@
 -- A report as a whole: refused, without room, or shown. Assumes nothing.
-use mathlib.Core.Path.{◌≡◌, refl, ap, sym, ◌∙◌}
+use mathlib.Core.Path.{◌≡◌, refl, ap, ◌∙◌}
 use mathlib.Core.Bool.{Bool, true, false, ◌||◌}
 use mathlib.Core.List.{List, [], ◌∷◌, ◌++◌}
 use Prim.Native.Nat.{ℕ, zero, suc, ◌*◌, ◌<◌, ◌≤◌}
@@ -9,7 +9,9 @@ use lib.ListN.{length, length-append}
 use borrow.Author.Tests.{eq-eqb, ne_eqb, lt-ltb, le-ltb, eqb-true}
 use Rattle.terms.specs.declared.Status.{Status}
 use Rattle.terms.specs.declared.Status.TheVariants.{Blank, AC, AB}
-use Rattle.terms.specs.Statuses.{number}
+use Rattle.std.specs.Prelude.{Ok, Err}
+use Rattle.terms.specs.Statuses.{number, verdict}
+use Rattle.terms.proofs.Verdict.{verdict-ok, verdict-err}
 use Rattle.forest.specs.Good.{on, off, is}
 use Rattle.forest.specs.Numbers.{range}
 use Rattle.rules.specs.Block.{Bytes, byte}
@@ -22,9 +24,8 @@ use Rattle.cells.proofs.Located.{good-sized, good-housed}
 use Rattle.answers.proofs.Statuses.{blank-is}
 use Rattle.report_loops.specs.Plain.{filter, meets, picked}
 use Rattle.arguments.proofs.Cut.{parts}
-use Rattle.reports.specs.declared.Report.{Report}
 use Rattle.reports.specs.Shown.{shown_from}
-use Rattle.reports.specs.Report.{reported, lists_fault, report_refusal, showing, report}
+use Rattle.reports.specs.Report.{told, reported, lists_fault, report_refusal, showing, report}
 use Rattle.reports.specs.Given.{GivenBoth}
 use Rattle.reports.proofs.Lists.{checked-good}
 use Rattle.reports.proofs.Written.{show-whole, show-empty}
@@ -44,30 +45,35 @@ filter-short t (x ∷ xs) = elim (is (t x)) [
 
 pub picked-few : (cat tab list : Bytes) → length (picked cat tab list) ≤ count tab
 unfolding picked
-picked-few cat tab list = omega (arith, filter-short (meets cat list (listing cat tab) (list_read cat list).arguments) (range 0 (count tab)), range-long (count tab) 0)
+picked-few cat tab list = omega (
+  arith,
+  filter-short (meets cat list (listing cat tab)
+      (list_read cat list).arguments) (range 0 (count tab)),
+  range-long (count tab) 0,
+)
 
 -- these cells, with room for all of them or without
 module _ (cells : List ℕ) (out : Bytes) where
-  pub shows-short : (r : Report) → r ≡ record { status = AB; hits = 0 } → (all : ℕ) → all ≡ length cells → length out < 2 * all → reported r out ≡ showing cells out
+  pub shows-short : {all : ℕ} → all ≡ length cells → length out < 2 * all → reported (told (Err AB)) out ≡ showing cells out
   unfolding showing
-  shows-short r q all h l = rw (q, lt-ltb (length out) (2 * length cells) (omega arith))
+  shows-short h l = rw (lt-ltb (length out) (2 * length cells) (omega arith))
 
-  pub shows-all : (next : Bytes) (all : ℕ) (r : Report) → r ≡ record { status = Blank; hits = all } → all ≡ length cells → next ≡ shown_from 0 cells out → 2 * length cells ≤ length out
-      → reported r next ≡ showing cells out
+  pub shows-all : {next : Bytes} {all : ℕ} → all ≡ length cells → next ≡ shown_from 0 cells out → 2 * length cells ≤ length out
+      → reported (told (Ok all)) next ≡ showing cells out
   unfolding showing
-  shows-all next all r q h w l = rw (q, h, w, show-whole cells out l, le-ltb (length out) (2 * length cells) l)
+  shows-all h w l = rw (h, w, show-whole cells out l, le-ltb (length out) (2 * length cells) l)
 
   -- the same behind a count, which had no room to write to
-  module _ (empty : Bytes) (e : empty ≡ shown_from 0 cells []) where
+  module _ {empty : Bytes} (e : empty ≡ shown_from 0 cells []) where
     untouched : empty ++ out ≡ out
     untouched = ap (λ (t : Bytes). t ++ out) (e ∙ show-empty 0 cells [] refl)
 
-    pub counted-short : (r : Report) → r ≡ record { status = AB; hits = 0 } → (all : ℕ) → all ≡ length cells → length (empty ++ out) < 2 * all → reported r (empty ++ out) ≡ showing cells out
-    counted-short r q all h l = ap (reported r) untouched ∙ shows-short r q all h (let y = ap length untouched in omega arith)
+    pub counted-short : {all : ℕ} → all ≡ length cells → length (empty ++ out) < 2 * all → reported (told (Err AB)) (empty ++ out) ≡ showing cells out
+    counted-short h l = ap (reported (told (Err AB))) untouched ∙ shows-short h (let y = ap length untouched in omega arith)
 
-    pub counted-all : (next : Bytes) (all : ℕ) (r : Report) → r ≡ record { status = Blank; hits = all } → all ≡ length cells → next ≡ shown_from 0 cells (empty ++ out)
-        → (few : ℕ) → few ≡ length cells → 2 * few ≤ length (empty ++ out) → reported r next ≡ showing cells out
-    counted-all next all r q h w few f l = shows-all next all r q h (w ∙ ap (shown_from 0 cells) untouched) (let y = ap length untouched in omega arith)
+    pub counted-all : {next : Bytes} {all : ℕ} → all ≡ length cells → next ≡ shown_from 0 cells (empty ++ out)
+        → {few : ℕ} → few ≡ length cells → 2 * few ≤ length (empty ++ out) → reported (told (Ok all)) next ≡ showing cells out
+    counted-all h w f l = shows-all h (w ∙ ap (shown_from 0 cells) untouched) (let y = ap length untouched in omega arith)
 
 -- what is blank of the faults of two lists
 pub record Sounds (cat one two : Bytes) : Type 0 where
@@ -87,7 +93,8 @@ or-both false b e = (refl, e)
 lists-blank : (cat one two : Bytes) → number (lists_fault cat one two) ≡ 0 → Sounds cat one two
 unfolding lists_fault
 lists-blank cat one two h = elim (is (eqb (number (list_read cat one).fault) 0)) [
-  | off a ↦ absurd (let y : number (list_read cat one).fault ≡ 0 = rw a at h in let z = eq-eqb (number (list_read cat one).fault) 0 y in let w : ◌≡◌ {A = ℕ} 0 1 = cc in omega arith)
+  | off a ↦ absurd (let y : number (list_read cat one).fault ≡ 0 = rw a at h in
+      let z = eq-eqb (number (list_read cat one).fault) 0 y in let w : ◌≡◌ {A = ℕ} 0 1 = cc in omega arith)
   | on a ↦ elim (is (eqb (length one) 0 || eqb (length two) 0)) [
     | on b ↦ absurd (let y : number AC ≡ 0 = rw (a, b) at h in omega arith)
     | off b ↦
@@ -97,43 +104,44 @@ lists-blank cat one two h = elim (is (eqb (number (list_read cat one).fault) 0))
   ]
 ]
 
-refusal-blank : (cat tab one two : Bytes) → number (report_refusal cat tab one two) ≡ 0 → (eqb (number (check_table cat tab)) 0 ≡ true) × (number (lists_fault cat one two) ≡ 0)
+refusal-blank : (cat tab one two : Bytes) → number (report_refusal cat tab one two) ≡ 0
+    → (eqb (number (check_table cat tab)) 0 ≡ true) × (number (lists_fault cat one two) ≡ 0)
 unfolding report_refusal
 refusal-blank cat tab one two h = elim (is (eqb (number (check_table cat tab)) 0)) [
-  | off a ↦ absurd (let y : number (check_table cat tab) ≡ 0 = rw a at h in let z = eq-eqb (number (check_table cat tab)) 0 y in let w : ◌≡◌ {A = ℕ} 0 1 = cc in omega arith)
+  | off a ↦ absurd (let y : number (check_table cat tab) ≡ 0 = rw a at h in
+      let z = eq-eqb (number (check_table cat tab)) 0 y in let w : ◌≡◌ {A = ℕ} 0 1 = cc in omega arith)
   | on a ↦ (a, (rw a at h))
 ]
 
-module _ (cat tab one two : Bytes) (s : Status) (n : ℕ) (e : s ≡ report_refusal cat tab one two) (m : n ≡ number s) where
-  pub whole-refused : (out : Bytes) (r : Report) → r ≡ record { status = s; hits = 0 } → (n ≡ 0 → ⊥) → reported r out ≡ report cat tab one two out
+module _ (cat tab one two : Bytes) where
+  pub whole-refused : (out : Bytes) {s : Status} → verdict (report_refusal cat tab one two) ≡ Err s → reported (told (Err s)) out ≡ report cat tab one two out
   unfolding report
-  whole-refused out r q z = rw (q, ← e, ne_eqb (number s) 0 (λ y. z (m ∙ y)))
+  whole-refused out e =
+      let y = verdict-err (report_refusal cat tab one two) e in
+      rw (y.1, ne_eqb (number (report_refusal cat tab one two)) 0 y.0)
 
-  module _ (z : n ≡ 0) where
+  module _ {u : Unit {0}} (e : verdict (report_refusal cat tab one two) ≡ Ok u) where
     none : number (report_refusal cat tab one two) ≡ 0
-    none = sym (ap number e) ∙ sym m ∙ z
+    none = ap number (verdict-ok (report_refusal cat tab one two) e)
 
-    pub whole-good : (good_catalogue cat ≡ true) × (good_table cat tab ≡ true)
+    whole-good : (good_catalogue cat ≡ true) × (good_table cat tab ≡ true)
     whole-good = checked-good cat tab (refusal-blank cat tab one two none).0
-
-    pub five-in : 5 < length tab
-    five-in = omega (arith, (good-housed cat tab whole-good.1).whole)
 
     lists : Sounds cat one two
     lists = lists-blank cat one two (refusal-blank cat tab one two none).1
 
-    blocks : (size : ℕ) → size ≡ byte tab 5 → Sound cat tab size
-    blocks size b = record {
+    blocks : Sound cat tab (byte tab 5)
+    blocks = record {
       catalogue = whole-good.0;
       table = whole-good.1;
-      sized = rw (b ∙ (good-housed cat tab whole-good.1).told) (good-sized cat tab whole-good.0 whole-good.1);
+      sized = rw (good-housed cat tab whole-good.1).told (good-sized cat tab whole-good.0 whole-good.1);
     }
 
-    pub whole-given : (size : ℕ) → size ≡ byte tab 5 → GivenBoth cat tab one two size
-    whole-given size b = record {
-      first = record { sound = blocks size b; read = lists.first; some = lists.some };
-      second = record { sound = blocks size b; read = (parts cat one two lists.more lists.first lists.joined).second; some = lists.more };
-      joined = record { sound = blocks size b; read = lists.joined; some = rw length-append (omega (arith, lists.some)) };
+    pub whole-given : GivenBoth cat tab one two (byte tab 5)
+    whole-given = record {
+      first = record { sound = blocks; read = lists.first; some = lists.some };
+      second = record { sound = blocks; read = (parts cat one two lists.more lists.first lists.joined).second; some = lists.more };
+      joined = record { sound = blocks; read = lists.joined; some = rw length-append (omega (arith, lists.some)) };
     }
 
     pub whole-shows : (out : Bytes) → showing (picked cat tab (one ++ two)) out ≡ report cat tab one two out

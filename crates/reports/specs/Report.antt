@@ -1,16 +1,30 @@
 -- What a report answers, however it is made: by get-next with get-next-within-parent under each, by get-next alone on the joined list, or by reading
 -- every cell. Assumes nothing: these are definitions.
-use Rattle.std.specs.Prelude.{◌||◌, not, List, ◌++◌, ℕ, ◌*◌, ltb, eqb, length}
+use Rattle.std.specs.Prelude.{◌≡◌, ◌||◌, not, List, ◌++◌, ℕ, ◌*◌, ltb, eqb, length, Result, Ok, Err}
 use Rattle.terms.specs.declared.Status.{Status}
 use Rattle.terms.specs.declared.Status.TheVariants.{Blank, AC, AB}
 use Rattle.terms.specs.Choice.{pick}
+use Rattle.terms.specs.Statuses.{number}
 use Rattle.rules.specs.Block.{Bytes}
 use Rattle.rules.specs.Arguments.{list_read}
 use Rattle.rules.specs.Calls.{over}
 use Rattle.rules.specs.Outcome.{is_blank, check_table}
 use Rattle.report_loops.specs.Plain.{picked}
 use Rattle.reports.specs.Shown.{hit_bytes}
-use Rattle.reports.specs.declared.Report.{Report}
+
+-- how a report ended, and how many cells it shows
+pub record Report : Type 0 where
+  pub status : Status
+  pub hits : ℕ
+
+-- what its result tells: how many cells are shown, or the refusal, which shows none
+abbrev pub told : Result ℕ Status → Report
+told (Ok hits) = record { status = Blank; hits = hits }
+told (Err s) = record { status = s; hits = 0 }
+
+-- a status that refuses: no report is refused by blank
+abbrev pub IsRefusal : Status → Type 0
+IsRefusal s = number s ≡ 0 → ⊥
 
 -- all that a report leaves: its answer, and the bytes lent for the hits
 pub record Reported : Type 0 where

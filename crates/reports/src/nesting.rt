@@ -1,6 +1,5 @@
 // Get-next, and get-next-within-parent under each cell found.
-ghost use Rattle.std.specs.Prelude.{◌≡◌, false, ◌++◌, suc, ◌<◌, ◌≤◌, length};
-ghost use Rattle.terms.specs.declared.Parentage.TheVariants.{Of};
+ghost use Rattle.std.specs.Prelude.{◌≡◌, false, ◌++◌, suc, ◌<◌, ◌≤◌, length, Some};
 ghost use Rattle.terms.specs.Moves.{moved_onto};
 ghost use Rattle.rules.specs.Block.{byte};
 ghost use Rattle.rules.specs.Table.{count};
@@ -24,9 +23,9 @@ pub struct Onward {
 // The position of a loop of GNP under cell p that has come to cell c. It is made anew for each call: one that is copied out of an answer has to wait
 // until the answer is written.
 pub(crate) fn under(p: CellNumber, c: CellNumber) -> Position
-    ensures { result ≡ moved_onto c.0 (Of p) false }
+    ensures { result ≡ moved_onto c.0 (Some p) false }
 {
-    Position::fresh().moved_onto(c, Parentage::Of(p), false)
+    Position::fresh().moved_onto(c, Some(p), false)
 }
 
 // GNP on the list under cell p until a status ends it; k cells are shown before it. The area is lent, and what a get leaves in it is not read.
@@ -46,15 +45,10 @@ fn read_under(
     let mut at = p;
     loop {
         let a = read_within(cat, tab, list, &list[..0], under(p, at), area);
-        let s = a.status;
-        if 10 <= number(s) {
-            return Onward {
-                hits: hits,
-                cell: at,
-            };
+        if 10 <= number(a.status) {
+            return Onward { hits, cell: at };
         }
-        let q = a.position;
-        at = q.cell();
+        at = a.position.cell();
         put_hit(out, hits, at);
         hits += 1;
     }
@@ -72,12 +66,10 @@ pub(crate) fn nested_sound(cat: &[u8], tab: &[u8], one: &[u8], two: &[u8], out: 
     let mut at = Position::fresh();
     loop {
         let a = read_next(cat, tab, one, &one[..0], at, &mut area);
-        let s = a.status;
-        if 10 <= number(s) {
+        if 10 <= number(a.status) {
             return hits;
         }
-        let q = a.position;
-        let p = q.cell();
+        let p = a.position.cell();
         let w = read_under(cat, tab, two, p, hits, &mut area, out);
         hits = w.hits;
         at = under(p, w.cell);

@@ -1,5 +1,6 @@
 // What a report refuses before it begins: the blocks, then the lists, each once.
 ghost use Rattle.std.specs.Prelude.{◌≡◌, true};
+ghost use Rattle.terms.specs.Statuses.{verdict};
 ghost use Rattle.rules.specs.Catalogue.{good_catalogue};
 ghost use Rattle.reports.specs.Report.{lists_fault, report_refusal};
 
@@ -7,32 +8,27 @@ use arguments::lookup::last_of;
 use arguments::read::{fault, fault_behind};
 use table_check::check::check;
 use terms::Status;
-use terms::statuses::number;
 
 // The second list is read on behind the last type of the first.
-fn lists_fault(cat: &[u8], one: &[u8], two: &[u8]) -> Status
+fn lists_fault(cat: &[u8], one: &[u8], two: &[u8]) -> Result<(), Status>
     requires { good_catalogue cat.now ≡ true }
-    ensures { result ≡ lists_fault cat.now one.now two.now }
+    ensures { result ≡ verdict (lists_fault cat.now one.now two.now) }
 {
-    let f = fault(cat, one);
-    if number(f) != 0 {
-        return f;
+    fault(cat, one)?;
+    if one.is_empty() {
+        return Err(Status::AC);
     }
-    if one.len() == 0 {
-        return Status::AC;
-    }
-    if two.len() == 0 {
-        return Status::AC;
+    if two.is_empty() {
+        return Err(Status::AC);
     }
     fault_behind(cat, two, last_of(cat, one).code)
 }
 
-pub(crate) fn report_refusal(cat: &[u8], tab: &[u8], one: &[u8], two: &[u8]) -> Status
-    ensures { result ≡ report_refusal cat.now tab.now one.now two.now }
+pub(crate) fn report_refusal(cat: &[u8], tab: &[u8], one: &[u8], two: &[u8]) -> Result<(), Status>
+    ensures { result ≡ verdict (report_refusal cat.now tab.now one.now two.now) }
 {
-    let s = check(cat, tab);
-    if number(s) != 0 {
-        return s;
+    match check(cat, tab) {
+        Status::Blank => lists_fault(cat, one, two),
+        refused => Err(refused),
     }
-    lists_fault(cat, one, two)
 }

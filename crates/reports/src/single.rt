@@ -22,12 +22,10 @@ pub(crate) fn joined_sound(cat: &[u8], tab: &[u8], one: &[u8], two: &[u8], out: 
     let mut at = Position::fresh();
     loop {
         let a = read_again(cat, tab, one, two, at, &mut area);
-        let s = a.status;
-        if 10 <= number(s) {
+        if 10 <= number(a.status) {
             return hits;
         }
-        let q = a.position;
-        let c = q.cell();
+        let c = a.position.cell();
         put_hit(out, hits, c);
         hits += 1;
         at = under(c, c);

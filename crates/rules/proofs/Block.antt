@@ -1,4 +1,5 @@
 -- The position's block: what specs/Canonical.antt states, and what a call leaves of a block that is lent to it. Assumes nothing.
+use Rattle.std.specs.Prelude.{None, Some}
 use mathlib.Core.Path.{◌≡◌, refl, ap, sym, ◌∙◌}
 use mathlib.Core.Bool.{Bool, true, false, true≢false, ◌&&◌}
 use mathlib.Core.List.{List, [], ◌∷◌, ◌++◌}
@@ -10,12 +11,10 @@ use lib.ListN.{length, set, replicate}
 use borrow.Author.Tests.{eqb-true, eqb-false, leb-true, le-leb, lt-leb}
 use Rattle.terms.specs.declared.Place.{Place}
 use Rattle.terms.specs.declared.Place.TheVariants.{On, Before}
-use Rattle.terms.specs.declared.Parentage.{Parentage}
-use Rattle.terms.specs.declared.Parentage.TheVariants.{Absent, Of}
 use Rattle.terms.specs.declared.Position.{Position}
 use Rattle.terms.specs.declared.Answer.{Answer}
 use Rattle.terms.specs.Choice.{pick}
-use Rattle.terms.specs.Names.{cell}
+use Rattle.terms.specs.Names.{cell, Parentage}
 use Rattle.terms.specs.Moves.{fresh, place_number, hold_dropped}
 use Rattle.terms.specs.Statuses.{number}
 use Rattle.forest.specs.Good.{on, off, is, both_right}
@@ -41,14 +40,14 @@ unfolding good_block position_bytes
 block_of p = good p.place p.parentage p.hold
   where
     good : (q : Place) (r : Parentage) (h : Bool) → good_block (position_bytes (record { place = q; parentage = r; hold = h })) ≡ true
-    good (On c) Absent true = refl
-    good (On c) Absent false = refl
-    good (On c) (Of p) true = refl
-    good (On c) (Of p) false = refl
-    good (Before c) Absent true = refl
-    good (Before c) Absent false = refl
-    good (Before c) (Of p) true = refl
-    good (Before c) (Of p) false = refl
+    good (On c) None true = refl
+    good (On c) None false = refl
+    good (On c) (Some p) true = refl
+    good (On c) (Some p) false = refl
+    good (Before c) None true = refl
+    good (Before c) None false = refl
+    good (Before c) (Some p) true = refl
+    good (Before c) (Some p) false = refl
 
 read_back : (p : Position) → position_of (position_bytes p) ≡ p
 unfolding position_of good_block position_bytes
@@ -56,14 +55,14 @@ read_back p = same p.place p.parentage p.hold
   where
     same : (q : Place) (r : Parentage) (h : Bool)
         → position_of (position_bytes (record { place = q; parentage = r; hold = h })) ≡ record { place = q; parentage = r; hold = h }
-    same (On c) Absent true = rw (joined c.0)
-    same (On c) Absent false = rw (joined c.0)
-    same (On c) (Of p) true = rw (joined c.0, joined p.0)
-    same (On c) (Of p) false = rw (joined c.0, joined p.0)
-    same (Before c) Absent true = rw (joined c.0)
-    same (Before c) Absent false = rw (joined c.0)
-    same (Before c) (Of p) true = rw (joined c.0, joined p.0)
-    same (Before c) (Of p) false = rw (joined c.0, joined p.0)
+    same (On c) None true = rw (joined c.0)
+    same (On c) None false = rw (joined c.0)
+    same (On c) (Some p) true = rw (joined c.0, joined p.0)
+    same (On c) (Some p) false = rw (joined c.0, joined p.0)
+    same (Before c) None true = rw (joined c.0)
+    same (Before c) None false = rw (joined c.0)
+    same (Before c) (Some p) true = rw (joined c.0, joined p.0)
+    same (Before c) (Some p) false = rw (joined c.0, joined p.0)
 
 -- a byte of each part of the block
 word_bytes : (n : ℕ) → n < 65536 → (n / 256 < 256) × (n % 256 < 256)
@@ -91,17 +90,17 @@ block-bytes p = all p.place p.parentage p.hold
   where
     all : (q : Place) (r : Parentage) (h : Bool) → place_number q < 65536 → parent_number r < 65536
         → (i : ℕ) → byte (place_bytes q ++ (parentage_bytes r ++ (pick h 1 0 ∷ 0 ∷ []))) i < 256
-    all (On c) Absent h l m =
+    all (On c) None h l m =
         let w = word_bytes c.0 l in
         eight-low 1 _ _ 0 0 0 _ 0 (omega arith) w.0 w.1 (omega arith) (omega arith) (omega arith) (hold-low h) (omega arith)
-    all (On c) (Of p) h l m =
+    all (On c) (Some p) h l m =
         let w = word_bytes c.0 l in
         let v = word_bytes p.0 m in
         eight-low 1 _ _ 1 _ _ _ 0 (omega arith) w.0 w.1 (omega arith) v.0 v.1 (hold-low h) (omega arith)
-    all (Before c) Absent h l m =
+    all (Before c) None h l m =
         let w = word_bytes c.0 l in
         eight-low 0 _ _ 0 0 0 _ 0 (omega arith) w.0 w.1 (omega arith) (omega arith) (omega arith) (hold-low h) (omega arith)
-    all (Before c) (Of p) h l m =
+    all (Before c) (Some p) h l m =
         let w = word_bytes c.0 l in
         let v = word_bytes p.0 m in
         eight-low 0 _ _ 1 _ _ _ 0 (omega arith) w.0 w.1 (omega arith) v.0 v.1 (hold-low h) (omega arith)
@@ -150,7 +149,7 @@ place-back a b c h l = elim (is (eqb a 1)) [
 ]
 
 parent-back : (a b c : ℕ) → a ≤ 1 → c < 256 → pick (eqb a 1) true (eqb (256 * b + c) 0) ≡ true
-    → parentage_bytes (pick (eqb a 1) (Of (cell (256 * b + c))) Absent) ≡ a ∷ b ∷ c ∷ []
+    → parentage_bytes (pick (eqb a 1) (Some (cell (256 * b + c))) None) ≡ a ∷ b ∷ c ∷ []
 parent-back a b c h l k = elim (is (eqb a 1)) [
   | on e ↦ (let z : a ≡ 1 = eqb-true a 1 e in rw (e, high b c l, low b c l, z))
   | off e ↦

@@ -1,4 +1,6 @@
 -- What a call leaves of the cells is its change applied to them. Assumes nothing.
+use Rattle.terms.specs.declared.CellNumber.{CellNumber}
+use Rattle.std.specs.Prelude.{Some, None, Option}
 use mathlib.Core.Path.{◌≡◌, refl}
 use mathlib.Core.Bool.{Bool, true, false, ◌&&◌, not}
 use mathlib.Core.List.{List, [], ◌∷◌}
@@ -7,15 +9,11 @@ use lib.Dec.{eqb}
 use lib.ListN.{length, drop}
 use Rattle.terms.specs.declared.TypeCode.{TypeCode}
 use Rattle.terms.specs.declared.Argument.{Argument}
-use Rattle.terms.specs.declared.Found.{Found}
-use Rattle.terms.specs.declared.Found.TheVariants.{At, Nothing}
-use Rattle.terms.specs.declared.Parentage.{Parentage}
-use Rattle.terms.specs.declared.Parentage.TheVariants.{Of}
 use Rattle.terms.specs.declared.Position.{Position}
 use Rattle.terms.specs.declared.Status.{Status}
 use Rattle.terms.specs.declared.Status.TheVariants.{Blank, GE, DA, II, FX, PD}
 use Rattle.terms.specs.Choice.{pick}
-use Rattle.terms.specs.Names.{cell}
+use Rattle.terms.specs.Names.{cell, Parentage}
 use Rattle.terms.specs.Moves.{place_number, after_place, hold_dropped, after_insert}
 use Rattle.forest.specs.Insert.{spot}
 use Rattle.rules.specs.Block.{Bytes, same_bytes}
@@ -36,19 +34,19 @@ module _ (cat : Bytes) (cs : List Segment) (pos : Position) (area : Bytes) where
   either : (b : Bool) {x y : After} → Follows cs x → Follows cs y → Follows cs (pick b x y)
   either b {x} {y} p q = pick-of (Follows cs) b x y p q
 
-  got-follows : (miss : Status) (status : ℕ → Status) (parentage : ℕ → Parentage) (hold : Bool) (f : Found)
+  got-follows : (miss : Status) (status : ℕ → Status) (parentage : ℕ → Parentage) (hold : Bool) (f : Option CellNumber)
       → Follows cs (gotten cat cs pos area miss status parentage hold f)
-  got-follows miss status parentage hold Nothing = record { is = refl }
-  got-follows miss status parentage hold (At c) = record { is = refl }
+  got-follows miss status parentage hold None = record { is = refl }
+  got-follows miss status parentage hold (Some c) = record { is = refl }
 
   unique-follows : (hold : Bool) (ls : List Level) → Follows cs (get_unique cat cs pos area hold ls)
   unfolding get_unique
-  unique-follows hold ls = got-follows GE (λ i. Blank) (λ i. Of (cell i)) hold (along cat cs ls pos.place)
+  unique-follows hold ls = got-follows GE (λ i. Blank) (λ i. Some (cell i)) hold (along cat cs ls pos.place)
 
   next-follows : (hold : Bool) (ls : List Level) → Follows cs (get_next cat cs pos area hold ls)
   unfolding get_next
   next-follows hold ls =
-      got-follows (miss_status ls) (level_status cat cs ls pos.place) (λ i. Of (cell i)) hold
+      got-follows (miss_status ls) (level_status cat cs ls pos.place) (λ i. Some (cell i)) hold
       (first_match cat cs ls (after_place pos.place) (length cs))
 
   within-follows : (hold : Bool) (ls : List Level) → Follows cs (get_next_within cat cs pos area hold ls)
@@ -67,9 +65,9 @@ module _ (cat : Bytes) (cs : List Segment) (pos : Position) (area : Bytes) where
       {y = changed cat (after_insert r (is_one_of above pos.parentage) pos) x 0 (put r (x ∷ [])) (applied (put r (x ∷ [])) cs) area}
       (record { is = refl }) (record { is = refl })))
 
-  under-follows : (m : ℕ) (x : Segment) (f : Found) → Follows cs (insert_under cat cs pos area m x f)
-  under-follows m x Nothing = record { is = refl }
-  under-follows m x (At c) = among-follows m x (row_at cat cs c.0) (suc c.0) (run_at cat cs c.0 - 1)
+  under-follows : (m : ℕ) (x : Segment) (f : Option CellNumber) → Follows cs (insert_under cat cs pos area m x f)
+  under-follows m x None = record { is = refl }
+  under-follows m x (Some c) = among-follows m x (row_at cat cs c.0) (suc c.0) (run_at cat cs c.0 - 1)
 
   insert-follows : (m : ℕ) (t : TypeCode) (ls : List Level) → Follows cs (insert cat cs pos area m t ls)
   unfolding insert

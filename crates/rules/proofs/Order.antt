@@ -1,27 +1,27 @@
 -- The order of values of one length: what twin order, field tests and insert rest on. Assumes nothing.
+use Rattle.std.specs.declared.cmp.Ordering.{Ordering}
+use Rattle.std.specs.declared.cmp.Ordering.TheVariants.{Equal, Greater, Less}
 use mathlib.Core.Path.{◌≡◌, refl, ap, sym, ◌∙◌}
 use mathlib.Core.List.{[], ◌∷◌}
 use Prim.Native.Nat.{ℕ, ◌<◌, ◌≤◌}
 use native.Mathlib.Omega.{arith}
 use lib.ListN.{length}
 use borrow.Author.Tests.{lt-ltb, le-ltb, eq-eqb, ne_eqb}
-use Rattle.terms.specs.declared.Order.{Order}
-use Rattle.terms.specs.declared.Order.TheVariants.{Smaller, Equal, Greater}
 use Rattle.forest.specs.Forest.{inside, outside, side}
 use Rattle.rules.specs.Block.{Bytes}
 use Rattle.rules.specs.Order.{order}
 
 -- the order on values of one length: what K5 has to keep
-abbrev pub turned : Order → Order
-turned Smaller = Greater
+abbrev pub turned : Ordering → Ordering
+turned Less = Greater
 turned Equal = Equal
-turned Greater = Smaller
+turned Greater = Less
 
 pub order-on : (x y : ℕ) (xs ys : Bytes) → x ≡ y → order (x ∷ xs) (y ∷ ys) ≡ order xs ys
 unfolding order
 order-on x y xs ys e = rw (order, eq-eqb x y e)
 
-pub order-less : (x y : ℕ) (xs ys : Bytes) → x < y → order (x ∷ xs) (y ∷ ys) ≡ Smaller
+pub order-less : (x y : ℕ) (xs ys : Bytes) → x < y → order (x ∷ xs) (y ∷ ys) ≡ Less
 unfolding order
 order-less x y xs ys l = rw (order, ne_eqb x y (λ e. omega arith), lt-ltb x y l)
 
@@ -51,12 +51,12 @@ order-turned (x ∷ xs) (y ∷ ys) e = elim (side x y) [
   ]
 ]
 
-abbrev rank : Order → ℕ
-rank Smaller = 0
+abbrev rank : Ordering → ℕ
+rank Less = 0
 rank Equal = 1
 rank Greater = 2
 
-unequal-less : Smaller ≡ Equal → ⊥
+unequal-less : Less ≡ Equal → ⊥
 unequal-less e = let z : ◌≡◌ {A = ℕ} 0 1 = ap rank e in omega arith
 
 unequal-more : Greater ≡ Equal → ⊥
@@ -78,18 +78,18 @@ order-equal (x ∷ xs) (y ∷ ys) e h = elim (side x y) [
   ]
 ]
 
-greater-not : Smaller ≡ Greater → ⊥
+greater-not : Less ≡ Greater → ⊥
 greater-not e = let z : ◌≡◌ {A = ℕ} 0 2 = ap rank e in omega arith
 
 -- what the first bytes say, where one value is smaller: they are smaller, or the same and the rest is smaller
-smaller-first : (x y : ℕ) (xs ys : Bytes) → order (x ∷ xs) (y ∷ ys) ≡ Smaller → y ≤ x → (x ≡ y) × (order xs ys ≡ Smaller)
+smaller-first : (x y : ℕ) (xs ys : Bytes) → order (x ∷ xs) (y ∷ ys) ≡ Less → y ≤ x → (x ≡ y) × (order xs ys ≡ Less)
 smaller-first x y xs ys e l = elim (side y x) [
   | inside m ↦ absurd (greater-not (sym e ∙ order-more x y xs ys m))
   | outside m ↦ (let z : x ≡ y = omega arith in (z, sym (order-on x y xs ys z) ∙ e))
 ]
 
 -- LAW 29: transitive, whatever the lengths
-pub order-transitive : (xs ys zs : Bytes) → order xs ys ≡ Smaller → order ys zs ≡ Smaller → order xs zs ≡ Smaller
+pub order-transitive : (xs ys zs : Bytes) → order xs ys ≡ Less → order ys zs ≡ Less → order xs zs ≡ Less
 unfolding order
 order-transitive [] ys zs h k = absurd (unequal-less (sym h))
 order-transitive (x ∷ xs) [] zs h k = absurd (unequal-less (sym h))

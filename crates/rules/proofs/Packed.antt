@@ -1,17 +1,17 @@
 -- The order of packed numbers is that of whole numbers: a total order up to value, of any bytes; being a number is asked only where code compares bytes
 -- instead. Assumes nothing.
+use Rattle.std.specs.declared.cmp.Ordering.{Ordering}
+use Rattle.std.specs.declared.cmp.Ordering.TheVariants.{Equal, Greater, Less}
 use mathlib.Core.Path.{◌≡◌, refl, ap, sym, ◌∙◌}
 use Prim.Native.Nat.{ℕ, ◌+◌, ◌<◌}
 use native.Mathlib.Omega.{arith}
 use borrow.Author.Tests.{lt-ltb, le-ltb, eq-eqb, ne_eqb}
-use Rattle.terms.specs.declared.Order.{Order}
-use Rattle.terms.specs.declared.Order.TheVariants.{Smaller, Equal, Greater}
 use Rattle.forest.specs.Forest.{inside, outside, side}
 use Rattle.rules.specs.Block.{Bytes}
 use Rattle.rules.specs.Packed.{above, below, number_order, packed_order}
 use Rattle.rules.proofs.Order.{turned}
 
-pub number-less : (n m : ℕ) → n < m → number_order n m ≡ Smaller
+pub number-less : (n m : ℕ) → n < m → number_order n m ≡ Less
 unfolding number_order
 number-less n m l = rw (lt-ltb n m l)
 
@@ -24,8 +24,8 @@ unfolding number_order
 number_more n m l = rw (le-ltb n m (omega arith), ne_eqb n m (λ e. omega arith))
 
 -- how two numbers stand, as a case that a proof can take apart
-pub data Stand (n m : ℕ) : Order → Type 0 where
-  less : n < m → Stand n m Smaller
+pub data Stand (n m : ℕ) : Ordering → Type 0 where
+  less : n < m → Stand n m Less
   same : n ≡ m → Stand n m Equal
   more : m < n → Stand n m Greater
 
@@ -39,18 +39,18 @@ stand n m = elim (side n m) [
 ]
 
 -- what the answer says of the numbers
-pub is-less : (n m : ℕ) → number_order n m ≡ Smaller → n < m
+pub is-less : (n m : ℕ) → number_order n m ≡ Less → n < m
 is-less n m e = elim (side n m) [
   | inside l ↦ l
   | outside l ↦ elim (side m n) [
-    | inside k ↦ (let z : Greater ≡ Smaller = sym (number_more n m k) ∙ e in let y : ◌≡◌ {A = ℕ} 0 1 = cc in absurd (omega arith))
-    | outside k ↦ (let z : Equal ≡ Smaller = sym (number_same n m (omega arith)) ∙ e in let y : ◌≡◌ {A = ℕ} 0 1 = cc in absurd (omega arith))
+    | inside k ↦ (let z : Greater ≡ Less = sym (number_more n m k) ∙ e in let y : ◌≡◌ {A = ℕ} 0 1 = cc in absurd (omega arith))
+    | outside k ↦ (let z : Equal ≡ Less = sym (number_same n m (omega arith)) ∙ e in let y : ◌≡◌ {A = ℕ} 0 1 = cc in absurd (omega arith))
   ]
 ]
 
 pub is_same : (n m : ℕ) → number_order n m ≡ Equal → n ≡ m
 is_same n m e = elim (side n m) [
-  | inside l ↦ (let z : Smaller ≡ Equal = sym (number-less n m l) ∙ e in let y : ◌≡◌ {A = ℕ} 0 1 = cc in absurd (omega arith))
+  | inside l ↦ (let z : Less ≡ Equal = sym (number-less n m l) ∙ e in let y : ◌≡◌ {A = ℕ} 0 1 = cc in absurd (omega arith))
   | outside l ↦ elim (side m n) [
     | inside k ↦ (let z : Greater ≡ Equal = sym (number_more n m k) ∙ e in let y : ◌≡◌ {A = ℕ} 0 1 = cc in absurd (omega arith))
     | outside k ↦ omega arith
@@ -99,7 +99,7 @@ unfolding packed_order
 equal-packed a b e = number_same (above a + below b) (above b + below a) e
 
 -- LAW: transitive
-pub packed-transitive : (a b c : Bytes) → packed_order a b ≡ Smaller → packed_order b c ≡ Smaller → packed_order a c ≡ Smaller
+pub packed-transitive : (a b c : Bytes) → packed_order a b ≡ Less → packed_order b c ≡ Less → packed_order a c ≡ Less
 unfolding packed_order
 packed-transitive a b c e f =
     let l = is-less (above a + below b) (above b + below a) e in

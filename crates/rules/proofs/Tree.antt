@@ -1,4 +1,6 @@
 -- Forest and cells: the search of document 000 finds exactly the matches of R28. Assumes nothing.
+use Rattle.terms.specs.declared.CellNumber.{CellNumber}
+use Rattle.std.specs.Prelude.{Some, None, Option}
 use mathlib.Core.Path.{◌≡◌, refl, ap, sym, ◌∙◌}
 use mathlib.Core.Bool.{Bool, true, false, ◌&&◌}
 use mathlib.Core.List.{List, [], ◌∷◌, ◌++◌, map, reverse, append_assoc, reverse-cons, map-map, map-id}
@@ -8,8 +10,6 @@ use lib.ListN.{length, get_or, drop, length-drop}
 use lib.Seq.{get_or-drop}
 use lib.Dec.{ltb, leb}
 use borrow.Author.Tests.{lt-ltb, le-ltb, le-leb, lt-leb}
-use Rattle.terms.specs.declared.Found.{Found}
-use Rattle.terms.specs.declared.Found.TheVariants.{At, Nothing}
 use Rattle.forest.specs.Forest.{Forest, void, node, forest_of, inside, outside, side}
 use Rattle.forest.specs.Good.{on, off, is}
 use Rattle.forest.specs.Rows.{rows, map-append}
@@ -168,11 +168,11 @@ rows-paths up (node i k s) =
     ∙ ap (◌∷◌ (reverse up ++ (i ∷ []))) (sym (map-append (λ p. reverse up ++ p) (map (λ p. i ∷ p) (all_paths k)) (all_paths s)))
 
 -- what is found is the end of the first of these paths: none of either, or a cell that matches the list and its path
-pub data Heads (cat : Bytes) (cs : List Segment) (ls : List Level) (ps : List Path) (f : Found) : Type 0 where
-  missing : ps ≡ [] → f ≡ Nothing → Heads cat cs ls ps f
-  leading : (i : ℕ) (qs : List Path) → i < length cs → matches cat cs ls i ≡ true → ps ≡ path_to cat cs i ∷ qs → f ≡ At (cell i) → Heads cat cs ls ps f
+pub data Heads (cat : Bytes) (cs : List Segment) (ls : List Level) (ps : List Path) (f : Option CellNumber) : Type 0 where
+  missing : ps ≡ [] → f ≡ None → Heads cat cs ls ps f
+  leading : (i : ℕ) (qs : List Path) → i < length cs → matches cat cs ls i ≡ true → ps ≡ path_to cat cs i ∷ qs → f ≡ Some (cell i) → Heads cat cs ls ps f
 
-pub heads-by : (cat : Bytes) (cs : List Segment) (ls : List Level) (ps qs : List Path) (f g : Found) → ps ≡ qs → f ≡ g → Heads cat cs ls qs g
+pub heads-by : (cat : Bytes) (cs : List Segment) (ls : List Level) (ps qs : List Path) (f g : Option CellNumber) → ps ≡ qs → f ≡ g → Heads cat cs ls qs g
     → Heads cat cs ls ps f
 heads-by cat cs ls ps qs f g a b h = elim h [
   | missing x y ↦ missing (a ∙ x) (b ∙ y)
@@ -249,7 +249,7 @@ module _ (cat : Bytes) (cs : List Segment) where
       | off w ↦ found-skip i n w
     ]
 
-    nothing-sought : (i k : ℕ) → k ≡ 0 → seek cat cs ls i k ≡ Nothing
+    nothing-sought : (i k : ℕ) → k ≡ 0 → seek cat cs ls i k ≡ None
     nothing-sought i k z = ap (seek cat cs ls i) z ∙ seek-none cat cs ls i
 
     -- from cell i on, with as many of the cells left before e

@@ -1,11 +1,11 @@
 -- The order by value type: a total order up to value, on values of one length. All that a proof above `rules` may use of it. Assumes nothing.
+use Rattle.std.specs.declared.cmp.Ordering.TheVariants.{Equal, Less}
 use mathlib.Core.Path.{◌≡◌, refl, ap, sym, ◌∙◌}
 use mathlib.Core.Bool.{true, false, ◌&&◌}
 use Prim.Native.Nat.{ℕ}
 use lib.Dec.{eqb}
 use lib.ListN.{length}
 use Rattle.terms.specs.declared.Operator.{Operator}
-use Rattle.terms.specs.declared.Order.TheVariants.{Smaller, Equal}
 use Rattle.terms.specs.Operators.{holds}
 use Rattle.forest.specs.Good.{on, off, is}
 use Rattle.rules.specs.Block.{Bytes}
@@ -48,7 +48,7 @@ module _ (w : ℕ) where
     | off h ↦ value-bytes w b a h ∙ order-turned a b l ∙ sym (ap turned (value-bytes w a b h))
   ]
 
-  pub value-transitive : (a b c : Bytes) → value_order w a b ≡ Smaller → value_order w b c ≡ Smaller → value_order w a c ≡ Smaller
+  pub value-transitive : (a b c : Bytes) → value_order w a b ≡ Less → value_order w b c ≡ Less → value_order w a c ≡ Less
   value-transitive a b c e f = elim (is (eqb w 1)) [
     | on h ↦ value-packed w a c h ∙ packed-transitive a b c (sym (value-packed w a b h) ∙ e) (sym (value-packed w b c h) ∙ f)
     | off h ↦ value-bytes w a c h ∙ order-transitive a b c (sym (value-bytes w a b h) ∙ e) (sym (value-bytes w b c h) ∙ f)

@@ -1,17 +1,13 @@
 -- The argument list (R24 to R27), read; and completed with its implied levels (R29, R30). Assumes nothing: these are definitions.
-use Rattle.std.specs.Prelude.{Bool, true, false, ◌&&◌, ◌||◌, not, List, [], ◌∷◌, map, reverse, ℕ, zero, suc, ◌+◌, ltb, leb, eqb, length}
+use Rattle.std.specs.Prelude.{Bool, true, false, ◌&&◌, ◌||◌, not, List, [], ◌∷◌, map, reverse, ℕ, zero, suc, ◌+◌, ltb, leb, eqb, length, Err, Ok, None, Result, Some, is_some}
 use Rattle.terms.specs.declared.TypeCode.{TypeCode}
 use Rattle.terms.specs.declared.FieldNumber.{FieldNumber}
 use Rattle.terms.specs.declared.Operator.{Operator}
-use Rattle.terms.specs.declared.Qualification.{Qualification}
-use Rattle.terms.specs.declared.Qualification.TheVariants.{None, Test}
 use Rattle.terms.specs.declared.Argument.{Argument}
 use Rattle.terms.specs.declared.Status.{Status}
 use Rattle.terms.specs.declared.Status.TheVariants.{Blank, AC, AJ, AK}
-use Rattle.terms.specs.declared.ArgumentRead.{ArgumentRead}
-use Rattle.terms.specs.declared.ArgumentRead.TheVariants.{Got, Fault}
 use Rattle.terms.specs.Choice.{pick}
-use Rattle.terms.specs.Names.{code, field, same_type}
+use Rattle.terms.specs.Names.{code, field, same_type, Qualification, test}
 use Rattle.rules.specs.Block.{Bytes, byte, part}
 use Rattle.rules.specs.Order.{is_value}
 use Rattle.rules.specs.Catalogue.{fields, field_type, field_length, field_value, is_type, parent_of, type_beneath, lineage}
@@ -43,20 +39,20 @@ module _ (cat : Bytes) (list : Bytes) where
   is_field_of t f = leb 1 f.0 && leb f.0 (fields cat) && same_type (field_type cat f) t
 
   -- one argument, which begins at this byte; R90: its value is one of the field's value type
-  unfoldable pub argument_at : TypeCode → ℕ → ArgumentRead
+  unfoldable pub argument_at : TypeCode → ℕ → Result Argument Status
   argument_at before at =
       let t = code (byte list at) in
       let o = byte list (at + 1) in
       let f = field (byte list (at + 2)) in
-      pick (not (good_next before t)) (Fault AC)
-      (pick (leb (length list) (at + 1)) (Fault AJ)
-      (pick (eqb o 0) (Got (record { code = t; qualification = None; next = at + 2 }))
-      (pick (ltb 6 o) (Fault AJ)
-      (pick (leb (length list) (at + 2)) (Fault AJ)
-      (pick (not (is_field_of t f)) (Fault AK)
-      (pick (ltb (length list) (at + 3 + field_length cat f)) (Fault AJ)
-      (pick (not (is_value (field_value cat f) (part list (at + 3) (field_length cat f)))) (Fault AJ)
-      (Got (record { code = t; qualification = Test (operator_of o) f (at + 3); next = at + 3 + field_length cat f })))))))))
+      pick (not (good_next before t)) (Err AC)
+      (pick (leb (length list) (at + 1)) (Err AJ)
+      (pick (eqb o 0) (Ok (record { code = t; qualification = None; next = at + 2 }))
+      (pick (ltb 6 o) (Err AJ)
+      (pick (leb (length list) (at + 2)) (Err AJ)
+      (pick (not (is_field_of t f)) (Err AK)
+      (pick (ltb (length list) (at + 3 + field_length cat f)) (Err AJ)
+      (pick (not (is_value (field_value cat f) (part list (at + 3) (field_length cat f)))) (Err AJ)
+      (Ok (record { code = t; qualification = test (operator_of o) f (at + 3); next = at + 3 + field_length cat f })))))))))
 
   -- R26: read from byte `at` on, at most n arguments, up to the first fault
   unfoldable pub arguments_from : ℕ → TypeCode → ℕ → ListRead
@@ -64,8 +60,8 @@ module _ (cat : Bytes) (list : Bytes) where
   arguments_from (suc n) before at = elim (leb (length list) at) [
     | true ↦ record { fault = Blank; arguments = [] }
     | false ↦ elim (argument_at before at) [
-      | Fault s ↦ record { fault = s; arguments = [] }
-      | Got a ↦ (let r = arguments_from n a.code a.next in record { fault = r.fault; arguments = a ∷ r.arguments })
+      | Err s ↦ record { fault = s; arguments = [] }
+      | Ok a ↦ (let r = arguments_from n a.code a.next in record { fault = r.fault; arguments = a ∷ r.arguments })
     ]
   ]
 
@@ -75,7 +71,7 @@ module _ (cat : Bytes) (list : Bytes) where
 
   abbrev pub meant : Qualification → Asked
   meant None = unqualified
-  meant (Test o f v) = qualified o f (part list v (field_length cat f))
+  meant (Some x) = qualified x.operator x.field (part list x.value (field_length cat x.field))
 
   -- R29: what the list asks of a type
   unfoldable pub asked_of : List Argument → TypeCode → Asked
@@ -93,8 +89,7 @@ last_argument (a ∷ []) = a
 last_argument (a ∷ (b ∷ ar)) = last_argument (b ∷ ar)
 
 abbrev pub is_qualified : Qualification → Bool
-is_qualified None = false
-is_qualified (Test o f v) = true
+is_qualified q = is_some q
 
 module _ (cat : Bytes) (list : Bytes) where
   -- R31: the empty list is not completed; the others, down to the last argument's type

@@ -1,21 +1,17 @@
 -- The calls (R32 to R47), over the cells by number: each finds, answers and says what becomes of the cells, the area and the position.
 -- The refusals that look only at what is lent stand in Outcome. Assumes nothing: these are definitions.
-use Rattle.std.specs.Prelude.{Bool, true, false, ◌&&◌, not, List, [], ◌∷◌, ◌++◌, ℕ, suc, ◌+◌, ◌-◌, ltb, eqb, length, drop}
-use Rattle.std.proofs.Math.Option.{Option, none, some}
+use Rattle.terms.specs.declared.CellNumber.{CellNumber}
+use Rattle.std.specs.Prelude.{Bool, true, false, ◌&&◌, not, List, [], ◌∷◌, ◌++◌, ℕ, suc, ◌+◌, ◌-◌, ltb, eqb, length, drop, Some, None, Option}
 use Rattle.terms.specs.declared.TypeCode.{TypeCode}
 use Rattle.terms.specs.declared.Place.{Place}
 use Rattle.terms.specs.declared.Place.TheVariants.{On, Before}
-use Rattle.terms.specs.declared.Parentage.{Parentage}
-use Rattle.terms.specs.declared.Parentage.TheVariants.{Absent, Of}
 use Rattle.terms.specs.declared.Position.{Position}
 use Rattle.terms.specs.declared.Argument.{Argument}
 use Rattle.terms.specs.declared.Status.{Status}
 use Rattle.terms.specs.declared.Status.TheVariants.{Blank, GA, GK, GB, GE, DA, II, FX, PD}
-use Rattle.terms.specs.declared.Found.{Found}
-use Rattle.terms.specs.declared.Found.TheVariants.{At, Nothing}
 use Rattle.terms.specs.declared.Answer.{Answer}
 use Rattle.terms.specs.Choice.{pick}
-use Rattle.terms.specs.Names.{code, cell, same_type}
+use Rattle.terms.specs.Names.{code, cell, same_type, Parentage}
 use Rattle.terms.specs.Statuses.{number}
 use Rattle.terms.specs.Moves.{fresh, place_number, after_place, moved_onto, hold_dropped, after_insert, after_delete}
 use Rattle.forest.specs.Numbers.{range, is_in}
@@ -40,14 +36,14 @@ bare s p = record { status = s; position = p; code = code 0; level = 0; length =
 
 -- R62: what a refusal leaves
 abbrev pub refused : Status → Position → Bytes → After
-refused s p area = record { answer = bare s p; change = nothing; cells = none; area = area }
+refused s p area = record { answer = bare s p; change = nothing; cells = None; area = area }
 
 -- R62: what GE and GP leave of the position; R63: what GB makes of it
 abbrev pub after_miss : Status → Position → Position
 after_miss s p = pick (eqb (number s) 10) fresh (hold_dropped p)
 
 abbrev pub missed : Status → Position → Bytes → After
-missed s p area = record { answer = bare s (after_miss s p); change = nothing; cells = none; area = area }
+missed s p area = record { answer = bare s (after_miss s p); change = nothing; cells = None; area = area }
 
 -- R37: bytes written to the front of the area
 abbrev pub over : Bytes → Bytes → Bytes
@@ -60,8 +56,8 @@ miss_status (l ∷ ls) = GE
 
 -- the parentage is one of these cells
 abbrev pub is_one_of : List ℕ → Parentage → Bool
-is_one_of above Absent = false
-is_one_of above (Of p) = is_in p.0 above
+is_one_of above None = false
+is_one_of above (Some p) = is_in p.0 above
 
 -- R32, R38: which call a number is, and whether it holds
 abbrev pub by_number : ℕ → (Bool → After) → (Bool → After) → (Bool → After) → After → After → After → After
@@ -77,7 +73,7 @@ module _ (cat : Bytes) where
 
   -- ISRT, REPL and DLET done: the change, and these are the cells now
   unfoldable pub changed : Position → Segment → ℕ → Change → List Segment → Bytes → After
-  changed p x removed ch cs area = record { answer = answer_of Blank p x removed; change = ch; cells = some cs; area = area }
+  changed p x removed ch cs area = record { answer = answer_of Blank p x removed; change = ch; cells = Some cs; area = area }
 
   module _ (cs : List Segment) where
     -- R49: GA, GK or blank
@@ -90,8 +86,8 @@ module _ (cat : Bytes) where
 
     -- the end of the cells beneath the parentage; none are beneath an absent one
     abbrev pub parent_end : Parentage → ℕ
-    parent_end Absent = 0
-    parent_end (Of p) = end_at cat cs p.0
+    parent_end None = 0
+    parent_end (Some p) = end_at cat cs p.0
 
     -- R59: a twin among the n cells from i on has this unique key
     unfoldable pub key_taken : Segment → ℕ → ℕ → Bool
@@ -99,22 +95,22 @@ module _ (cat : Bytes) where
 
   module _ (cs : List Segment) (pos : Position) (area : Bytes) where
     -- a get, from what was found: the status where nothing was, the status of a cell, and the parentage after it
-    abbrev pub gotten : Status → (ℕ → Status) → (ℕ → Parentage) → Bool → Found → After
-    gotten miss status parentage hold Nothing = missed miss pos area
-    gotten miss status parentage hold (At c) = record {
+    abbrev pub gotten : Status → (ℕ → Status) → (ℕ → Parentage) → Bool → Option CellNumber → After
+    gotten miss status parentage hold None = missed miss pos area
+    gotten miss status parentage hold (Some c) = record {
       answer = answer_of (status c.0) (moved_onto c.0 (parentage c.0) hold) (segment cs c.0) 0;
       change = nothing;
-      cells = none;
+      cells = None;
       area = over (shown_bytes cat (segment cs c.0)) area;
     }
 
     -- GU (R33, R36): along the position, and what was found is the parentage
     unfoldable pub get_unique : Bool → List Level → After
-    get_unique hold ls = gotten GE (λ i. Blank) (λ i. Of (cell i)) hold (along cat cs ls pos.place)
+    get_unique hold ls = gotten GE (λ i. Blank) (λ i. Some (cell i)) hold (along cat cs ls pos.place)
 
     -- GN (R34, R36): from the cell after the place on
     unfoldable pub get_next : Bool → List Level → After
-    get_next hold ls = gotten (miss_status ls) (level_status cs ls pos.place) (λ i. Of (cell i)) hold (first_match cat cs ls (after_place pos.place) (length cs))
+    get_next hold ls = gotten (miss_status ls) (level_status cs ls pos.place) (λ i. Some (cell i)) hold (first_match cat cs ls (after_place pos.place) (length cs))
 
     -- GNP (R35). The cells after the place and beneath p are those up to the end of p's run.
     unfoldable pub get_next_within : Bool → List Level → After
@@ -137,9 +133,9 @@ module _ (cat : Bytes) where
         inserted m x above (key_taken cs x i n) r (applied (put r (x ∷ [])) cs)
 
     -- R51: GE without a parent
-    abbrev pub insert_under : ℕ → Segment → Found → After
-    insert_under m x Nothing = missed GE pos area
-    insert_under m x (At c) = insert_among m x (row_at cat cs c.0) (suc c.0) (run_at cat cs c.0 - 1)
+    abbrev pub insert_under : ℕ → Segment → Option CellNumber → After
+    insert_under m x None = missed GE pos area
+    insert_under m x (Some c) = insert_among m x (row_at cat cs c.0) (suc c.0) (run_at cat cs c.0 - 1)
 
     -- ISRT (R39 to R42): the parent by the levels, and the new segment among its twins
     unfoldable pub insert : ℕ → TypeCode → List Level → After

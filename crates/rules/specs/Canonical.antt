@@ -1,9 +1,8 @@
 -- A position and its block of 8 bytes say the same. Every position is read back from its block; every block that is one is the block of the position that is
 -- read from it, byte by byte; no other block stands for a position that is good in any table. Assumes nothing: these are definitions, and the proof is in
 -- proofs/.
-use Rattle.std.specs.Prelude.{◌≡◌, true, List, ℕ, ◌<◌}
-use Rattle.terms.specs.declared.Parentage.{Parentage}
-use Rattle.terms.specs.declared.Parentage.TheVariants.{Absent, Of}
+use Rattle.terms.specs.Names.{Parentage}
+use Rattle.std.specs.Prelude.{◌≡◌, true, List, ℕ, ◌<◌, None, Some}
 use Rattle.terms.specs.declared.Position.{Position}
 use Rattle.terms.specs.Moves.{place_number}
 use Rattle.rules.specs.Block.{Bytes, byte}
@@ -11,8 +10,8 @@ use Rattle.rules.specs.Cells.{Segment}
 use Rattle.rules.specs.Position.{good_position, position_bytes, good_block, position_of}
 
 abbrev pub parent_number : Parentage → ℕ
-parent_number Absent = 0
-parent_number (Of p) = p.0
+parent_number None = 0
+parent_number (Some p) = p.0
 
 pub record Canonical : Type 0 where
   -- from a position to its block, which is a block, and back; two bytes hold a number below 65,536

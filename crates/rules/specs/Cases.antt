@@ -15,16 +15,14 @@ pub mod Listings
 pub mod Untrue
 pub mod Numbers
 pub mod Packed
-use Rattle.std.specs.Prelude.{Bool, true, false, ◌&&◌, not, List, [], ◌∷◌, ◌++◌, ℕ, eqb, length, take}
+use Rattle.std.specs.Prelude.{Bool, true, false, ◌&&◌, not, List, [], ◌∷◌, ◌++◌, ℕ, eqb, length, take, None, Some}
 use Prim.Native.Char.{code as char_code}
 use Prim.Native.String as Text
 use Rattle.terms.specs.declared.Place.{Place}
 use Rattle.terms.specs.declared.Place.TheVariants.{On, Before}
-use Rattle.terms.specs.declared.Parentage.{Parentage}
-use Rattle.terms.specs.declared.Parentage.TheVariants.{Absent, Of}
 use Rattle.terms.specs.declared.Position.{Position}
 use Rattle.terms.specs.declared.Status.{Status}
-use Rattle.terms.specs.Names.{cell}
+use Rattle.terms.specs.Names.{cell, Parentage}
 use Rattle.terms.specs.Statuses.{number}
 use Rattle.rules.specs.Block.{Bytes}
 use Rattle.rules.specs.Table.{count, segment_at}
@@ -45,7 +43,7 @@ abbrev pub gap : ℕ → Place
 gap i = Before (cell i)
 
 abbrev pub parent : ℕ → Parentage
-parent p = Of (cell p)
+parent p = Some (cell p)
 
 abbrev pub position : Place → Parentage → Bool → Position
 position q p h = record { place = q; parentage = p; hold = h }
@@ -115,16 +113,16 @@ same_place (On c) q = stands_on c.0 q
 same_place (Before c) q = is_gap c.0 q
 
 abbrev pub is_parent : ℕ → Parentage → Bool
-is_parent i Absent = false
-is_parent i (Of p) = eqb p.0 i
+is_parent i None = false
+is_parent i (Some p) = eqb p.0 i
 
 abbrev pub is_none : Parentage → Bool
-is_none Absent = true
-is_none (Of p) = false
+is_none None = true
+is_none (Some p) = false
 
 abbrev pub same_parentage : Parentage → Parentage → Bool
-same_parentage Absent q = is_none q
-same_parentage (Of c) q = is_parent c.0 q
+same_parentage None q = is_none q
+same_parentage (Some c) q = is_parent c.0 q
 
 abbrev pub same_test : Bool → Bool → Bool
 same_test true b = b

@@ -1,11 +1,11 @@
 -- The table as cells by number (R13 to R17): segments, the order of values, twins, levels, runs, ancestors, and which listings are well formed.
 -- No byte of a table block is named here, so that a second layout can use it. Assumes nothing: these are definitions.
+use Rattle.std.specs.declared.cmp.Ordering.{Ordering}
 use Rattle.std.specs.Prelude.{Bool, true, ◌&&◌, ◌||◌, not, List, [], ◌∷◌, ℕ, ◌+◌, ◌-◌, ltb, eqb, length, get_or, take}
 use Rattle.terms.specs.declared.TypeCode.{TypeCode}
-use Rattle.terms.specs.declared.Order.{Order}
 use Rattle.terms.specs.Choice.{pick}
 use Rattle.terms.specs.Names.{code, same_type}
-use Rattle.terms.specs.Operators.{is_smaller, is_equal, is_greater}
+use Rattle.std.specs.Ordering.{is_lt, is_eq, is_gt}
 use Rattle.forest.specs.Forest.{forest_of}
 use Rattle.forest.specs.Good.{formed}
 use Rattle.forest.specs.Groups.{ok}
@@ -56,18 +56,18 @@ module _ (cat : Bytes) where
   keyed s = is_value (key_value cat s.code) (key s)
 
   -- how the key of c stands to that of d, a segment of the same type
-  unfoldable pub key_order : Segment → Segment → Order
+  unfoldable pub key_order : Segment → Segment → Ordering
   key_order c d = value_order (key_value cat c.code) (key c) (key d)
 
   -- R15: c may stand before its twin d
   unfoldable pub twin_order : Segment → Segment → Bool
   twin_order c d =
       pick (eqb (key_kind cat c.code) 0) true
-      (pick (eqb (key_kind cat c.code) 1) (is_smaller (key_order c d)) (not (is_greater (key_order c d))))
+      (pick (eqb (key_kind cat c.code) 1) (is_lt (key_order c d)) (not (is_gt (key_order c d))))
 
   -- a twin with the same key
   unfoldable pub same_key : Segment → Segment → Bool
-  same_key c d = same_type c.code d.code && is_equal (key_order c d)
+  same_key c d = same_type c.code d.code && is_eq (key_order c d)
 
   -- a segment whose type has parent p; the top has parent 0
   unfoldable pub is_child : ℕ → Segment → Bool
@@ -79,7 +79,7 @@ module _ (cat : Bytes) where
 
   -- R41: a new segment x stands before its sibling c, which is one of a later group or a twin of greater key
   unfoldable pub goes_before : Segment → Segment → Bool
-  goes_before x c = ltb (type_number x) (type_number c) || (same_type x.code c.code && is_smaller (key_order x c))
+  goes_before x c = ltb (type_number x) (type_number c) || (same_type x.code c.code && is_lt (key_order x c))
 
   abbrev pub segment_level : Segment → ℕ
   segment_level s = level cat s.code

@@ -1,9 +1,9 @@
 -- One name that opens every definition for computing: a claim that says `unfolding computed` computes with them all. Each opening before it opens the
 -- definitions of one part. Assumes nothing.
-use Rattle.std.specs.Prelude.{Bool, false, ℕ}
+use Rattle.terms.specs.declared.CellNumber.{CellNumber}
+use Rattle.std.specs.Prelude.{Bool, false, ℕ, Option}
 use mathlib.Core.List.{List, flat_map}
 use Rattle.terms.specs.declared.TypeCode.{TypeCode}
-use Rattle.terms.specs.declared.Found.{Found}
 use Rattle.terms.specs.declared.Place.{Place}
 use Rattle.terms.specs.declared.Position.{Position}
 use Rattle.terms.specs.Operators.{operator_of}
@@ -74,7 +74,7 @@ unfoldable pub list_computed : Bytes → Bytes → TypeCode → List Level
 unfolding fields_computed is_number is_value operator_of good_next is_field_of argument_at arguments_from list_read asked_of complete
 list_computed cat list t = complete cat list (list_read cat list).arguments t
 
-unfoldable pub search_computed : Bytes → List Segment → List Level → Place → Found
+unfoldable pub search_computed : Bytes → List Segment → List Level → Place → Option CellNumber
 unfolding cells_computed list_computed field_bytes tested agrees path_to agree matches seek first_match kept_on along
 search_computed cat cs ls q = along cat cs ls q
 

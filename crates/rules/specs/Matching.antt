@@ -1,11 +1,10 @@
 -- Which segments match a list: the first one after a place, beneath a cell, along the position. Assumes nothing: these are definitions.
-use Rattle.std.specs.Prelude.{Bool, true, false, ◌&&◌, List, [], ◌∷◌, reverse, ℕ, zero, suc, ◌-◌, eqb, length}
+use Rattle.terms.specs.declared.CellNumber.{CellNumber}
+use Rattle.std.specs.Prelude.{Bool, true, false, ◌&&◌, List, [], ◌∷◌, reverse, ℕ, zero, suc, ◌-◌, eqb, length, Some, None, Option}
 use Rattle.terms.specs.declared.FieldNumber.{FieldNumber}
 use Rattle.terms.specs.declared.Operator.{Operator}
 use Rattle.terms.specs.declared.Place.{Place}
 use Rattle.terms.specs.declared.Place.TheVariants.{On, Before}
-use Rattle.terms.specs.declared.Found.{Found}
-use Rattle.terms.specs.declared.Found.TheVariants.{At, Nothing}
 use Rattle.terms.specs.Choice.{pick}
 use Rattle.terms.specs.Names.{cell, same_type}
 use Rattle.terms.specs.Operators.{holds}
@@ -55,33 +54,33 @@ module _ (cat : Bytes) where
     matches (l ∷ ls) i = agree (l ∷ ls) (path_to i)
 
     -- the first match among n cells from cell i on
-    unfoldable pub seek : List Level → ℕ → ℕ → Found
-    seek ls i zero = Nothing
-    seek ls i (suc n) = elim (matches ls i) [ true ↦ At (cell i) | false ↦ seek ls (suc i) n ]
+    unfoldable pub seek : List Level → ℕ → ℕ → Option CellNumber
+    seek ls i zero = None
+    seek ls i (suc n) = elim (matches ls i) [ true ↦ Some (cell i) | false ↦ seek ls (suc i) n ]
 
     -- the first match from cell i on that lies before cell e
-    unfoldable pub first_match : List Level → ℕ → ℕ → Found
+    unfoldable pub first_match : List Level → ℕ → ℕ → Option CellNumber
     first_match ls i e = seek ls i (e - i)
 
     -- R30: the cell at which what is kept of the stretch ends; q is what was kept so far
-    unfoldable pub kept_on : List Level → List ℕ → Found → Found
+    unfoldable pub kept_on : List Level → List ℕ → Option CellNumber → Option CellNumber
     kept_on [] path q = q
     kept_on (l ∷ ls) [] q = q
     kept_on (l ∷ ls) (i ∷ path) q = elim (agrees l (segment cs i)) [
-      | true ↦ kept_on ls path (pick (is_implied l.asked) (At (cell i)) q)
+      | true ↦ kept_on ls path (pick (is_implied l.asked) (Some (cell i)) q)
       | false ↦ q
     ]
 
     -- R30, R31: what is kept from a place
-    abbrev pub kept : List Level → Place → Found
-    kept ls (On c) = kept_on ls (path_to c.0) Nothing
-    kept ls (Before c) = Nothing
+    abbrev pub kept : List Level → Place → Option CellNumber
+    kept ls (On c) = kept_on ls (path_to c.0) None
+    kept ls (Before c) = None
 
     -- R30: where what is left of the list is sought
-    abbrev pub sought_beneath : List Level → Found → Found
-    sought_beneath ls Nothing = first_match ls 0 (length cs)
-    sought_beneath ls (At c) = pick (eqb (level_at cat cs c.0) (length ls)) (At c) (first_match ls (suc c.0) (end_at cat cs c.0))
+    abbrev pub sought_beneath : List Level → Option CellNumber → Option CellNumber
+    sought_beneath ls None = first_match ls 0 (length cs)
+    sought_beneath ls (Some c) = pick (eqb (level_at cat cs c.0) (length ls)) (Some c) (first_match ls (suc c.0) (end_at cat cs c.0))
 
     -- R30: the first match along the position
-    unfoldable pub along : List Level → Place → Found
+    unfoldable pub along : List Level → Place → Option CellNumber
     along ls q = sought_beneath ls (kept ls q)

@@ -1,7 +1,6 @@
 -- The promise of a call, from bytes to bytes: the order of the refusals, then the call itself. With it the checks and the maker.
 -- Assumes nothing: these are definitions.
-use Rattle.std.specs.Prelude.{Bool, ◌&&◌, ◌||◌, not, List, [], ℕ, ◌-◌, ltb, leb, eqb, length}
-use Rattle.std.proofs.Math.Option.{Option, none, some}
+use Rattle.std.specs.Prelude.{Bool, ◌&&◌, ◌||◌, not, List, [], ℕ, ◌-◌, ltb, leb, eqb, length, None, Some, Option}
 use Rattle.terms.specs.declared.Position.{Position}
 use Rattle.terms.specs.declared.Argument.{Argument}
 use Rattle.terms.specs.declared.Status.{Status}
@@ -86,8 +85,8 @@ after_call call cat tab pos c list area = unless (unsound cat tab pos) pos area 
 
 -- the table's bytes afterwards: as they were, or those of the new cells
 abbrev pub table_after : Bytes → Bytes → Option (List Segment) → Bytes
-table_after cat tab none = tab
-table_after cat tab (some cs) = table_bytes cat (room cat tab) cs
+table_after cat tab None = tab
+table_after cat tab (Some cs) = table_bytes cat (room cat tab) cs
 
 abbrev pub landed : Bytes → Bytes → After → Outcome
 landed cat tab a = record { answer = a.answer; table = table_after cat tab a.cells; area = a.area }

@@ -1,7 +1,7 @@
 -- Packed decimal (R86 to R88): which bytes are a number, and how the values of two stand to each other. Assumes nothing: these are definitions.
+use Rattle.std.specs.declared.cmp.Ordering.{Ordering}
+use Rattle.std.specs.declared.cmp.Ordering.TheVariants.{Equal, Greater, Less}
 use Rattle.std.specs.Prelude.{Bool, true, false, ◌&&◌, ◌||◌, [], ◌∷◌, ℕ, ◌+◌, ◌-◌, ◌*◌, ◌/◌, ◌%◌, ltb, leb, eqb, length}
-use Rattle.terms.specs.declared.Order.{Order}
-use Rattle.terms.specs.declared.Order.TheVariants.{Smaller, Equal, Greater}
 use Rattle.terms.specs.Choice.{pick}
 use Rattle.rules.specs.Block.{Bytes, byte}
 
@@ -35,9 +35,9 @@ above b = pick (is_minus b) 0 (magnitude b)
 unfoldable pub below : Bytes → ℕ
 below b = pick (is_minus b) (magnitude b) 0
 
-unfoldable pub number_order : ℕ → ℕ → Order
-number_order n m = pick (ltb n m) Smaller (pick (eqb n m) Equal Greater)
+unfoldable pub number_order : ℕ → ℕ → Ordering
+number_order n m = pick (ltb n m) Less (pick (eqb n m) Equal Greater)
 
 -- R88: how above a - below a stands to above b - below b, as whole numbers
-unfoldable pub packed_order : Bytes → Bytes → Order
+unfoldable pub packed_order : Bytes → Bytes → Ordering
 packed_order a b = number_order (above a + below b) (above b + below a)

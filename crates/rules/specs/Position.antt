@@ -1,12 +1,10 @@
 -- Positions (R18 to R22): which are good; and the block of 8 bytes (R23). Assumes nothing: these are definitions.
-use Rattle.std.specs.Prelude.{Bool, true, ◌&&◌, not, List, [], ◌∷◌, ◌++◌, ltb, leb, eqb, length}
+use Rattle.std.specs.Prelude.{Bool, true, ◌&&◌, not, List, [], ◌∷◌, ◌++◌, ltb, leb, eqb, length, None, Some}
 use Rattle.terms.specs.declared.Place.{Place}
 use Rattle.terms.specs.declared.Place.TheVariants.{On, Before}
-use Rattle.terms.specs.declared.Parentage.{Parentage}
-use Rattle.terms.specs.declared.Parentage.TheVariants.{Absent, Of}
 use Rattle.terms.specs.declared.Position.{Position}
 use Rattle.terms.specs.Choice.{pick}
-use Rattle.terms.specs.Names.{cell}
+use Rattle.terms.specs.Names.{cell, Parentage}
 use Rattle.forest.specs.Numbers.{is_in}
 use Rattle.rules.specs.Block.{Bytes, byte, word, word_bytes}
 use Rattle.rules.specs.Cells.{Segment, end_at, row_at}
@@ -20,9 +18,9 @@ module _ (cat : Bytes) (cs : List Segment) where
 
   -- R20: which parentage may go with a place
   abbrev pub good_parentage : Place → Parentage → Bool
-  good_parentage q Absent = true
-  good_parentage (On c) (Of p) = is_in p.0 (row_at cat cs c.0)
-  good_parentage (Before c) (Of p) = ltb p.0 c.0 && leb c.0 (end_at cat cs p.0)
+  good_parentage q None = true
+  good_parentage (On c) (Some p) = is_in p.0 (row_at cat cs c.0)
+  good_parentage (Before c) (Some p) = ltb p.0 c.0 && leb c.0 (end_at cat cs p.0)
 
   -- R21: a hold is on a cell
   abbrev pub good_hold : Place → Bool → Bool
@@ -38,15 +36,15 @@ place_bytes (Before c) = 0 ∷ word_bytes c.0
 place_bytes (On c) = 1 ∷ word_bytes c.0
 
 abbrev pub parentage_bytes : Parentage → Bytes
-parentage_bytes Absent = 0 ∷ 0 ∷ 0 ∷ []
-parentage_bytes (Of c) = 1 ∷ word_bytes c.0
+parentage_bytes None = 0 ∷ 0 ∷ 0 ∷ []
+parentage_bytes (Some c) = 1 ∷ word_bytes c.0
 
 unfoldable pub position_bytes : Position → Bytes
 position_bytes p = place_bytes p.place ++ (parentage_bytes p.parentage ++ (pick p.hold 1 0 ∷ 0 ∷ []))
 
 -- R23: a hold in a gap, which no table has, stands for every block that is none
 abbrev pub nowhere : Position
-nowhere = record { place = Before (cell 0); parentage = Absent; hold = true }
+nowhere = record { place = Before (cell 0); parentage = None; hold = true }
 
 unfoldable pub good_block : Bytes → Bool
 good_block b =
@@ -56,5 +54,5 @@ good_block b =
 unfoldable pub position_of : Bytes → Position
 position_of b =
     pick (good_block b)
-    (record { place = pick (eqb (byte b 0) 1) (On (cell (word b 1))) (Before (cell (word b 1))); parentage = pick (eqb (byte b 3) 1) (Of (cell (word b 4))) Absent; hold = eqb (byte b 6) 1 })
+    (record { place = pick (eqb (byte b 0) 1) (On (cell (word b 1))) (Before (cell (word b 1))); parentage = pick (eqb (byte b 3) 1) (Some (cell (word b 4))) None; hold = eqb (byte b 6) 1 })
     nowhere

@@ -1,19 +1,16 @@
 -- The calls over the FOREST of the segments, in the terms of document 000, appendix I; the numbers in brackets are its formulas. Where the rules
 -- differ they decide, and the line cites them. What becomes of the position is said of paths (Paths), and not of cells.
 -- Assumes nothing: these are definitions.
-use Rattle.std.specs.Prelude.{Bool, true, false, ◌&&◌, ◌||◌, not, List, [], ◌∷◌, ◌++◌, map, ℕ, suc, ◌+◌, ◌-◌, ltb, leb, eqb, length, take, drop, get_or}
-use Rattle.std.proofs.Math.Option.{Option, none, some}
+use Rattle.std.specs.Prelude.{Bool, true, false, ◌&&◌, ◌||◌, not, List, [], ◌∷◌, ◌++◌, map, ℕ, suc, ◌+◌, ◌-◌, ltb, leb, eqb, length, take, drop, get_or, None, Some, Option}
 use Rattle.terms.specs.declared.TypeCode.{TypeCode}
 use Rattle.terms.specs.declared.Place.{Place}
 use Rattle.terms.specs.declared.Place.TheVariants.{On, Before}
-use Rattle.terms.specs.declared.Parentage.{Parentage}
-use Rattle.terms.specs.declared.Parentage.TheVariants.{Absent, Of}
 use Rattle.terms.specs.declared.Position.{Position}
 use Rattle.terms.specs.declared.Argument.{Argument}
 use Rattle.terms.specs.declared.Status.{Status}
 use Rattle.terms.specs.declared.Status.TheVariants.{Blank, GA, GK, GE, DA, II, FX, PD}
 use Rattle.terms.specs.Choice.{pick}
-use Rattle.terms.specs.Names.{same_type}
+use Rattle.terms.specs.Names.{same_type, Parentage}
 use Rattle.forest.specs.Forest.{Forest, void, node, cells_of, forest_of}
 use Rattle.forest.specs.Rows.{map_f}
 use Rattle.forest.specs.Edit.{size, kids}
@@ -96,8 +93,8 @@ module _ (cat : Bytes) (cs : List Segment) where
   current_of (Before c) = in_gap c.0
 
   abbrev pub parent_path : Parentage → Option Path
-  parent_path Absent = none
-  parent_path (Of c) = some (path_at c.0)
+  parent_path None = None
+  parent_path (Some c) = Some (path_at c.0)
 
   abbrev pub standing : Position → Standing
   standing pos = record { current = current_of pos.place; parent = parent_path pos.parentage; hold = pos.hold }
@@ -127,7 +124,7 @@ module _ (cat : Bytes) (cs : List Segment) where
   module _ (here : Standing) (area : Bytes) where
     -- nothing but the position may change, and the answer tells a status alone
     abbrev pub answered : Status → Standing → After
-    answered s now = record { answer = bare s (numbered now); change = nothing; cells = none; area = area }
+    answered s now = record { answer = bare s (numbered now); change = nothing; cells = None; area = area }
 
     -- (41) to (43) from the paths, which stand in hierarchic order, so that first-path (20) is the first. Where there is none, `pos` is what R62 and R63
     -- make of the position
@@ -136,7 +133,7 @@ module _ (cat : Bytes) (cs : List Segment) where
     retrieved miss unfound status moved (p ∷ ps) = record {
       answer = answer_of cat (status p) (numbered (moved p)) (segment cs (end p)) 0;
       change = nothing;
-      cells = none;
+      cells = None;
       area = over (shown_bytes cat (segment cs (end p))) area;
     }
 

@@ -1,4 +1,5 @@
 -- The laws of a search, in the shape of the code's branches: over good blocks, with what the code has read. Assumes nothing.
+use Rattle.std.specs.Prelude.{Some, None}
 use mathlib.Core.Path.{◌≡◌, refl, ap, sym, ◌∙◌}
 use mathlib.Core.Bool.{Bool, true, false, ◌&&◌}
 use mathlib.Core.List.{List, [], ◌∷◌}
@@ -13,7 +14,6 @@ use Rattle.terms.specs.declared.TypeCode.{TypeCode}
 use Rattle.terms.specs.declared.CellNumber.{CellNumber}
 use Rattle.terms.specs.declared.Place.{Place}
 use Rattle.terms.specs.declared.Place.TheVariants.{On, Before}
-use Rattle.terms.specs.declared.Found.TheVariants.{At, Nothing}
 use Rattle.terms.specs.Choice.{pick}
 use Rattle.terms.specs.Names.{cell}
 use Rattle.forest.specs.Forest.{inside, outside, side}
@@ -49,11 +49,11 @@ use Rattle.arguments.proofs.Sound.{last-asks, list-empty}
 
 -- the first match before e, cell by cell
 module _ (cat : Bytes) (cs : List Segment) (ls : List Level) (i e : ℕ) where
-  pub first-none : e ≤ i → Nothing ≡ first_match cat cs ls i e
+  pub first-none : e ≤ i → None ≡ first_match cat cs ls i e
   unfolding first_match
   first-none h = let z : e - i ≡ 0 = omega arith in sym (ap (seek cat cs ls i) z ∙ seek-none cat cs ls i)
 
-  first-here : i < e → matches cat cs ls i ≡ true → At (cell i) ≡ first_match cat cs ls i e
+  first-here : i < e → matches cat cs ls i ≡ true → Some (cell i) ≡ first_match cat cs ls i e
   unfolding first_match
   first-here h m = sym (seek-here cat cs ls i (e - i) (omega arith) m)
 
@@ -69,19 +69,19 @@ every-match cat cs i = refl
 
 -- the parent that climbing finds
 module _ (cat : Bytes) (cs : List Segment) (i : ℕ) where
-  pub parent-none : Nothing ≡ parent_at cat cs i → ancestors (level_at cat cs) i ≡ []
+  pub parent-none : None ≡ parent_at cat cs i → ancestors (level_at cat cs) i ≡ []
   unfolding parent_at
   parent-none e = elim (back-parts (level_at cat cs) (level_at cat cs i) i) [
     | inl f ↦ f
-    | inr r ↦ absurd (let z : Nothing ≡ At (cell r.0) = e ∙ ap nearest r.3 in let y : ◌≡◌ {A = ℕ} 0 1 = cc in omega arith)
+    | inr r ↦ absurd (let z : None ≡ Some (cell r.0) = e ∙ ap nearest r.3 in let y : ◌≡◌ {A = ℕ} 0 1 = cc in omega arith)
   ]
 
-  pub parent-some : (c : CellNumber) → At c ≡ parent_at cat cs i → (c.0 < i) × (ancestors (level_at cat cs) i ≡ c.0 ∷ ancestors (level_at cat cs) c.0)
+  pub parent-some : (c : CellNumber) → Some c ≡ parent_at cat cs i → (c.0 < i) × (ancestors (level_at cat cs) i ≡ c.0 ∷ ancestors (level_at cat cs) c.0)
   unfolding parent_at
   parent-some c e = elim (back-parts (level_at cat cs) (level_at cat cs i) i) [
-    | inl f ↦ absurd (let z : At c ≡ Nothing = e ∙ ap nearest f in let y : ◌≡◌ {A = ℕ} 0 1 = cc in omega arith)
+    | inl f ↦ absurd (let z : Some c ≡ None = e ∙ ap nearest f in let y : ◌≡◌ {A = ℕ} 0 1 = cc in omega arith)
     | inr r ↦
-        let z : At c ≡ At (cell r.0) = e ∙ ap nearest r.3 in
+        let z : Some c ≡ Some (cell r.0) = e ∙ ap nearest r.3 in
         let y : c ≡ cell r.0 = cc in
         rw y (r.1, r.3)
   ]
@@ -163,7 +163,7 @@ module _ {cat tab list : Bytes} {size : ℕ} {t : TypeCode} (g : Good cat tab li
   before-cell (suc i) r n e = let z : suc i - 1 ≡ i = omega arith in ap (λ (x : Reached). x.long) e ∙ ap (stretch cat cs ls) z
 
   module _ (i l long last to : ℕ) (h : i < to) (w : to ≤ count tab) (s : 0 < t.0) (e : l ≡ lev i) (f : long ≡ stretch cat cs ls i) (z : last ≡ level cat t) where
-    pub turn-found : l ≡ last → long ≡ last → At (cell i) ≡ first_match cat cs ls i to
+    pub turn-found : l ≡ last → long ≡ last → Some (cell i) ≡ first_match cat cs ls i to
     turn-found a b =
         first-here cat cs ls i to h (match-yes cat cs ls (count tab) steps i (omega arith) (some_level s) (omega (arith, last-level)) (omega (arith, last-level)))
 
@@ -218,7 +218,7 @@ module _ {cat tab list : Bytes} {size : ℕ} {t : TypeCode} (g : Good cat tab li
       e ∙ sym (matched-stretch i (omega arith) s (rw z at (c (omega arith))))
 
   -- R29: with an empty list the first cell is the match
-  pub all-match : (i to : ℕ) → t.0 ≡ 0 → i < to → At (cell i) ≡ first_match cat cs ls i to
+  pub all-match : (i to : ℕ) → t.0 ≡ 0 → i < to → Some (cell i) ≡ first_match cat cs ls i to
   all-match i to e h = first-here cat cs ls i to h (none ls (no-level e))
     where
       none : (ms : List Level) → length ms ≡ 0 → matches cat cs ms i ≡ true
@@ -229,26 +229,26 @@ module _ {cat tab list : Bytes} {size : ℕ} {t : TypeCode} (g : Good cat tab li
   abbrev Whole : CellNumber → Type 0
   Whole c = (c.0 < count tab) × (stretch cat cs ls c.0 ≡ lev c.0)
 
-  kept_above : (i : ℕ) (c : CellNumber) → ((p : ℕ) → p < i → At c ≡ kept_on cat cs ls (path_to cat cs p) Nothing → Whole c)
-      → At c ≡ kept_tried cat cs ls (ancestors lev i) → Whole c
+  kept_above : (i : ℕ) (c : CellNumber) → ((p : ℕ) → p < i → Some c ≡ kept_on cat cs ls (path_to cat cs p) None → Whole c)
+      → Some c ≡ kept_tried cat cs ls (ancestors lev i) → Whole c
   kept_above i c rec e = elim (back-parts lev (lev i) i) [
-    | inl f ↦ absurd (let y : At c ≡ Nothing = e ∙ ap (kept_tried cat cs ls) f ∙ kept-none cat cs ls Nothing in let z : ◌≡◌ {A = ℕ} 0 1 = cc in omega arith)
+    | inl f ↦ absurd (let y : Some c ≡ None = e ∙ ap (kept_tried cat cs ls) f ∙ kept-none cat cs ls None in let z : ◌≡◌ {A = ℕ} 0 1 = cc in omega arith)
     | inr r ↦ rec r.0 r.1 (e ∙ ap (kept_tried cat cs ls) r.3 ∙ sym (kept_row cat cs ls (count tab) steps r.0))
   ]
 
-  kept_whole : (n i : ℕ) (c : CellNumber) → i < n → i < count tab → At c ≡ kept_on cat cs ls (path_to cat cs i) Nothing → Whole c
+  kept_whole : (n i : ℕ) (c : CellNumber) → i < n → i < count tab → Some c ≡ kept_on cat cs ls (path_to cat cs i) None → Whole c
   kept_whole zero i c l h e = absurd (omega arith)
   kept_whole (suc n) i c l h e =
-      let rec : (p : ℕ) → p < i → At c ≡ kept_on cat cs ls (path_to cat cs p) Nothing → Whole c = (λ p x y. kept_whole n p c (omega arith) (omega arith) y) in
+      let rec : (p : ℕ) → p < i → Some c ≡ kept_on cat cs ls (path_to cat cs p) None → Whole c = (λ p x y. kept_whole n p c (omega arith) (omega arith) y) in
       elim (side (stretch cat cs ls i) (lev i)) [
         | inside x ↦ kept_above i c rec (e ∙ kept-short cat cs ls (count tab) steps i h x)
         | outside x ↦
             let f : stretch cat cs ls i ≡ lev i = omega (arith, stretch-le cat cs ls (count tab) steps i h) in
             let m : Bool = head_implied cat cs (drop (lev i - 1) ls) in
-            let k : At c ≡ pick m (At (cell i)) (kept_tried cat cs ls (ancestors lev i)) = e ∙ kept_full cat cs ls (count tab) steps i h f in
+            let k : Some c ≡ pick m (Some (cell i)) (kept_tried cat cs ls (ancestors lev i)) = e ∙ kept_full cat cs ls (count tab) steps i h f in
             elim (is m) [
               | on b ↦
-                  let y : At c ≡ At (cell i) = rw b at k in
+                  let y : Some c ≡ Some (cell i) = rw b at k in
                   let z : c ≡ cell i = cc in
                   rw z (h, f)
               | off b ↦ kept_above i c rec (rw b at k)
@@ -262,10 +262,10 @@ module _ {cat tab list : Bytes} {size : ℕ} {t : TypeCode} (g : Good cat tab li
   unfolding reached
   kept-path q c r f e = ap (λ (x : Reached). x.kept) e ∙ sym (ap (kept cat cs ls) f)
 
-  pub kept-gap : (q : Place) (c : CellNumber) → q ≡ Before c → Nothing ≡ kept cat cs ls q
+  pub kept-gap : (q : Place) (c : CellNumber) → q ≡ Before c → None ≡ kept cat cs ls q
   kept-gap q c f = sym (ap (kept cat cs ls) f)
 
-  pub kept-place : (q : Place) (c : CellNumber) → good_place cat cs q ≡ true → At c ≡ kept cat cs ls q → Whole c
+  pub kept-place : (q : Place) (c : CellNumber) → good_place cat cs q ≡ true → Some c ≡ kept cat cs ls q → Whole c
   kept-place (On d) c e f = kept_whole (suc d.0) d.0 c (omega arith) (omega (arith, ltb-true d.0 (length cs) e, listing-length cat tab)) f
   kept-place (Before d) c e f = absurd (let z : ◌≡◌ {A = ℕ} 0 1 = cc in omega arith)
 
@@ -288,19 +288,19 @@ module _ {cat tab list : Bytes} {size : ℕ} {t : TypeCode} (g : Good cat tab li
 
   -- along the position, by what was kept
   module _ (q : Place) where
-    pub along-none : Nothing ≡ kept cat cs ls q → first_match cat cs ls 0 (count tab) ≡ along cat cs ls q
+    pub along-none : None ≡ kept cat cs ls q → first_match cat cs ls 0 (count tab) ≡ along cat cs ls q
     unfolding along
     along-none e = ap (first_match cat cs ls 0) (sym (listing-length cat tab)) ∙ ap (sought_beneath cat cs ls) e
 
-    module _ (c : CellNumber) (l : ℕ) (e : At c ≡ kept cat cs ls q) (f : l ≡ lev c.0) where
-      pub along-here : l ≡ level cat t → At c ≡ along cat cs ls q
+    module _ (c : CellNumber) (l : ℕ) (e : Some c ≡ kept cat cs ls q) (f : l ≡ lev c.0) where
+      pub along-here : l ≡ level cat t → Some c ≡ along cat cs ls q
       unfolding along
-      along-here z = sym (ap (λ (b : Bool). pick b (At c) (first_match cat cs ls (suc c.0) (end_at cat cs c.0))) (eq-eqb (lev c.0) (length ls) (omega (arith, last-level)))) ∙ ap (sought_beneath cat cs ls) e
+      along-here z = sym (ap (λ (b : Bool). pick b (Some c) (first_match cat cs ls (suc c.0) (end_at cat cs c.0))) (eq-eqb (lev c.0) (length ls) (omega (arith, last-level)))) ∙ ap (sought_beneath cat cs ls) e
 
       pub along-beneath : (l ≡ level cat t → ⊥) → first_match cat cs ls (c.0 + 1) (end_at cat cs c.0) ≡ along cat cs ls q
       unfolding along
       along-beneath n =
-          rw add-one (sym (ap (λ (b : Bool). pick b (At c) (first_match cat cs ls (suc c.0) (end_at cat cs c.0))) (ne_eqb (lev c.0) (length ls) (λ y. n (omega (arith, last-level)))))) ∙ ap (sought_beneath cat cs ls) e
+          rw add-one (sym (ap (λ (b : Bool). pick b (Some c) (first_match cat cs ls (suc c.0) (end_at cat cs c.0))) (ne_eqb (lev c.0) (length ls) (λ y. n (omega (arith, last-level)))))) ∙ ap (sought_beneath cat cs ls) e
 
 -- no cell from `from` on and before i is a root, one cell after the other
 abbrev pub NoRoot : List Segment → ℕ → ℕ → Type 0

@@ -1,4 +1,6 @@
 -- How the stretch goes on from cell to cell: one number is enough. Assumes nothing.
+use Rattle.terms.specs.declared.CellNumber.{CellNumber}
+use Rattle.std.specs.Prelude.{Some, None, Option}
 use mathlib.Core.Path.{◌≡◌, refl, ap, sym, ◌∙◌}
 use mathlib.Core.Bool.{Bool, true, false}
 use mathlib.Core.List.{List, [], ◌∷◌, ◌++◌, reverse, reverse-cons}
@@ -6,8 +8,6 @@ use mathlib.Core.Logic.{◌⊎◌, inl, inr}
 use Prim.Native.Nat.{ℕ, zero, suc, ◌-◌, ◌<◌, ◌≤◌}
 use native.Mathlib.Omega.{arith}
 use lib.ListN.{length, drop, length-reverse}
-use Rattle.terms.specs.declared.Found.{Found}
-use Rattle.terms.specs.declared.Found.TheVariants.{At, Nothing}
 use Rattle.terms.specs.Choice.{pick}
 use Rattle.terms.specs.Names.{cell}
 use Rattle.forest.specs.Forest.{inside, outside, side}
@@ -114,38 +114,38 @@ module _ (cat : Bytes) (cs : List Segment) where
   none-match (m ∷ ms) i l f = agree-not (m ∷ ms) (path_to cat cs i) f
 
   -- what is kept of a path with one cell more at its end
-  kept_in : (l : Level) (ls : List Level) (i : ℕ) (p : List ℕ) (q : Found) → agrees cat l (segment cs i) ≡ true
-      → kept_on cat cs (l ∷ ls) (i ∷ p) q ≡ kept_on cat cs ls p (pick (is_implied l.asked) (At (cell i)) q)
+  kept_in : (l : Level) (ls : List Level) (i : ℕ) (p : List ℕ) (q : Option CellNumber) → agrees cat l (segment cs i) ≡ true
+      → kept_on cat cs (l ∷ ls) (i ∷ p) q ≡ kept_on cat cs ls p (pick (is_implied l.asked) (Some (cell i)) q)
   unfolding kept_on
   kept_in l ls i p q e = rw (kept_on, e)
 
-  kept_out : (l : Level) (ls : List Level) (i : ℕ) (p : List ℕ) (q : Found) → agrees cat l (segment cs i) ≡ false → kept_on cat cs (l ∷ ls) (i ∷ p) q ≡ q
+  kept_out : (l : Level) (ls : List Level) (i : ℕ) (p : List ℕ) (q : Option CellNumber) → agrees cat l (segment cs i) ≡ false → kept_on cat cs (l ∷ ls) (i ∷ p) q ≡ q
   unfolding kept_on
   kept_out l ls i p q e = rw (kept_on, e)
 
-  pub kept-none : (ls : List Level) (q : Found) → kept_on cat cs ls [] q ≡ q
+  pub kept-none : (ls : List Level) (q : Option CellNumber) → kept_on cat cs ls [] q ≡ q
   unfolding kept_on
   kept-none [] q = refl
   kept-none (l ∷ ls) q = refl
 
-  kept_on_lem : (ls : List Level) (p : List ℕ) (i : ℕ) (q : Found) → try_path cat cs ls (p ++ (i ∷ [])) ≡ suc (length p)
-      → kept_on cat cs ls (p ++ (i ∷ [])) q ≡ pick (head_implied (drop (length p) ls)) (At (cell i)) (kept_on cat cs ls p q)
+  kept_on_lem : (ls : List Level) (p : List ℕ) (i : ℕ) (q : Option CellNumber) → try_path cat cs ls (p ++ (i ∷ [])) ≡ suc (length p)
+      → kept_on cat cs ls (p ++ (i ∷ [])) q ≡ pick (head_implied (drop (length p) ls)) (Some (cell i)) (kept_on cat cs ls p q)
   unfolding try_path
   kept_on_lem [] [] i q f = absurd (omega arith)
   kept_on_lem [] (x ∷ p) i q f = absurd (omega arith)
   kept_on_lem (l ∷ ls) [] i q f = elim (is (agrees cat l (segment cs i))) [
-    | on e ↦ kept_in l ls i [] q e ∙ kept-none ls (pick (is_implied l.asked) (At (cell i)) q) ∙ ap (pick (is_implied l.asked) (At (cell i))) (sym (kept-none (l ∷ ls) q))
+    | on e ↦ kept_in l ls i [] q e ∙ kept-none ls (pick (is_implied l.asked) (Some (cell i)) q) ∙ ap (pick (is_implied l.asked) (Some (cell i))) (sym (kept-none (l ∷ ls) q))
     | off e ↦ absurd (let g : 0 ≡ 1 = rw (try-out l ls i [] e) at f in omega arith)
   ]
   kept_on_lem (l ∷ ls) (x ∷ p) i q f = elim (is (agrees cat l (segment cs x))) [
     | on e ↦
-        let r : Found = pick (is_implied l.asked) (At (cell x)) q in
+        let r : Option CellNumber = pick (is_implied l.asked) (Some (cell x)) q in
         let g : suc (try_path cat cs ls (p ++ (i ∷ []))) ≡ suc (suc (length p)) = rw (try-in l ls x (p ++ (i ∷ [])) e) at f in
-        kept_in l ls x (p ++ (i ∷ [])) q e ∙ kept_on_lem ls p i r (omega arith) ∙ ap (pick (head_implied (drop (length p) ls)) (At (cell i))) (sym (kept_in l ls x p q e))
+        kept_in l ls x (p ++ (i ∷ [])) q e ∙ kept_on_lem ls p i r (omega arith) ∙ ap (pick (head_implied (drop (length p) ls)) (Some (cell i))) (sym (kept_in l ls x p q e))
     | off e ↦ absurd (let g : 0 ≡ suc (suc (length p)) = rw (try-out l ls x (p ++ (i ∷ [])) e) at f in omega arith)
   ]
 
-  kept_off : (ls : List Level) (p : List ℕ) (i : ℕ) (q : Found) → try_path cat cs ls (p ++ (i ∷ [])) ≤ length p
+  kept_off : (ls : List Level) (p : List ℕ) (i : ℕ) (q : Option CellNumber) → try_path cat cs ls (p ++ (i ∷ [])) ≤ length p
       → kept_on cat cs ls (p ++ (i ∷ [])) q ≡ kept_on cat cs ls p q
   unfolding kept_on try_path
   kept_off [] [] i q f = refl
@@ -157,7 +157,7 @@ module _ (cat : Bytes) (cs : List Segment) where
   kept_off (l ∷ ls) (x ∷ p) i q f = elim (is (agrees cat l (segment cs x))) [
     | on e ↦
         let g : suc (try_path cat cs ls (p ++ (i ∷ []))) ≤ suc (length p) = rw (try-in l ls x (p ++ (i ∷ [])) e) at f in
-        kept_in l ls x (p ++ (i ∷ [])) q e ∙ kept_off ls p i (pick (is_implied l.asked) (At (cell x)) q) (omega arith) ∙ sym (kept_in l ls x p q e)
+        kept_in l ls x (p ++ (i ∷ [])) q e ∙ kept_off ls p i (pick (is_implied l.asked) (Some (cell x)) q) (omega arith) ∙ sym (kept_in l ls x p q e)
     | off e ↦ kept_out l ls x (p ++ (i ∷ [])) q e ∙ sym (kept_out l ls x p q e)
   ]
 
@@ -191,22 +191,22 @@ module _ (cat : Bytes) (cs : List Segment) where
     ]
 
     -- and what is kept of it
-    abbrev pub kept_tried : List ℕ → Found
-    kept_tried row = kept_on cat cs ls (reverse row) Nothing
+    abbrev pub kept_tried : List ℕ → Option CellNumber
+    kept_tried row = kept_on cat cs ls (reverse row) None
 
     pub keeps_on : (row : List ℕ) (i : ℕ) → tried (i ∷ row) ≡ suc (length row)
-        → kept_tried (i ∷ row) ≡ pick (head_implied (drop (length row) ls)) (At (cell i)) (kept_tried row)
+        → kept_tried (i ∷ row) ≡ pick (head_implied (drop (length row) ls)) (Some (cell i)) (kept_tried row)
     keeps_on row i f =
         let g : try_path cat cs ls (reverse row ++ (i ∷ [])) ≡ suc (length (reverse row)) =
         ap (try_path cat cs ls) (sym (reverse-cons i row)) ∙ f ∙ ap suc (sym (length-reverse row)) in
-        ap (λ (p : List ℕ). kept_on cat cs ls p Nothing) (reverse-cons i row) ∙ kept_on_lem ls (reverse row) i Nothing g
-        ∙ ap (λ (m : ℕ). pick (head_implied (drop m ls)) (At (cell i)) (kept_tried row)) (length-reverse row)
+        ap (λ (p : List ℕ). kept_on cat cs ls p None) (reverse-cons i row) ∙ kept_on_lem ls (reverse row) i None g
+        ∙ ap (λ (m : ℕ). pick (head_implied (drop m ls)) (Some (cell i)) (kept_tried row)) (length-reverse row)
 
     pub keeps-off : (row : List ℕ) (i : ℕ) → tried (i ∷ row) ≤ length row → kept_tried (i ∷ row) ≡ kept_tried row
     keeps-off row i l =
         let e : tried (i ∷ row) ≡ try_path cat cs ls (reverse row ++ (i ∷ [])) = ap (try_path cat cs ls) (reverse-cons i row) in
-        ap (λ (p : List ℕ). kept_on cat cs ls p Nothing) (reverse-cons i row)
-        ∙ kept_off ls (reverse row) i Nothing (omega (arith, length-reverse row))
+        ap (λ (p : List ℕ). kept_on cat cs ls p None) (reverse-cons i row)
+        ∙ kept_off ls (reverse row) i None (omega (arith, length-reverse row))
 
     abbrev lev : ℕ → ℕ
     lev = level_at cat cs
@@ -320,8 +320,8 @@ module _ (cat : Bytes) (cs : List Segment) where
       match-not i h some f = none-match ls i some (λ a b. f (sym (length-path i h) ∙ a) b)
 
       -- what is kept of the path to cell i, from what is kept of the path to its parent
-      abbrev kept_at : ℕ → Found
-      kept_at i = kept_on cat cs ls (path_to cat cs i) Nothing
+      abbrev kept_at : ℕ → Option CellNumber
+      kept_at i = kept_on cat cs ls (path_to cat cs i) None
 
       pub kept_row : (i : ℕ) → kept_at i ≡ kept_tried (i ∷ row_of i)
       unfolding path_to row_at
@@ -330,8 +330,8 @@ module _ (cat : Bytes) (cs : List Segment) where
       pub kept-short : (i : ℕ) → i < n → stretch cat cs ls i < lev i → kept_at i ≡ kept_tried (row_of i)
       kept-short i h l = kept_row i ∙ keeps-off (row_of i) i (omega (arith, stretch-row i, length-row i h))
 
-      pub kept_full : (i : ℕ) → i < n → stretch cat cs ls i ≡ lev i → kept_at i ≡ pick (head_implied (drop (lev i - 1) ls)) (At (cell i)) (kept_tried (row_of i))
+      pub kept_full : (i : ℕ) → i < n → stretch cat cs ls i ≡ lev i → kept_at i ≡ pick (head_implied (drop (lev i - 1) ls)) (Some (cell i)) (kept_tried (row_of i))
       kept_full i h e =
           let w : length (row_of i) ≡ lev i - 1 = omega (arith, length-row i h) in
           kept_row i ∙ keeps_on (row_of i) i (omega (arith, stretch-row i, length-row i h))
-          ∙ ap (λ (m : ℕ). pick (head_implied (drop m ls)) (At (cell i)) (kept_tried (row_of i))) w
+          ∙ ap (λ (m : ℕ). pick (head_implied (drop m ls)) (Some (cell i)) (kept_tried (row_of i))) w

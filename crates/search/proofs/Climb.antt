@@ -1,4 +1,6 @@
 -- The way up a path, cell by cell: what is gathered below a cell, joined with what the cell and its ancestors reach. Assumes nothing.
+use Rattle.std.specs.Prelude.{Some, None, Option}
+use Rattle.std.specs.Option.{is_some}
 use mathlib.Core.Path.{◌≡◌, refl, ap, sym, ◌∙◌}
 use mathlib.Core.Bool.{Bool, true, false}
 use mathlib.Core.List.{List, [], ◌∷◌}
@@ -8,8 +10,6 @@ use lib.ListN.{length, drop}
 use borrow.Author.Tests.{lt-ltb, le-ltb}
 use Rattle.terms.specs.declared.TypeCode.{TypeCode}
 use Rattle.terms.specs.declared.CellNumber.{CellNumber}
-use Rattle.terms.specs.declared.Found.{Found}
-use Rattle.terms.specs.declared.Found.TheVariants.{At, Nothing}
 use Rattle.terms.specs.Choice.{pick}
 use Rattle.terms.specs.Names.{cell}
 use Rattle.forest.specs.Forest.{inside, outside, side}
@@ -32,26 +32,27 @@ use Rattle.search.proofs.Branches.{steps, level-some, agrees-cell, parent-none, 
 
 -- nothing below: a stretch of n levels, and nothing kept
 abbrev fresh : ℕ → Reached
-fresh n = record { long = n; kept = Nothing }
+fresh n = record { long = n; kept = None }
 
-abbrev with_kept : Reached → Found → Reached
+abbrev with_kept : Reached → Option CellNumber → Reached
 with_kept b q = record { long = b.long; kept = q }
 
-lower-none : (q : Found) → lower q Nothing ≡ q
-lower-none Nothing = refl
-lower-none (At c) = refl
+lower-none : (q : Option CellNumber) → lower q None ≡ q
+lower-none None = refl
+lower-none (Some c) = refl
 
-lower-pick : (p : Found) (m : Bool) (c : CellNumber) (q : Found) → lower (lower p (pick m (At c) Nothing)) q ≡ lower p (pick m (At c) q)
-lower-pick (At d) m c q = refl
-lower-pick Nothing true c q = refl
-lower-pick Nothing false c q = refl
+lower-pick : (p : Option CellNumber) (m : Bool) (c : CellNumber) (q : Option CellNumber)
+    → lower (lower p (pick m (Some c) None)) q ≡ lower p (pick m (Some c) q)
+lower-pick (Some d) m c q = refl
+lower-pick None true c q = refl
+lower-pick None false c q = refl
 
 -- over rows of cells, the nearest first
 module _ (cat : Bytes) (cs : List Segment) (ls : List Level) where
   abbrev longest : List ℕ → ℕ
   longest row = tried cat cs ls row
 
-  abbrev keeps : List ℕ → Found
+  abbrev keeps : List ℕ → Option CellNumber
   keeps row = kept_tried cat cs ls row
 
   abbrev reaches : List ℕ → Reached
@@ -69,7 +70,7 @@ module _ (cat : Bytes) (cs : List Segment) (ls : List Level) where
   row-none : (b : Reached) → joined cat cs ls [] b ≡ b
   row-none b =
       row-full [] b (omega (arith, try-none cat cs ls))
-      ∙ ap (with_kept b) (ap (lower b.kept) (kept-none cat cs ls Nothing) ∙ lower-none b.kept)
+      ∙ ap (with_kept b) (ap (lower b.kept) (kept-none cat cs ls None) ∙ lower-none b.kept)
 
   -- nothing was gathered below
   row-start : (row : List ℕ) → joined cat cs ls row (fresh (length row)) ≡ reaches row
@@ -86,14 +87,14 @@ module _ (cat : Bytes) (cs : List Segment) (ls : List Level) where
     reaches-off e =
         let l : longest (i ∷ row) ≤ length row = omega (arith, tried-le cat cs ls row) in
         row-short (i ∷ row) b (omega arith) ∙ ap (λ (n : ℕ). record { long = n; kept = keeps (i ∷ row) }) e
-        ∙ ap (λ (q : Found). record { long = longest row; kept = q }) (keeps-off cat cs ls row i l)
+        ∙ ap (λ (q : Option CellNumber). record { long = longest row; kept = q }) (keeps-off cat cs ls row i l)
 
     -- LAW: a cell that does not agree ends the stretch above it, and nothing gathered below counts
     row-off : head_agrees cat cs (drop (length row) ls) i ≡ false → joined cat cs ls row (fresh (length row)) ≡ joined cat cs ls (i ∷ row) b
     row-off a = row-start row ∙ sym (reaches-off (tried-off cat cs ls row i a))
 
-    abbrev own : Found
-    own = lower b.kept (pick (head_implied cat cs (drop (length row) ls)) (At (cell i)) Nothing)
+    abbrev own : Option CellNumber
+    own = lower b.kept (pick (head_implied cat cs (drop (length row) ls)) (Some (cell i)) None)
 
     -- LAW: at one that agrees the stretch goes on, and its level is kept where it is implied and nothing is kept below it
     row_on : head_agrees cat cs (drop (length row) ls) i ≡ true → joined cat cs ls row (with_kept b own) ≡ joined cat cs ls (i ∷ row) b
@@ -106,6 +107,15 @@ module _ (cat : Bytes) (cs : List Segment) (ls : List Level) where
           ∙ ap (with_kept b) (lower-pick b.kept m (cell i) (keeps row) ∙ ap (lower b.kept) (sym (keeps_on cat cs ls row i e)))
           ∙ sym (row-full (i ∷ row) b (omega arith))
     ]
+
+-- what is kept below goes first
+lower-some : (p q : Option CellNumber) → is_some p ≡ true → lower p q ≡ p
+lower-some None q e = absurd (let z : false ≡ true = e in cc)
+lower-some (Some c) q e = refl
+
+lower-other : (p q : Option CellNumber) → is_some p ≡ false → lower p q ≡ q
+lower-other None q e = refl
+lower-other (Some c) q e = absurd (let z : true ≡ false = e in cc)
 
 -- over good blocks, with what the code has read
 module _ {cat tab list : Bytes} {size : ℕ} {t : TypeCode} (g : Good cat tab list size t) where
@@ -150,19 +160,19 @@ module _ {cat tab list : Bytes} {size : ℕ} {t : TypeCode} (g : Good cat tab li
           ∙ implied-own cat list (list_read cat list).arguments cs i g.catalogue t g.known (level-some g i h)
           (both_left (is_in u.0 (lineage cat t)) s a)
 
-      turn_on : (q : Found) → lower b.kept (pick left_out (At (cell i)) Nothing) ≡ q → Gives (with_kept b q)
+      turn_on : (q : Option CellNumber) → lower b.kept (pick left_out (Some (cell i)) None) ≡ q → Gives (with_kept b q)
       turn_on q x =
-          let y = ap (λ (m : Bool). lower b.kept (pick m (At (cell i)) Nothing)) head-implied ∙ x in
-          ap (λ (p : Found). joined cat cs ls row (with_kept b p)) (sym y) ∙ row_on cat cs ls row i b (head-agrees ∙ a)
+          let y = ap (λ (m : Bool). lower b.kept (pick m (Some (cell i)) None)) head-implied ∙ x in
+          ap (λ (p : Option CellNumber). joined cat cs ls row (with_kept b p)) (sym y) ∙ row_on cat cs ls row i b (head-agrees ∙ a)
 
-      pub turn-kept : (c : CellNumber) → b.kept ≡ At c → Gives b
-      turn-kept c x = turn_on b.kept (ap (λ (p : Found). lower p (pick left_out (At (cell i)) Nothing)) x ∙ sym x)
+      pub turn-kept : is_some b.kept ≡ true → Gives b
+      turn-kept x = turn_on b.kept (lower-some b.kept (pick left_out (Some (cell i)) None) x)
 
-      pub turn-named : b.kept ≡ Nothing → left_out ≡ false → Gives b
-      turn-named x m = turn_on b.kept (rw (x, m))
+      pub turn-named : left_out ≡ false → Gives b
+      turn-named m = turn_on b.kept (rw m (lower-none b.kept))
 
-      pub turn-implied : b.kept ≡ Nothing → left_out ≡ true → Gives (with_kept b (At (cell i)))
-      turn-implied x m = turn_on (At (cell i)) (rw (x, m))
+      pub turn-implied : is_some b.kept ≡ false → left_out ≡ true → Gives (with_kept b (Some (cell i)))
+      turn-implied x m = turn_on (Some (cell i)) (rw m (lower-other b.kept (Some (cell i)) x))
 
   module _ (i : ℕ) (h : i < count tab) where
     -- the start, at the cell itself
@@ -175,14 +185,14 @@ module _ {cat tab list : Bytes} {size : ℕ} {t : TypeCode} (g : Good cat tab li
         ∙ (rw (stretch-row cat cs ls (count tab) (steps g) i, kept_row cat cs ls (count tab) (steps g) i))
 
     -- the end, at the root
-    pub climb-end : (b : Reached) → Nothing ≡ parent_at cat cs i → b ≡ above_cell cat tab list t i b
+    pub climb-end : (b : Reached) → None ≡ parent_at cat cs i → b ≡ above_cell cat tab list t i b
     climb-end b e = sym (ap (λ (r : List ℕ). joined cat cs ls r b) (parent-none cat cs i e) ∙ row-none cat cs ls b)
 
     -- and on to the parent, one level up
-    pub climb-up : (p : CellNumber) (b : Reached) → At p ≡ parent_at cat cs i → from_cell cat tab list t p.0 b ≡ above_cell cat tab list t i b
+    pub climb-up : (p : CellNumber) (b : Reached) → Some p ≡ parent_at cat cs i → from_cell cat tab list t p.0 b ≡ above_cell cat tab list t i b
     climb-up p b e = sym (ap (λ (r : List ℕ). joined cat cs ls r b) (parent-some cat cs i p e).1)
 
-    pub parent-level : (p : CellNumber) → At p ≡ parent_at cat cs i → suc (lev p.0) ≡ lev i
+    pub parent-level : (p : CellNumber) → Some p ≡ parent_at cat cs i → suc (lev p.0) ≡ lev i
     parent-level p e =
         let y = parent-some cat cs i p e in
         let n : length (ancestors lev i) ≡ suc (length (ancestors lev p.0)) = ap length y.1 in

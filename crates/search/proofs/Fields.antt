@@ -1,4 +1,5 @@
 -- The bytes of a field in a cell, against the bytes of a value in the list, by the field's value type. Assumes nothing.
+use Rattle.std.specs.declared.cmp.Ordering.{Ordering}
 use mathlib.Core.Path.{◌≡◌, ap, sym, ◌∙◌}
 use mathlib.Core.Bool.{Bool, true, false}
 use Prim.Native.Nat.{ℕ, ◌+◌, ◌-◌, ◌*◌, ◌≤◌}
@@ -8,7 +9,6 @@ use lib.ListN.{length}
 use borrow.Author.Tests.{eq-eqb, ne_eqb}
 use Rattle.terms.specs.declared.FieldNumber.{FieldNumber}
 use Rattle.terms.specs.declared.Operator.{Operator}
-use Rattle.terms.specs.declared.Order.{Order}
 use Rattle.terms.specs.Operators.{holds}
 use Rattle.terms.specs.Names.{field}
 use Rattle.rules.specs.Block.{Bytes, byte, part}
@@ -92,7 +92,7 @@ module _ {cat tab list : Bytes} {size i v entry s n : ℕ} (h : Testable cat tab
         r g ∙ rw (y, x, long-is, c)
 
     -- LAW: of any other, what the bytes compare to, held against the operator, is what the test says of the cell
-    pub bytes-hold : (byte cat (entry + 3) ≡ 1 → ⊥) → {x : Bytes} {r : Order} → x ≡ part (segment (listing cat tab) i).bytes (s - 1) n
+    pub bytes-hold : (byte cat (entry + 3) ≡ 1 → ⊥) → {x : Bytes} {r : Ordering} → x ≡ part (segment (listing cat tab) i).bytes (s - 1) n
         → r ≡ order x (part list v (v + n - v)) → q ≡ holds o r → q ≡ satisfies cat (segment (listing cat tab) i) (meant cat list (test_at list v))
     unfolding tested
     bytes-hold w {x} {r} l z u =

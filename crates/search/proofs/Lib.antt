@@ -2,7 +2,6 @@ pub mod Rows
 pub mod Carry
 pub mod Levels
 pub mod Fields
-pub mod Begins
 pub mod Branches
 pub mod Heeded
 pub mod Climb

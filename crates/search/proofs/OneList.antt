@@ -1,10 +1,11 @@
 -- A search with one list asks with an empty one behind it: that is the same list. Assumes nothing.
+use Rattle.terms.specs.declared.CellNumber.{CellNumber}
+use Rattle.std.specs.Prelude.{Option}
 use mathlib.Core.Path.{◌≡◌}
 use mathlib.Core.List.{[], ◌++◌, append-nil}
 use Prim.Native.Nat.{ℕ}
 use Rattle.terms.specs.declared.TypeCode.{TypeCode}
 use Rattle.terms.specs.declared.Place.{Place}
-use Rattle.terms.specs.declared.Found.{Found}
 use Rattle.rules.specs.Block.{Bytes}
 use Rattle.rules.specs.Table.{listing}
 use Rattle.rules.specs.Matching.{along}
@@ -16,6 +17,6 @@ pub asking-alone : {cat tab list : Bytes} {size : ℕ} {t : TypeCode} → Good c
 asking-alone {cat} {tab} {list} g =
     record { good = rw (append-nil list) g; pair = pair-alone cat list (record { catalogue = g.catalogue; read = g.sound }) }
 
-pub along-alone : (cat tab list : Bytes) (t : TypeCode) (q : Place) {found : Found} → found ≡ along cat (listing cat tab) (levels cat (list ++ []) t) q
+pub along-alone : (cat tab list : Bytes) (t : TypeCode) (q : Place) {found : Option CellNumber} → found ≡ along cat (listing cat tab) (levels cat (list ++ []) t) q
     → found ≡ along cat (listing cat tab) (levels cat list t) q
 along-alone cat tab list t q e = rw (append-nil list) at e

@@ -1,5 +1,6 @@
 -- A list that tests nothing above its last type t: a cell matches exactly when it has type t and agrees by itself, since the types on its path are
 -- those above t. Assumes nothing.
+use Rattle.std.specs.Prelude.{Some, None, Option}
 use mathlib.Core.Path.{◌≡◌, refl, ap, sym, ◌∙◌, subst}
 use mathlib.Core.Bool.{Bool, true, false, ◌&&◌}
 use mathlib.Core.List.{List, [], ◌∷◌}
@@ -10,8 +11,6 @@ use lib.Dec.{eqb}
 use lib.ListN.{length, drop}
 use borrow.Author.Tests.{eq-eqb, ne_eqb, eqb-true, eqb-false}
 use Rattle.terms.specs.declared.TypeCode.{TypeCode}
-use Rattle.terms.specs.declared.Qualification.TheVariants.{None}
-use Rattle.terms.specs.declared.Found.TheVariants.{At}
 use Rattle.terms.specs.Choice.{pick}
 use Rattle.terms.specs.Names.{code, cell}
 use Rattle.forest.specs.Good.{on, off, is, both_left, both_right}
@@ -28,8 +27,6 @@ use Rattle.catalogue.proofs.Hierarchy.{lineage-up, beneath-later, beneath-trans}
 use Rattle.cells.proofs.Ancestry.{sound-listing, run-beneath}
 use Rattle.arguments.specs.Sound.{Wanted, Implied, Named, wanted_of, meaning}
 use Rattle.arguments.specs.Alone.{alone_of}
-use Rattle.arguments.specs.declared.alone.Tests.{Tests}
-use Rattle.arguments.specs.declared.alone.Tests.TheVariants.{Own}
 use Rattle.arguments.proofs.Complete.{asked-wanted}
 use Rattle.arguments.proofs.Entries.{alone-entry, alone-others}
 use Rattle.search.specs.Good.{Good, Lone}
@@ -76,8 +73,8 @@ plain-wanted cat list u w = ap is_plain (asked-wanted cat list (list_read cat li
 ])
 
 -- LAW: where the list tests nothing but type t it tests nothing above it, since each type above t has a smaller code
-pub lone-own : {cat tab list : Bytes} {size : ℕ} {t : TypeCode} → Good cat tab list size t → 0 < t.0 → (a : Tests) (e : ℕ)
-    → a ≡ alone_of t (list_read cat list).arguments → a ≡ Own e → Lone cat list t e
+pub lone-own : {cat tab list : Bytes} {size : ℕ} {t : TypeCode} → Good cat tab list size t → 0 < t.0 → (a : Option ℕ) (e : ℕ)
+    → a ≡ alone_of t (list_read cat list).arguments → a ≡ Some e → Lone cat list t e
 unfolding plain_above type_beneath
 lone-own {cat} {tab} {list} {size} {t} g s a e f x = record {
   plain = every-each (λ u. is_plain (asked_of cat list (list_read cat list).arguments (code u))) (lineage cat (parent_of cat t)) (λ u h.
@@ -201,7 +198,7 @@ module _ {cat tab list : Bytes} {size : ℕ} {t : TypeCode} (g : Good cat tab li
 
     module _ (b : Bool) (f : b ≡ matches_alone cat list t (segment cs i)) where
       -- LAW: a cell that has the last type and satisfies the last argument matches
-      pub alone-here : b ≡ true → At (cell i) ≡ first_match cat cs ls i to
+      pub alone-here : b ≡ true → Some (cell i) ≡ first_match cat cs ls i to
       unfolding matches_alone
       alone-here y =
           let m : (eqb (type_of i).0 t.0 && agrees_alone cat list t (segment cs i)) ≡ true = sym f ∙ y in

@@ -1,9 +1,8 @@
 -- What a search asks of the lent blocks, and what a path gives it. Assumes nothing: these are definitions.
-use Rattle.std.specs.Prelude.{◌≡◌, Bool, true, ◌&&◌, not, List, ◌∷◌, ◌++◌, reverse, ℕ, ◌-◌, ◌≤◌, ◌<◌, ltb, leb, eqb, length}
+use Rattle.terms.specs.declared.CellNumber.{CellNumber}
+use Rattle.std.specs.Prelude.{◌≡◌, Bool, true, ◌&&◌, not, List, ◌∷◌, ◌++◌, reverse, ℕ, ◌-◌, ◌≤◌, ◌<◌, ltb, leb, eqb, length, Some, None, Option}
 use Rattle.terms.specs.declared.TypeCode.{TypeCode}
 use Rattle.terms.specs.declared.Status.TheVariants.{Blank}
-use Rattle.terms.specs.declared.Found.{Found}
-use Rattle.terms.specs.declared.Found.TheVariants.{At, Nothing}
 use Rattle.terms.specs.Choice.{pick}
 use Rattle.forest.specs.Numbers.{ancestors}
 use Rattle.rules.specs.Block.{Bytes, byte}
@@ -80,21 +79,21 @@ unfoldable pub begins_above : Bytes → TypeCode → Bool
 begins_above list t = leb 2 (length list) && not (eqb (byte list 1) 0) && not (eqb (byte list 0) t.0)
 
 -- the lower of what two stretches keep, p below q
-abbrev pub lower : Found → Found → Found
-lower Nothing q = q
-lower (At c) q = At c
+abbrev pub lower : Option CellNumber → Option CellNumber → Option CellNumber
+lower None q = q
+lower (Some c) q = Some c
 
 module _ (cat : Bytes) (cs : List Segment) (ls : List Level) where
   -- of the path to cell i: how far it agrees, and what of that is kept
   unfoldable pub reached : ℕ → Reached
-  reached i = record { long = stretch cat cs ls i; kept = kept_on cat cs ls (path_to cat cs i) Nothing }
+  reached i = record { long = stretch cat cs ls i; kept = kept_on cat cs ls (path_to cat cs i) None }
 
   -- on the way up: what the whole path reaches, where the cells of this row, the nearest first, are still to be climbed, and b was gathered below
   -- them. A row that does not agree as a whole ends the stretch; what is kept below goes before what is kept in the row
   unfoldable pub joined : List ℕ → Reached → Reached
   joined row b =
       let long = try_path cat cs ls (reverse row) in
-      let kept = kept_on cat cs ls (reverse row) Nothing in
+      let kept = kept_on cat cs ls (reverse row) None in
       pick (ltb long (length row)) (record { long = long; kept = kept }) (record { long = b.long; kept = lower b.kept kept })
 
 module _ (cat tab list : Bytes) (t : TypeCode) where

@@ -33,9 +33,7 @@ fn passes(cat: &[u8], tab: &[u8], size: usize, list: &[u8], c: CellNumber, v: us
         return holds_at(o, tab, start_of(tab, size, c) + start, list, v, long);
     }
     let field = data_part(cat, tab, size, c, start, long);
-    let end = v + long;
-    let value = &list[v..end];
-    holds(o, order_of(field, value))
+    holds(o, order_of(field, &list[v..v + long]))
 }
 
 // Whether a segment satisfies what the lists ask of its type; e is their entry for that type, and a test's value lies in one of them.
@@ -78,10 +76,7 @@ pub(crate) fn agrees(
         (segment (listing cat.now tab.now) c.0) }
 {
     let e = asked_of(asked, code_at(cat, tab, size, c));
-    if e == 0 {
-        return false;
-    }
-    heeds(cat, tab, size, one, two, c, e)
+    e != 0 && heeds(cat, tab, size, one, two, c, e)
 }
 
 // Whether the lists leave out the type of a cell that agrees.

@@ -9,7 +9,7 @@ ghost use Rattle.search.specs.Stretch.{levels, matches_alone};
 use crate::agree::heeds;
 use crate::beneath::is_within;
 use cells::lookup::{code_at, count};
-use terms::{CellNumber, Found, TypeCode};
+use terms::{CellNumber, TypeCode};
 
 // Whether a cell has type t and satisfies what the lists ask of it, which is entry e.
 fn matches_alone(
@@ -26,10 +26,7 @@ fn matches_alone(
     ensures { result ≡ matches_alone cat.now (one.now ++ two.now) t
         (segment (listing cat.now tab.now) c.0) }
 {
-    if code_at(cat, tab, size, c).0 != t.0 {
-        return false;
-    }
-    heeds(cat, tab, size, one, two, c, e)
+    code_at(cat, tab, size, c) == t && heeds(cat, tab, size, one, two, c, e)
 }
 
 // The first match from cell `from` on and before cell `to`.
@@ -43,24 +40,23 @@ pub(crate) fn forward_alone(
     e: usize,
     from: usize,
     to: usize,
-) -> Found
+) -> Option<CellNumber>
     requires { Asking cat.now tab.now one.now two.now size t × Lone cat.now (one.now ++ two.now) t e
         × (0 < t.0) × (to ≤ count tab.now) }
     ensures { result ≡ first_match cat.now (listing cat.now tab.now)
         (levels cat.now (one.now ++ two.now) t) from to }
 {
-    let mut i = from;
-    while i < to {
+    for i in from..to {
         let c = CellNumber(i);
         if matches_alone(cat, tab, size, one, two, t, e, c) {
-            return Found::At(c);
+            return Some(c);
         }
-        i += 1;
     }
-    Found::Nothing
+    None
 }
 
-// The first match from cell `from` on that lies beneath p.
+// The first match from cell `from` on that lies beneath p. Apart from `forward_alone`, since one loop for both would take the end as a closure, whose
+// promise says no less than the loop does.
 pub(crate) fn beneath_alone(
     cat: &[u8],
     tab: &[u8],
@@ -71,23 +67,20 @@ pub(crate) fn beneath_alone(
     e: usize,
     p: CellNumber,
     from: usize,
-) -> Found
+) -> Option<CellNumber>
     requires { Asking cat.now tab.now one.now two.now size t × Lone cat.now (one.now ++ two.now) t e
         × Beneath cat.now tab.now t p.0 from }
     ensures { result ≡ first_match cat.now (listing cat.now tab.now)
         (levels cat.now (one.now ++ two.now) t) from
         (end_at cat.now (listing cat.now tab.now) p.0) }
 {
-    let top = count(tab);
-    let mut i = from;
-    while i < top {
+    for i in from..count(tab) {
         if !is_within(cat, tab, size, p, i) {
-            return Found::Nothing;
+            return None;
         }
         if matches_alone(cat, tab, size, one, two, t, e, CellNumber(i)) {
-            return Found::At(CellNumber(i));
+            return Some(CellNumber(i));
         }
-        i += 1;
     }
-    Found::Nothing
+    None
 }

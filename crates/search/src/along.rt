@@ -10,11 +10,11 @@ use crate::alone::forward_alone;
 use crate::beneath::forward_beneath;
 use crate::forward::forward;
 use crate::stretch::path_to;
-use arguments::alone::{Tests, alone};
+use arguments::alone::alone;
 use arguments::asked::ask;
 use catalogue::lineage::level;
 use cells::lookup::{count, level_of};
-use terms::{CellNumber, Found, Place, TypeCode};
+use terms::{CellNumber, Place, TypeCode};
 
 // R30: the segment down to which the way to the place is kept; R31: in a gap there is none.
 fn kept(
@@ -26,16 +26,15 @@ fn kept(
     asked: &[u16; 33],
     t: TypeCode,
     place: Place,
-) -> Found
+) -> Option<CellNumber>
     requires { Told cat.now tab.now one.now two.now asked.now size t × (good_place cat.now (listing cat.now tab.now) place ≡ true) }
     ensures { result ≡ kept cat.now (listing cat.now tab.now)
         (levels cat.now (one.now ++ two.now) t) place }
 {
-    let Place::On(c) = place else {
-        return Found::Nothing;
-    };
-    let reached = path_to(cat, tab, size, one, two, asked, t, c);
-    reached.kept
+    match place {
+        Place::On(c) => path_to(cat, tab, size, one, two, asked, t, c).kept,
+        Place::Before(_) => None,
+    }
 }
 
 // The first match of the table, where nothing was kept.
@@ -47,22 +46,22 @@ fn first_of_all(
     two: &[u8],
     asked: &[u16; 33],
     t: TypeCode,
-) -> Found
+) -> Option<CellNumber>
     requires { Told cat.now tab.now one.now two.now asked.now size t }
     ensures { result ≡ first_match cat.now (listing cat.now tab.now)
         (levels cat.now (one.now ++ two.now) t) 0 (count tab.now) }
 {
     let n = count(tab);
     if n == 0 {
-        return Found::Nothing;
+        return None;
     }
     if t.0 == 0 {
-        return Found::At(CellNumber(0));
+        return Some(CellNumber(0));
     }
-    if let Tests::Own(e) = alone(cat, one, two, t) {
+    if let Some(e) = alone(cat, one, two, t) {
         return forward_alone(cat, tab, size, one, two, t, e, 0, n);
     }
-    forward(cat, tab, size, one, two, asked, t, false, 0, 0, n)
+    forward(cat, tab, size, one, two, asked, t, Some(0), 0, n)
 }
 
 // R30: what is left of the list is sought beneath the segment kept; where nothing is left, that segment is the answer.
@@ -75,17 +74,17 @@ fn along_by(
     asked: &[u16; 33],
     t: TypeCode,
     place: Place,
-) -> Found
+) -> Option<CellNumber>
     requires { Told cat.now tab.now one.now two.now asked.now size t × (good_place cat.now (listing cat.now tab.now) place ≡ true) }
     ensures { result ≡ along cat.now (listing cat.now tab.now)
         (levels cat.now (one.now ++ two.now) t) place }
 {
-    let Found::At(c) = kept(cat, tab, size, one, two, asked, t, place) else {
+    let Some(c) = kept(cat, tab, size, one, two, asked, t, place) else {
         return first_of_all(cat, tab, size, one, two, asked, t);
     };
     let l = level_of(cat, tab, size, c);
     if l == level(cat, t) {
-        return Found::At(c);
+        return Some(c);
     }
     forward_beneath(cat, tab, size, one, two, asked, t, c, l, c.0 + 1)
 }
@@ -99,7 +98,7 @@ pub fn along(
     two: &[u8],
     t: TypeCode,
     place: Place,
-) -> Found
+) -> Option<CellNumber>
     requires { Asking cat.now tab.now one.now two.now size t × (good_place cat.now (listing cat.now tab.now) place ≡ true) }
     ensures { result ≡ along cat.now (listing cat.now tab.now)
         (levels cat.now (one.now ++ two.now) t) place }

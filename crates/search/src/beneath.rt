@@ -9,26 +9,27 @@ ghost use Rattle.search.specs.Stretch.{levels, stretch_before};
 
 use crate::alone::beneath_alone;
 use crate::stretch::{path_to, stretched};
-use arguments::alone::{Tests, alone};
+use arguments::alone::alone;
 use arguments::asked::ask;
 use catalogue::lineage::{is_beneath, level_by, levels};
 use cells::lookup::{code_at, count, level_at};
-use terms::{CellNumber, Found, TypeCode};
+use terms::{CellNumber, TypeCode};
 
 // Whether cell i lies in p's run, which comes up to it at least.
 pub fn is_within(cat: &[u8], tab: &[u8], size: usize, p: CellNumber, i: usize) -> bool
     requires { Sound cat.now tab.now size × (p.0 < i) × (i ≤ end_at cat.now (listing cat.now tab.now) p.0) × (p.0 < count tab.now) }
     ensures { result ≡ ltb i (end_at cat.now (listing cat.now tab.now) p.0) }
 {
-    if count(tab) <= i {
-        return false;
-    }
-    let t = code_at(cat, tab, size, CellNumber(i));
-    let u = code_at(cat, tab, size, p);
-    is_beneath(cat, t, u)
+    i < count(tab)
+        && is_beneath(
+            cat,
+            code_at(cat, tab, size, CellNumber(i)),
+            code_at(cat, tab, size, p),
+        )
 }
 
-// The first match from cell `from` on that lies beneath p; k is the stretch of the cell before.
+// The first match from cell `from` on that lies beneath p; k is the stretch of the cell before. Apart from `forward`, which goes from root to root; here
+// each cell is asked whether p's run has ended.
 pub(crate) fn forward_beneath(
     cat: &[u8],
     tab: &[u8],
@@ -40,7 +41,7 @@ pub(crate) fn forward_beneath(
     p: CellNumber,
     k: u8,
     from: usize,
-) -> Found
+) -> Option<CellNumber>
     requires { Told cat.now tab.now one.now two.now asked.now size t × Beneath cat.now tab.now t p.0 from
         × (k ≡ stretch_before cat.now (listing cat.now tab.now) (levels cat.now (one.now ++ two.now) t) from) }
     ensures { result ≡ first_match cat.now (listing cat.now tab.now)
@@ -50,24 +51,19 @@ pub(crate) fn forward_beneath(
     let mut row = [0u8; 33];
     levels(cat, &mut row);
     let last = level_by(&row, cat, t);
-    let top = count(tab);
     let mut long = k;
-    let mut i = from;
-    while i < top {
+    for i in from..count(tab) {
         if !is_within(cat, tab, size, p, i) {
-            return Found::Nothing;
+            return None;
         }
         let c = CellNumber(i);
         let l = level_at(&row, cat, tab, size, c);
         long = stretched(cat, tab, size, one, two, asked, t, long, l, c);
-        if l == last {
-            if long == last {
-                return Found::At(c);
-            }
+        if l == last && long == last {
+            return Some(c);
         }
-        i += 1;
     }
-    Found::Nothing
+    None
 }
 
 // The same from any cell behind p. Where the list tests a type above its last it climbs once, for the cell before.
@@ -80,13 +76,13 @@ pub fn first_beneath(
     t: TypeCode,
     p: CellNumber,
     from: usize,
-) -> Found
+) -> Option<CellNumber>
     requires { Asking cat.now tab.now one.now two.now size t × Beneath cat.now tab.now t p.0 from }
     ensures { result ≡ first_match cat.now (listing cat.now tab.now)
         (levels cat.now (one.now ++ two.now) t) from
         (end_at cat.now (listing cat.now tab.now) p.0) }
 {
-    if let Tests::Own(e) = alone(cat, one, two, t) {
+    if let Some(e) = alone(cat, one, two, t) {
         return beneath_alone(cat, tab, size, one, two, t, e, p, from);
     }
     let mut asked = [0u16; 33];

@@ -4,7 +4,7 @@
 // Where nothing is tested above the last type it carries nothing and needs no row: each cell tells by itself (`alone`).
 #![tactic(auto)]
 
-use terms::Found;
+use terms::CellNumber;
 
 pub mod agree;
 pub mod alone;
@@ -17,5 +17,5 @@ pub mod stretch;
 #[derive(Clone, Copy)]
 pub struct Reached {
     pub long: u8,
-    pub kept: Found,
+    pub kept: Option<CellNumber>,
 }

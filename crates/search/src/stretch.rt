@@ -9,7 +9,7 @@ use crate::Reached;
 use crate::agree::{agrees, is_implied};
 use cells::lookup::level_of;
 use cells::runs::parent_of;
-use terms::{CellNumber, Found, TypeCode};
+use terms::{CellNumber, TypeCode};
 
 // From k, what is carried to a cell of level l, to the cell's own stretch. Where k does not reach its parent the cell need not be looked at.
 pub fn stretched(
@@ -34,10 +34,11 @@ pub fn stretched(
     if k < above {
         return k;
     }
-    if !agrees(cat, tab, size, one, two, asked, t, c) {
-        return above;
+    if agrees(cat, tab, size, one, two, asked, t, c) {
+        l
+    } else {
+        above
     }
-    l
 }
 
 // One level on the way up; l is that of cell c, and `below` what was gathered beneath it. Where the cell does not agree the stretch ends above it, and
@@ -59,23 +60,18 @@ fn one_up(
     ensures { above_cell cat.now tab.now (one.now ++ two.now) t c.0 result
         ≡ from_cell cat.now tab.now (one.now ++ two.now) t c.0 below }
 {
-    let kept = below.kept;
     if !agrees(cat, tab, size, one, two, asked, t, c) {
-        let above = l - 1;
         return Reached {
-            long: above,
-            kept: Found::Nothing,
+            long: l - 1,
+            kept: None,
         };
     }
-    if let Found::At(_) = kept {
-        return below;
-    }
-    if !is_implied(cat, tab, size, one, two, asked, t, c) {
+    if below.kept.is_some() || !is_implied(cat, tab, size, one, two, asked, t, c) {
         return below;
     }
     Reached {
-        long: below.long,
-        kept: Found::At(c),
+        kept: Some(c),
+        ..below
     }
 }
 
@@ -98,11 +94,11 @@ pub fn path_to(
     let mut l = level_of(cat, tab, size, c);
     let mut below = Reached {
         long: l,
-        kept: Found::Nothing,
+        kept: None,
     };
     loop {
         below = one_up(cat, tab, size, one, two, asked, t, below, l, at);
-        let Found::At(p) = parent_of(cat, tab, size, at) else {
+        let Some(p) = parent_of(cat, tab, size, at) else {
             return below;
         };
         at = p;

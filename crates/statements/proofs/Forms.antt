@@ -1,7 +1,7 @@
 -- A statement as the writer has it is read as that statement. Assumes nothing.
+use Rattle.std.specs.Prelude.{Some}
 use mathlib.Core.Path.{◌≡◌, refl, ap, ◌∙◌}
 use mathlib.Core.Bool.{Bool, true, false, ◌&&◌}
-use mathlib.Core.Option.{some}
 use mathlib.Core.List.{List, [], ◌∷◌, ◌++◌}
 use Prim.Native.Nat.{ℕ, zero, suc, ◌+◌, ◌-◌, ◌*◌, ◌/◌, ◌%◌, ◌<◌, ◌≤◌}
 use native.Mathlib.Omega.{arith}
@@ -95,37 +95,37 @@ unfolding formed
 formed-in s t ss ts h = rw (formed, h)
 
 -- the statement that a row of tokens is
-pub is-dbd : (ts : List Token) → formed dbd_form ts ≡ true → statement_of ts ≡ some (dbd_of ts)
+pub is-dbd : (ts : List Token) → formed dbd_form ts ≡ true → statement_of ts ≡ Some (dbd_of ts)
 unfolding statement_of
 is-dbd ts h = rw (statement_of, h)
 
-pub is-segm : (ts : List Token) → formed dbd_form ts ≡ false → formed segm_form ts ≡ true → statement_of ts ≡ some (segm_of ts)
+pub is-segm : (ts : List Token) → formed dbd_form ts ≡ false → formed segm_form ts ≡ true → statement_of ts ≡ Some (segm_of ts)
 unfolding statement_of
 is-segm ts a h = rw (statement_of, a, h)
 
-pub is_field : (ts : List Token) → formed dbd_form ts ≡ false → formed segm_form ts ≡ false → formed field_form ts ≡ true → statement_of ts ≡ some (field_of ts)
+pub is_field : (ts : List Token) → formed dbd_form ts ≡ false → formed segm_form ts ≡ false → formed field_form ts ≡ true → statement_of ts ≡ Some (field_of ts)
 unfolding statement_of
 is_field ts a b h = rw (statement_of, a, b, h)
 
 pub is_key : (ts : List Token) → formed dbd_form ts ≡ false → formed segm_form ts ≡ false → formed field_form ts ≡ false → formed key_form ts ≡ true
-    → statement_of ts ≡ some (key_of ts)
+    → statement_of ts ≡ Some (key_of ts)
 unfolding statement_of
 is_key ts a b c h = rw (statement_of, a, b, c, h)
 
-pub dbd-read : (n : Bytes) → is_name n ≡ true → statement_of (tokens_of (dbd n)) ≡ some (dbd n)
+pub dbd-read : (n : Bytes) → is_name n ≡ true → statement_of (tokens_of (dbd n)) ≡ Some (dbd n)
 unfolding tokens_of dbd_of formed dbd_form fits suits marks word_at word_in same_bytes word_dbd word_name bytes_of
 dbd-read n h = is-dbd (tokens_of (dbd n)) (formed-in name (word n) [] [] h)
 
-pub segm-read : (n p : Bytes) (l : ℕ) → is_name n ≡ true → suits parent p ≡ true → l < 100000 → statement_of (tokens_of (segm n p l)) ≡ some (segm n p l)
+pub segm-read : (n p : Bytes) (l : ℕ) → is_name n ≡ true → suits parent p ≡ true → l < 100000 → statement_of (tokens_of (segm n p l)) ≡ Some (segm n p l)
 unfolding tokens_of segm_of formed dbd_form segm_form fits suits marks word_at word_in same_bytes word_dbd word_segm word_name word_parent word_bytes bytes_of
 segm-read n p l h g b =
     let ts = tokens_of (segm n p l) in
     is-segm ts refl
     (formed-in name (word n) (drop 4 segm_form) (drop 4 ts) h ∙ formed-in parent (word p) (drop 8 segm_form) (drop 8 ts) g
     ∙ formed-in number (word (decimal l)) [] [] (number-decimal l b))
-    ∙ ap (λ (v : ℕ). some (segm n p v)) (value-decimal l b)
+    ∙ ap (λ (v : ℕ). Some (segm n p v)) (value-decimal l b)
 
-pub field-read : (n : Bytes) (l s : ℕ) → is_name n ≡ true → l < 100000 → s < 100000 → statement_of (tokens_of (field n 0 l s)) ≡ some (field n 0 l s)
+pub field-read : (n : Bytes) (l s : ℕ) → is_name n ≡ true → l < 100000 → s < 100000 → statement_of (tokens_of (field n 0 l s)) ≡ Some (field n 0 l s)
 unfolding tokens_of name_tokens field_of key_of formed dbd_form segm_form field_form span_form fits suits marks
     word_at word_in same_bytes word_dbd word_segm word_field word_name word_bytes word_start word_type bytes_of
 field-read n l s h b c =
@@ -133,9 +133,9 @@ field-read n l s h b c =
     is_field ts refl refl
     (formed-in name (word n) (drop 4 field_form) (drop 4 ts) h ∙ formed-in number (word (decimal l)) (drop 8 field_form) (drop 8 ts) (number-decimal l b)
     ∙ formed-in number (word (decimal s)) (drop 12 field_form) (drop 12 ts) (number-decimal s c))
-    ∙ ap (λ (v : ℕ). some (field n 0 v (value (decimal s)))) (value-decimal l b) ∙ ap (λ (v : ℕ). some (field n 0 l v)) (value-decimal s c)
+    ∙ ap (λ (v : ℕ). Some (field n 0 v (value (decimal s)))) (value-decimal l b) ∙ ap (λ (v : ℕ). Some (field n 0 l v)) (value-decimal s c)
 
-pub unique-read : (n : Bytes) (l s : ℕ) → is_name n ≡ true → l < 100000 → s < 100000 → statement_of (tokens_of (field n 1 l s)) ≡ some (field n 1 l s)
+pub unique-read : (n : Bytes) (l s : ℕ) → is_name n ≡ true → l < 100000 → s < 100000 → statement_of (tokens_of (field n 1 l s)) ≡ Some (field n 1 l s)
 unfolding tokens_of name_tokens field_of key_of formed dbd_form segm_form field_form key_form span_form fits suits marks
     word_at word_in kind_of same_bytes word_dbd word_segm word_field word_name word_seq word_bytes word_start word_type bytes_of
 unique-read n l s h b c =
@@ -143,9 +143,9 @@ unique-read n l s h b c =
     is_key ts refl refl refl
     (formed-in name (word n) (drop 5 key_form) (drop 5 ts) h ∙ formed-in number (word (decimal l)) (drop 14 key_form) (drop 14 ts) (number-decimal l b)
     ∙ formed-in number (word (decimal s)) (drop 18 key_form) (drop 18 ts) (number-decimal s c))
-    ∙ ap (λ (v : ℕ). some (field n 1 v (value (decimal s)))) (value-decimal l b) ∙ ap (λ (v : ℕ). some (field n 1 l v)) (value-decimal s c)
+    ∙ ap (λ (v : ℕ). Some (field n 1 v (value (decimal s)))) (value-decimal l b) ∙ ap (λ (v : ℕ). Some (field n 1 l v)) (value-decimal s c)
 
-pub multiple-read : (n : Bytes) (l s : ℕ) → is_name n ≡ true → l < 100000 → s < 100000 → statement_of (tokens_of (field n 2 l s)) ≡ some (field n 2 l s)
+pub multiple-read : (n : Bytes) (l s : ℕ) → is_name n ≡ true → l < 100000 → s < 100000 → statement_of (tokens_of (field n 2 l s)) ≡ Some (field n 2 l s)
 unfolding tokens_of name_tokens field_of key_of formed dbd_form segm_form field_form key_form span_form fits suits marks
     word_at word_in kind_of same_bytes word_dbd word_segm word_field word_name word_seq word_bytes word_start word_type bytes_of
 multiple-read n l s h b c =
@@ -153,4 +153,4 @@ multiple-read n l s h b c =
     is_key ts refl refl refl
     (formed-in name (word n) (drop 5 key_form) (drop 5 ts) h ∙ formed-in number (word (decimal l)) (drop 14 key_form) (drop 14 ts) (number-decimal l b)
     ∙ formed-in number (word (decimal s)) (drop 18 key_form) (drop 18 ts) (number-decimal s c))
-    ∙ ap (λ (v : ℕ). some (field n 2 v (value (decimal s)))) (value-decimal l b) ∙ ap (λ (v : ℕ). some (field n 2 l v)) (value-decimal s c)
+    ∙ ap (λ (v : ℕ). Some (field n 2 v (value (decimal s)))) (value-decimal l b) ∙ ap (λ (v : ℕ). Some (field n 2 l v)) (value-decimal s c)

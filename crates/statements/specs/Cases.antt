@@ -1,6 +1,5 @@
 -- Texts and blocks, and what reader and writer give for them, as one list; the one claim is in proofs/Cases.antt. Assumes nothing: these are definitions.
-use Rattle.std.specs.Prelude.{Bool, true, false, ◌&&◌, List, [], ◌∷◌, ◌++◌, ℕ, zero, suc, ◌+◌, ◌*◌, eqb, replicate}
-use Rattle.std.proofs.Math.Option.{Option, none, some}
+use Rattle.std.specs.Prelude.{Bool, true, false, ◌&&◌, List, [], ◌∷◌, ◌++◌, ℕ, zero, suc, ◌+◌, ◌*◌, eqb, replicate, None, Some, Option}
 use Prim.Native.String.{String}
 use Rattle.rules.specs.Block.{Bytes, byte, same_bytes}
 use Rattle.rules.specs.Catalogue.{good_catalogue}
@@ -20,12 +19,12 @@ pub data Case : Type 0 where
   lent_write : Bytes → Bytes → Bytes → ℕ → Bytes → Case
 
 abbrev is_text : Option Bytes → Bytes → Bool
-is_text none t = false
-is_text (some s) t = same_bytes s t
+is_text None t = false
+is_text (Some s) t = same_bytes s t
 
 abbrev is_none : Option Bytes → Bool
-is_none none = true
-is_none (some s) = false
+is_none None = true
+is_none (Some s) = false
 
 abbrev gives : Bytes → Bytes → Bytes → Bool
 gives t c n =
@@ -33,8 +32,8 @@ gives t c n =
     eqb r.fault 0 && eqb r.line 0 && eqb r.types (byte c 5) && eqb r.fields (byte c 6) && same_bytes r.catalogue c && same_bytes r.names n
 
 abbrev back : Option Bytes → Bytes → Bytes → Bool
-back none c n = false
-back (some t) c n = gives t c n
+back None c n = false
+back (Some t) c n = gives t c n
 
 abbrev pub right : Case → Bool
 right (reads t c n) = gives t c n && good_catalogue c && back (dbd_write c n) c n

@@ -1,6 +1,5 @@
 -- The reader and the writer of DBD statements (R73 to R84). Assumes nothing: these are definitions.
-use Rattle.std.specs.Prelude.{Bool, true, false, ◌&&◌, ◌||◌, List, [], ◌∷◌, ◌++◌, map, ℕ, zero, suc, ◌+◌, ◌-◌, ◌*◌, ltb, leb, eqb, length, drop}
-use Rattle.std.proofs.Math.Option.{Option, none, some}
+use Rattle.std.specs.Prelude.{Bool, true, false, ◌&&◌, ◌||◌, List, [], ◌∷◌, ◌++◌, map, ℕ, zero, suc, ◌+◌, ◌-◌, ◌*◌, ltb, leb, eqb, length, drop, None, Some, Option}
 use Rattle.forest.specs.Numbers.{range}
 use Rattle.terms.specs.Choice.{pick}
 use Rattle.terms.specs.Names.{code, field as field_of}
@@ -142,4 +141,4 @@ module _ (cat names : Bytes) where
 
   -- the writer: none for CX
   unfoldable pub dbd_write : Option Bytes
-  dbd_write = elim could_give [ true ↦ some (text_of (map spelled statements)) | false ↦ none ]
+  dbd_write = elim could_give [ true ↦ Some (text_of (map spelled statements)) | false ↦ None ]

@@ -1,6 +1,5 @@
 -- What the lines so far have made, and how one more statement is taken (R77, R78). Assumes nothing: these are definitions.
-use Rattle.std.specs.Prelude.{Bool, true, false, ◌&&◌, ◌||◌, not, List, [], ◌∷◌, ◌++◌, ℕ, zero, suc, ◌+◌, ltb, leb, eqb, length, take}
-use Rattle.std.proofs.Math.Option.{Option, none, some}
+use Rattle.std.specs.Prelude.{Bool, true, false, ◌&&◌, ◌||◌, not, List, [], ◌∷◌, ◌++◌, ℕ, zero, suc, ◌+◌, ltb, leb, eqb, length, take, None, Some, Option}
 use Rattle.terms.specs.Choice.{pick}
 use Rattle.terms.specs.Names.{code}
 use Rattle.rules.specs.Block.{Bytes, byte, part, same_bytes}
@@ -144,8 +143,8 @@ taken d (field n k l s) =
     ]
 
 unfoldable pub taken_if : Draft → Option Statement → Taken
-taken_if d none = bad misplaced
-taken_if d (some s) = taken d s
+taken_if d None = bad misplaced
+taken_if d (Some s) = taken d s
 
 -- R73: one line; a line of blanks is passed over
 unfoldable pub line_taken : Draft → Bytes → Taken

@@ -1,6 +1,5 @@
 -- The two calls on lent buffers (R80, R83): what each answers as one number, and what the buffers hold then. Assumes nothing: these are definitions.
-use Rattle.std.specs.Prelude.{true, false, ◌&&◌, ◌++◌, ℕ, ◌+◌, ◌*◌, ltb, leb, eqb, length, drop}
-use Rattle.std.proofs.Math.Option.{Option, none, some}
+use Rattle.std.specs.Prelude.{true, false, ◌&&◌, ◌++◌, ℕ, ◌+◌, ◌*◌, ltb, leb, eqb, length, drop, None, Some, Option}
 use Rattle.terms.specs.Choice.{pick}
 use Rattle.rules.specs.Block.{Bytes}
 use Rattle.statements.specs.Dbd.{Reading, dbd_read, dbd_write}
@@ -41,8 +40,8 @@ abbrev pub read_back : ℕ → Bytes → Bytes → ReadInto
 read_back r cat names = record { result = r; catalogue = cat; names = names }
 
 unfoldable pub text_into : Option Bytes → Bytes → WrittenInto
-text_into none text = record { result = 20; text = text }
-text_into (some t) text =
+text_into None text = record { result = 20; text = text }
+text_into (Some t) text =
     elim (leb (length t) (length text)) [
       | true ↦ record { result = high (length t); text = onto t text }
       | false ↦ record { result = 28; text = text }

@@ -1,6 +1,5 @@
 -- The statements, and the rows of words and signs that they are (R76). Assumes nothing: these are definitions.
-use Rattle.std.specs.Prelude.{Bool, true, false, ◌||◌, List, [], ◌∷◌, ◌++◌, ℕ, zero, suc, eqb, get_or}
-use Rattle.std.proofs.Math.Option.{Option, none, some}
+use Rattle.std.specs.Prelude.{Bool, true, false, ◌||◌, List, [], ◌∷◌, ◌++◌, ℕ, zero, suc, eqb, get_or, None, Some, Option}
 use Rattle.terms.specs.Choice.{pick}
 use Rattle.rules.specs.Block.{Bytes, same_bytes}
 use Rattle.rules.specs.Listing.{decimal}
@@ -144,12 +143,12 @@ key_of ts = field (word_at ts 4) (kind_of (word_at ts 8)) (value (word_at ts 13)
 unfoldable pub statement_of : List Token → Option Statement
 statement_of ts =
     elim (formed dbd_form ts) [
-      | true ↦ some (dbd_of ts)
+      | true ↦ Some (dbd_of ts)
       | false ↦ elim (formed segm_form ts) [
-        | true ↦ some (segm_of ts)
+        | true ↦ Some (segm_of ts)
         | false ↦ elim (formed field_form ts) [
-          | true ↦ some (field_of ts)
-          | false ↦ elim (formed key_form ts) [ true ↦ some (key_of ts) | false ↦ none ]
+          | true ↦ Some (field_of ts)
+          | false ↦ elim (formed key_form ts) [ true ↦ Some (key_of ts) | false ↦ None ]
         ]
       ]
     ]

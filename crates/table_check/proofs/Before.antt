@@ -19,9 +19,6 @@ module _ {cells facts : Bytes} {left : ℕ} (f : Fits cells facts left) where
       let z : left * size ≡ left * byte facts 0 = ap (λ (s : ℕ). left * s) e in
       omega (arith, start-made cells (byte facts 0) left, f.inside.within)
 
-  pub start-worked : (size : ℕ) → size ≡ byte facts 0 → length cells - left * size ≡ start_before cells facts left
-  start-worked size e = ap (λ (s : ℕ). length cells - left * s) e
-
   -- the cell, its first byte, and the key that a cell of type v has lie within the slice
   pub cell_in : 1 ≤ left → start_before cells facts left + byte facts 0 ≤ length cells
   cell_in l =

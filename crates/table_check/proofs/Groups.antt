@@ -1,13 +1,13 @@
 -- The twin-group reader over cell numbers: which cell is the next twin, and what is left behind one. Assumes nothing.
+use Rattle.std.specs.declared.cmp.Ordering.TheVariants.{Equal, Greater, Less}
+use Rattle.std.specs.Prelude.{None, Some, Option}
 use mathlib.Core.Path.{◌≡◌, ap, sym, ◌∙◌}
 use mathlib.Core.Bool.{true, false, not}
-use mathlib.Core.Option.{Option, none, some}
 use mathlib.Core.List.{List}
 use Prim.Native.Nat.{ℕ, suc, ◌+◌, ◌-◌, ◌≤◌}
 use native.Mathlib.Omega.{arith}
 use lib.Dec.{eqb}
 use borrow.Author.Tests.{le-ltb, eq-eqb, ne_eqb, eqb-true, eqb-false}
-use Rattle.terms.specs.declared.Order.TheVariants.{Smaller, Equal, Greater}
 use Rattle.terms.specs.Names.{code}
 use Rattle.forest.specs.Good.{on, off, is, after, both_left}
 use Rattle.forest.specs.Numbers.{range}
@@ -21,7 +21,7 @@ use Rattle.table_check.specs.Groups.{typ, fit, key_ok, is_twin, after_group, aft
 
 -- a twin behind one of smaller, equal, greater key
 module _ (cat : Bytes) (c d : Segment) where
-  smaller-stands : key_order cat c d ≡ Smaller → true ≡ twin_order cat c d
+  smaller-stands : key_order cat c d ≡ Less → true ≡ twin_order cat c d
   unfolding twin_order
   smaller-stands o = elim (is (eqb (key_kind cat c.code) 0)) [
     | on h ↦ rw h
@@ -59,18 +59,18 @@ module _ (cat : Bytes) (c d : Segment) where
 module _ (cat : Bytes) (cs : List Segment) (v : ℕ) where
   -- behind the twin `last`, cell i: of another type, and by its key
   module _ (last i : ℕ) where
-    pub twin-other : (typ cat cs i ≡ v → ⊥) → false ≡ is_twin cat cs v (some last) i
+    pub twin-other : (typ cat cs i ≡ v → ⊥) → false ≡ is_twin cat cs v (Some last) i
     unfolding is_twin
     twin-other n = rw (ne_eqb (typ cat cs i) v n)
 
     module _ (e : typ cat cs i ≡ v) (s : typ cat cs last ≡ v) where
-      twin-keys : twin_order cat (segment cs last) (segment cs i) ≡ is_twin cat cs v (some last) i
+      twin-keys : twin_order cat (segment cs last) (segment cs i) ≡ is_twin cat cs v (Some last) i
       unfolding is_twin
       twin-keys = rw (eq-eqb (typ cat cs i) v e, le-ltb (typ cat cs last) (typ cat cs i) (omega arith), eq-eqb (typ cat cs last) (typ cat cs i) (s ∙ sym e))
 
       -- by packed keys
       pub twin-packed : (kind : ℕ) → kind ≡ key_kind cat (code v) + 4 → (key_kind cat (code v) ≡ 0 → ⊥) → key_value cat (code v) ≡ 1
-          → packed_follows kind (key cat (segment cs last)) (key cat (segment cs i)) ≡ is_twin cat cs v (some last) i
+          → packed_follows kind (key cat (segment cs last)) (key cat (segment cs i)) ≡ is_twin cat cs v (Some last) i
       twin-packed kind h n w =
           let k : key_kind cat (code v) ≡ key_kind cat (segment cs last).code = ap (λ (u : ℕ). key_kind cat (code u)) (sym s) in
           packed-stands cat (segment cs last) (segment cs i) kind (omega arith) (λ z. n (k ∙ z)) (ap (λ (u : ℕ). key_value cat (code u)) s ∙ w) ∙ twin-keys
@@ -80,17 +80,17 @@ module _ (cat : Bytes) (cs : List Segment) (v : ℕ) where
         kind-is : key_kind cat (segment cs last).code ≡ kind
         kind-is = ap (λ (u : ℕ). key_kind cat (code u)) s ∙ sym h
 
-        pub twin-unkeyed : kind ≡ 0 → true ≡ is_twin cat cs v (some last) i
+        pub twin-unkeyed : kind ≡ 0 → true ≡ is_twin cat cs v (Some last) i
         unfolding twin_order
         twin-unkeyed z = (rw (kind-is, eq-eqb kind 0 z)) ∙ twin-keys
 
-        pub twin-smaller : Smaller ≡ key_order cat (segment cs last) (segment cs i) → true ≡ is_twin cat cs v (some last) i
+        pub twin-smaller : Less ≡ key_order cat (segment cs last) (segment cs i) → true ≡ is_twin cat cs v (Some last) i
         twin-smaller o = smaller-stands cat (segment cs last) (segment cs i) (sym o) ∙ twin-keys
 
-        pub twin-equal : (kind ≡ 0 → ⊥) → Equal ≡ key_order cat (segment cs last) (segment cs i) → not (eqb kind 1) ≡ is_twin cat cs v (some last) i
+        pub twin-equal : (kind ≡ 0 → ⊥) → Equal ≡ key_order cat (segment cs last) (segment cs i) → not (eqb kind 1) ≡ is_twin cat cs v (Some last) i
         twin-equal n o = equal-stands cat (segment cs last) (segment cs i) kind kind-is n (sym o) ∙ twin-keys
 
-        pub twin-greater : (kind ≡ 0 → ⊥) → Greater ≡ key_order cat (segment cs last) (segment cs i) → false ≡ is_twin cat cs v (some last) i
+        pub twin-greater : (kind ≡ 0 → ⊥) → Greater ≡ key_order cat (segment cs last) (segment cs i) → false ≡ is_twin cat cs v (Some last) i
         twin-greater n o = greater-falls cat (segment cs last) (segment cs i) kind kind-is n (sym o) ∙ twin-keys
 
   -- a twin has the type of its group
@@ -101,11 +101,11 @@ module _ (cat : Bytes) (cs : List Segment) (v : ℕ) where
       (both_left (eqb (typ cat cs i) v) (after (typ cat cs) (fit cat cs) (Groups.ok (typ cat cs) (fit cat cs) (key_ok cat cs)) q i) e)
 
   -- the first cell of type v is a twin
-  pub first-twin : (i : ℕ) → typ cat cs i ≡ v → is_twin cat cs v none i ≡ true
+  pub first-twin : (i : ℕ) → typ cat cs i ≡ v → is_twin cat cs v None i ≡ true
   unfolding is_twin
   first-twin i e = rw (eq-eqb (typ cat cs i) v e)
 
-  pub first-other : (i : ℕ) → (typ cat cs i ≡ v → ⊥) → is_twin cat cs v none i ≡ false
+  pub first-other : (i : ℕ) → (typ cat cs i ≡ v → ⊥) → is_twin cat cs v None i ≡ false
   unfolding is_twin
   first-other i n = rw (ne_eqb (typ cat cs i) v n)
 
@@ -125,10 +125,10 @@ module _ (cat : Bytes) (cs : List Segment) (v : ℕ) where
     unfolding after_group after_twin after_row is_twin
     group-twin l e =
         let z : suc (left - 1) ≡ left = omega arith in
-        ap (λ (u : ℕ). Groups.group (typ cat cs) (fit cat cs) (key_ok cat cs) v (some i) (after_row cat cs u (suc i) (left - 1))) (sym (twin-type q i e))
+        ap (λ (u : ℕ). Groups.group (typ cat cs) (fit cat cs) (key_ok cat cs) v (Some i) (after_row cat cs u (suc i) (left - 1))) (sym (twin-type q i e))
         ∙ sym (Groups.group-in (typ cat cs) (fit cat cs) (key_ok cat cs) v q i (range (suc i) (left - 1)) e)
         ∙ ap (after_group cat cs v q i) z
 
-  pub twin-behind : (i left j rest : ℕ) → after_row cat cs v (suc i) (left - 1) ≡ range j rest → after_twin cat cs v i left ≡ after_group cat cs v (some i) j rest
+  pub twin-behind : (i left j rest : ℕ) → after_row cat cs v (suc i) (left - 1) ≡ range j rest → after_twin cat cs v i left ≡ after_group cat cs v (Some i) j rest
   unfolding after_group after_twin
-  twin-behind i left j rest e = ap (Groups.group (typ cat cs) (fit cat cs) (key_ok cat cs) v (some i)) e
+  twin-behind i left j rest e = ap (Groups.group (typ cat cs) (fit cat cs) (key_ok cat cs) v (Some i)) e

@@ -1,7 +1,7 @@
 -- The two readers: where each starts, goes on and stops, said of every catalogue and table that it is told of. Assumes nothing.
+use Rattle.std.specs.Prelude.{None, Some}
 use mathlib.Core.Path.{◌≡◌, sym, ◌∙◌}
 use mathlib.Core.Bool.{Bool, true, false}
-use mathlib.Core.Option.{none, some}
 use Prim.Native.Nat.{ℕ, suc, ◌-◌, ◌<◌, ◌≤◌}
 use native.Mathlib.Omega.{arith}
 use Rattle.blocks.proofs.Negated.{told-no, told-yes}
@@ -26,7 +26,7 @@ module _ {cells facts : Bytes} {v left : ℕ} where
   module _ {last rest : ℕ} (f : Fits cells facts last) (l : 1 ≤ last) (g : GroupAt cells facts v left last)
       (s : SegmentLeaves cells facts v (last - 1) rest) where
     behind : {cat tab : Bytes} → Told cat tab cells facts → v ≤ types cat
-        → after_group cat (listing cat tab) v (some (count tab - last)) (count tab - rest) rest ≡ after_group cat (listing cat tab) v none (count tab - left) left
+        → after_group cat (listing cat tab) v (Some (count tab - last)) (count tab - rest) rest ≡ after_group cat (listing cat tab) v None (count tab - left) left
     behind {cat} {tab} t k =
         let z : count tab - (last - 1) ≡ suc (count tab - last) = omega (arith, told-left t f) in
         sym (Groups.twin-behind cat (listing cat tab) v (count tab - last) last (count tab - rest) rest (rw z at (s.is t))) ∙ g.is t k
@@ -40,7 +40,7 @@ module _ {cells facts : Bytes} {v left : ℕ} where
       group-stops e = record { is = λ t k. sym (behind t k) ∙ Groups.group-stop _ _ _ _ _ _ o (told-no (w.is t k (g.type t k)) e) }
 
       next-twin : {cat tab : Bytes} → Told cat tab cells facts → v ≤ types cat → r ≡ true
-          → is_twin cat (listing cat tab) v (some (count tab - last)) (count tab - rest) ≡ true
+          → is_twin cat (listing cat tab) v (Some (count tab - last)) (count tab - rest) ≡ true
       next-twin t k e = told-yes (w.is t k (g.type t k)) e
 
       pub group-goes : r ≡ true → GroupAt cells facts v left rest

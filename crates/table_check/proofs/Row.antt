@@ -1,6 +1,6 @@
 -- The row of facts as it is filled: the cell size, then type by type. Assumes nothing.
 use mathlib.Core.Path.{◌≡◌, refl, ap, ◌∙◌}
-use Prim.Native.Nat.{ℕ, zero, suc, ◌+◌, ◌*◌, ◌<◌, ◌≤◌}
+use Prim.Native.Nat.{ℕ, zero, suc, ◌+◌, ◌-◌, ◌*◌, ◌<◌, ◌≤◌}
 use native.Mathlib.Omega.{arith}
 use lib.ListN.{length, set, replicate, length-set, length-replicate}
 use lib.Seq.{get_or-set_same, get_or-set_other}
@@ -48,7 +48,8 @@ module _ (facts : Bytes) (i a b c d : ℕ) where
 
   four-away : (j : ℕ) → (j ≡ i → ⊥) → (j ≡ i + 1 → ⊥) → (j ≡ i + 2 → ⊥) → (j ≡ i + 3 → ⊥) → byte four j ≡ byte facts j
   four-away j n₀ n₁ n₂ n₃ =
-      get_or-set_other three (i + 3) j d 0 n₃ ∙ get_or-set_other two (i + 2) j c 0 n₂ ∙ get_or-set_other one (i + 1) j b 0 n₁ ∙ get_or-set_other facts i j a 0 n₀
+      get_or-set_other three (i + 3) j d 0 n₃ ∙ get_or-set_other two (i + 2) j c 0 n₂
+      ∙ get_or-set_other one (i + 1) j b 0 n₁ ∙ get_or-set_other facts i j a 0 n₀
 
   four-before : (j : ℕ) → j < i → byte four j ≡ byte facts j
   four-before j l = four-away j (λ z. omega arith) (λ z. omega arith) (λ z. omega arith) (λ z. omega arith)
@@ -75,17 +76,17 @@ module _ (facts : Bytes) (i a b c d : ℕ) where
     four-3 = get_or-set_same three (i + 3) d 0 (simp length-set (omega arith))
 
 -- one type more
-module _ (cat facts : Bytes) (size v : ℕ) (f : Filled cat size v facts) (l : v < 32) where
+module _ (cat facts : Bytes) (size v : ℕ) (some : 1 ≤ v) (most : v ≤ 32) (f : Filled cat size (v - 1) facts) where
   abbrev next : Bytes
   next =
-      four facts (4 * (v + 1)) (byte cat (8 * (v + 1))) (byte cat (8 * (v + 1) + 2) + 4 * byte cat (8 * (v + 1) + 7)) (byte cat (8 * (v + 1) + 3))
-      (byte cat (8 * (v + 1) + 4))
+      four facts (4 * v) (byte cat (8 * v)) (byte cat (8 * v + 2) + 4 * byte cat (8 * v + 7)) (byte cat (8 * v + 3))
+      (byte cat (8 * v + 4))
 
-  entry_next : Entry cat next (v + 1)
+  entry_next : Entry cat next v
   unfolding parent_of key_kind key_start key_length key_value type_byte
   entry_next =
-      let z : 8 * (v + 1) + 0 ≡ 8 * (v + 1) = omega arith in
-      let h : 4 * (v + 1) + 4 ≤ length facts = omega (arith, f.whole) in
+      let z : 8 * v + 0 ≡ 8 * v = omega arith in
+      let h : 4 * v + 4 ≤ length facts = omega (arith, f.whole) in
       record {
         parent = rw z (four-0 facts _ _ _ _ _ h);
         kind = four-1 facts _ _ _ _ _ h;
@@ -93,7 +94,7 @@ module _ (cat facts : Bytes) (size v : ℕ) (f : Filled cat size v facts) (l : v
         long = four-3 facts _ _ _ _ _ h;
       }
 
-  entry_kept : (w : ℕ) → Entry cat facts w → w ≤ v → Entry cat next w
+  entry_kept : (w : ℕ) → Entry cat facts w → w ≤ v - 1 → Entry cat next w
   entry_kept w e h =
       let same : (k : ℕ) → k < 4 → fact next w k ≡ fact facts w k = λ k b. four-before facts _ _ _ _ _ (4 * w + k) (omega arith) in
       record {
@@ -103,13 +104,13 @@ module _ (cat facts : Bytes) (size v : ℕ) (f : Filled cat size v facts) (l : v
         long = same 3 (omega arith) ∙ e.long;
       }
 
-  pub row_next : Filled cat size (v + 1) next
+  pub row_next : Filled cat size v next
   row_next = record {
     whole = four-length facts _ _ _ _ _ ∙ f.whole;
     wide = four-before facts _ _ _ _ _ 0 (omega arith) ∙ f.wide;
     first = λ k a b. four-before facts _ _ _ _ _ (4 * 0 + k) (omega arith) ∙ f.first k a b;
-    entry = λ w a b. elim (side v w) [
-      | inside h ↦ (let z : w ≡ v + 1 = omega arith in rw z entry_next)
+    entry = λ w a b. elim (side (v - 1) w) [
+      | inside h ↦ (let z : w ≡ v = omega arith in rw z entry_next)
       | outside h ↦ entry_kept w (f.entry w a h) h
     ];
     none = λ w k a b. four-behind facts _ _ _ _ _ (4 * w + k) (omega arith) ∙ f.none w k (omega arith) b;

@@ -1,7 +1,7 @@
 -- The segment reader over cell numbers: the groups that stand behind a segment's cell, one after the other. Assumes nothing.
+use Rattle.std.specs.Prelude.{None}
 use mathlib.Core.Path.{◌≡◌, refl, ap, sym, ◌∙◌}
 use mathlib.Core.Bool.{true, false}
-use mathlib.Core.Option.{none}
 use mathlib.Core.List.{List}
 use Prim.Native.Nat.{ℕ, zero, suc, ◌<◌, ◌≤◌}
 use native.Mathlib.Omega.{arith}
@@ -44,13 +44,13 @@ module _ (cat : Bytes) (cs : List Segment) (p : ℕ) where
     row-unfit zero e = row-none zero refl
     row-unfit (suc k) e = elim (side c (typ cat cs i)) [
       | inside h ↦ row_in (suc k) (omega arith) h
-          ∙ reads-out (typ cat cs) (fit cat cs) (Groups.ok (typ cat cs) (fit cat cs) (key_ok cat cs)) p none i (range (suc i) k) (rw e)
+          ∙ reads-out (typ cat cs) (fit cat cs) (Groups.ok (typ cat cs) (fit cat cs) (key_ok cat cs)) p None i (range (suc i) k) (rw e)
       | outside h ↦ row_low (suc k) h
     ]
 
   -- a cell of a later child type: the groups between are empty, and its own comes next
   pub row-group : (c i left u j rest : ℕ) → 1 ≤ left → typ cat cs i ≡ u → c < u → u ≤ types cat → par cat u ≡ p
-      → after_group cat cs u none i left ≡ range j rest → after_types cat cs p u j rest ≡ after_types cat cs p c i left
+      → after_group cat cs u None i left ≡ range j rest → after_types cat cs p u j rest ≡ after_types cat cs p c i left
   unfolding after_types after_group
   row-group c i left zero j rest l t h k e g = absurd (omega arith)
   row-group c i left (suc b) j rest l t h k e g =

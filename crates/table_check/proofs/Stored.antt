@@ -45,11 +45,6 @@ module _ (cat : Bytes) where
   abbrev pub plain_key : ℕ → Bool
   plain_key k = eqb (key_value cat (code k)) 0
 
-  -- type by type, top being the last one
-  pub plain-start : (top : ℕ) → top ≡ types cat → every plain_key (range (0 + 1) (top + 1 - (0 + 1))) ≡ plain_keys cat
-  unfolding plain_keys
-  plain-start top e = let z : top + 1 - (0 + 1) ≡ types cat = omega arith in ap (λ (n : ℕ). every plain_key (range 1 n)) z
-
   -- where no key is packed, any bytes are one
   plain-keyed : plain_keys cat ≡ true → (s : Segment) → is_type cat s.code ≡ true → keyed cat s ≡ true
   unfolding plain_keys keyed
@@ -59,15 +54,6 @@ module _ (cat : Bytes) where
       is-bytes (key_value cat s.code) (key cat s) (ne_eqb (key_value cat s.code) 1 (λ z. omega arith))
 
   module _ (tab : Bytes) where
-    -- no packed key, and else cell by cell
-    pub keys-plain : plain_keys cat ≡ true → true ≡ has_keys cat tab
-    unfolding has_keys
-    keys-plain p = rw p
-
-    pub keys-cells : plain_keys cat ≡ false → every (keyed_cell cat) (listing cat tab) ≡ has_keys cat tab
-    unfolding has_keys
-    keys-cells p = rw p
-
     abbrev pub keyed_at : ℕ → Bool
     keyed_at k = keyed_cell cat (segment (listing cat tab) k)
 
@@ -113,8 +99,8 @@ module _ (cat : Bytes) where
       ]
 
     -- all cells, by their numbers
-    pub cells-keyed : (n : ℕ) → n ≡ count tab → every keyed_at (range 0 (n - 0)) ≡ every (keyed_cell cat) (listing cat tab)
-    cells-keyed n e = sym (every-from (keyed_cell cat) (listing cat tab) 0 (n - 0) (omega (arith, listing-length cat tab)))
+    pub cells-keyed : every keyed_at (range 0 (count tab)) ≡ every (keyed_cell cat) (listing cat tab)
+    cells-keyed = sym (every-from (keyed_cell cat) (listing cat tab) 0 (count tab) (omega (arith, listing-length cat tab)))
 
 -- cell i, whose type the code has read as t
 module _ {cat tab : Bytes} {size i : ℕ} (s : Sized cat tab size) (l : i < count tab) {t : TypeCode} (e : t ≡ (segment (listing cat tab) i).code) where

@@ -1,7 +1,7 @@
 -- The check of the listing is the twin-group reader of type 1, over all cells. Assumes nothing.
+use Rattle.std.specs.Prelude.{None}
 use mathlib.Core.Path.{◌≡◌, refl, ap, sym, ◌∙◌}
 use mathlib.Core.Bool.{true, false}
-use mathlib.Core.Option.{none}
 use mathlib.Core.List.{List, ◌∷◌, map}
 use Prim.Native.Nat.{ℕ, zero, suc, ◌+◌, ◌-◌, ◌≤◌}
 use native.Mathlib.Omega.{arith}
@@ -46,13 +46,13 @@ module _ (cat : Bytes) (g : good_catalogue cat ≡ true) (cs : List Segment) whe
   ]
 
   top-row : (xs : List ℕ)
-      → Groups.rest_of (typ cat cs) (fit cat cs) (key_ok cat cs) 0 none xs ≡ Groups.group (typ cat cs) (fit cat cs) (key_ok cat cs) 1 none xs
+      → Groups.rest_of (typ cat cs) (fit cat cs) (key_ok cat cs) 0 None xs ≡ Groups.group (typ cat cs) (fit cat cs) (key_ok cat cs) 1 None xs
   top-row xs =
       Groups.above-start (typ cat cs) (fit cat cs) (key_ok cat cs) 0 0 (λ d e. child-after cat g 0 (segment cs d) e) xs
       ∙ Groups.above-group (typ cat cs) (fit cat cs) (key_ok cat cs) 0 0 first-child xs
-      ∙ Groups.above-end (typ cat cs) (fit cat cs) (key_ok cat cs) 0 1 only_child (Groups.group (typ cat cs) (fit cat cs) (key_ok cat cs) 1 none xs)
+      ∙ Groups.above-end (typ cat cs) (fit cat cs) (key_ok cat cs) 0 1 only_child (Groups.group (typ cat cs) (fit cat cs) (key_ok cat cs) 1 None xs)
 
-  pub listing-group : good_listing cat cs ≡ is_nil (after_group cat cs 1 none 0 (length cs))
+  pub listing-group : good_listing cat cs ≡ is_nil (after_group cat cs 1 None 0 (length cs))
   unfolding after_group good reads
   listing-group =
       listing-reader cat g cs
@@ -66,20 +66,20 @@ module _ (cat tab : Bytes) (g : good_catalogue cat ≡ true) (n : ℕ) (e : n �
   none_left k zero = eq-eqb 0 0 refl
   none_left k (suc r) = ne_eqb (suc r) 0 (λ z. omega arith)
 
-  left-told : (k r : ℕ) → after_group cat (listing cat tab) 1 none 0 n ≡ range k r → eqb r 0 ≡ good_listing cat (listing cat tab)
+  left-told : (k r : ℕ) → after_group cat (listing cat tab) 1 None 0 n ≡ range k r → eqb r 0 ≡ good_listing cat (listing cat tab)
   left-told k r h =
       let z : length (listing cat tab) ≡ n = listing-length cat tab ∙ sym e in
       none_left k r ∙ ap is_nil (sym h) ∙ sym (rw z at (listing-group cat g (listing cat tab)))
 
   -- no cells, a first cell of another type than 1, and as the reader says
   pub listing_none : n ≡ 0 → true ≡ good_listing cat (listing cat tab)
-  listing_none z = sym (eq-eqb n 0 z) ∙ left-told 0 n (group-none cat (listing cat tab) 1 none 0 n z)
+  listing_none z = sym (eq-eqb n 0 z) ∙ left-told 0 n (group-none cat (listing cat tab) 1 None 0 n z)
 
   module _ (some : n ≡ 0 → ⊥) where
     pub listing-other : (u : TypeCode) → u ≡ (segment (listing cat tab) 0).code → (u.0 ≡ 1 → ⊥) → false ≡ good_listing cat (listing cat tab)
     listing-other u h o =
         let q : typ cat (listing cat tab) 0 ≡ 1 → ⊥ = λ z. o (ap (λ (t : TypeCode). t.0) h ∙ z) in
-        sym (ne_eqb n 0 some) ∙ left-told 0 n (group-stop cat (listing cat tab) 1 none 0 n (omega arith) (first-other cat (listing cat tab) 1 0 q))
+        sym (ne_eqb n 0 some) ∙ left-told 0 n (group-stop cat (listing cat tab) 1 None 0 n (omega arith) (first-other cat (listing cat tab) 1 0 q))
 
     -- the reader is lent all cells, the first one a root
     module _ {cells facts : Bytes} (t : Told cat tab cells facts) where

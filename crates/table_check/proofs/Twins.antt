@@ -1,4 +1,6 @@
 -- Whether the next cell is the next twin: what each way out of the code says of every catalogue and table that it is told of. Assumes nothing.
+use Rattle.std.specs.declared.cmp.Ordering.{Ordering}
+use Rattle.std.specs.declared.cmp.Ordering.TheVariants.{Equal, Greater, Less}
 use mathlib.Core.Path.{◌≡◌, refl, ap, ap₂, sym, ◌∙◌}
 use mathlib.Core.Bool.{Bool, true, false, not}
 use Prim.Native.Nat.{ℕ, ◌+◌, ◌-◌, ◌*◌, ◌<◌, ◌≤◌}
@@ -6,11 +8,9 @@ use native.Mathlib.Omega.{arith}
 use lib.Dec.{eqb}
 use borrow.Author.Tests.{eq-eqb, ne_eqb}
 use Rattle.terms.specs.declared.Operator.TheVariants.{Lt}
-use Rattle.terms.specs.declared.Order.{Order}
-use Rattle.terms.specs.declared.Order.TheVariants.{Smaller, Equal, Greater}
 use Rattle.terms.specs.Names.{code}
 use Rattle.forest.specs.Forest.{inside, outside, side}
-use Rattle.terms.specs.Operators.{is_smaller, is_greater}
+use Rattle.std.specs.Ordering.{is_lt, is_gt}
 use Rattle.rules.specs.Block.{Bytes}
 use Rattle.rules.specs.Packed.{is_number, packed_order}
 use Rattle.rules.specs.Catalogue.{types, key_kind, key_length, key_value}
@@ -50,7 +50,7 @@ module _ {cells facts : Bytes} {v last left : ℕ} (w : Follows cells facts v la
       value-told : key_value cat (segment (listing cat tab) (count tab - last)).code ≡ key_value cat (code v)
       value-told = ap (λ (u : ℕ). key_value cat (code u)) s
 
-      order-told : key_value cat (code v) ≡ 0 → {o : Order} → o ≡ order (key_before cells facts v last) (key_before cells facts v left)
+      order-told : key_value cat (code v) ≡ 0 → {o : Ordering} → o ≡ order (key_before cells facts v last) (key_before cells facts v left)
           → o ≡ key_order cat (segment (listing cat tab) (count tab - last)) (segment (listing cat tab) (count tab - left))
       unfolding key_order
       order-told z o =
@@ -111,7 +111,7 @@ module _ {cells facts : Bytes} {v last left : ℕ} (w : Follows cells facts v la
       }
 
       module _ (l : kind ≤ 2) where
-        pub smaller-key : Smaller ≡ order (key_before cells facts v last) (key_before cells facts v left) → TwinIs cells facts v last left true
+        pub smaller-key : Less ≡ order (key_before cells facts v last) (key_before cells facts v left) → TwinIs cells facts v last left true
         smaller-key o = record {
           is = λ t k s. let p = bytes-kind t k l in Groups.twin-smaller _ _ _ _ _ (type-told t) s kind p.0 (order-told t k s p.1 o);
         }
@@ -130,8 +130,8 @@ module _ {cells facts : Bytes} {v last left : ℕ} (w : Follows cells facts v la
           }
 
 -- what is not greater the other way round is not smaller
-turned-smaller : (o : Order) → is_smaller (turned o) ≡ is_greater o
-turned-smaller Smaller = refl
+turned-smaller : (o : Ordering) → is_lt (turned o) ≡ is_gt o
+turned-smaller Less = refl
 turned-smaller Equal = refl
 turned-smaller Greater = refl
 
@@ -144,6 +144,6 @@ module _ (kind : ℕ) (a b : Bytes) {x y : Bytes} (e : x ≡ a) (f : y ≡ b) {r
   pub multiple-follows : (kind ≡ 5 → ⊥) → (is_number x ≡ true → r ≡ tested 1 Lt y x) → is_number a ≡ true → is_number b ≡ true → not r ≡ packed_follows kind a b
   unfolding packed_follows
   multiple-follows n g p q =
-      let z : r ≡ is_greater (packed_order a b) =
-      g (ap is_number e ∙ p) ∙ ap₂ (tested 1 Lt) f e ∙ holds-packed Lt b a q ∙ ap is_smaller (packed-turned a b) ∙ turned-smaller (packed_order a b) in
+      let z : r ≡ is_gt (packed_order a b) =
+      g (ap is_number e ∙ p) ∙ ap₂ (tested 1 Lt) f e ∙ holds-packed Lt b a q ∙ ap is_lt (packed-turned a b) ∙ turned-smaller (packed_order a b) in
       rw (ne_eqb kind 5 n) (ap not z)

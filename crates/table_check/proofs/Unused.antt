@@ -1,23 +1,22 @@
 -- The bytes that no segment uses, cell by cell. Assumes nothing.
 use mathlib.Core.Path.{◌≡◌, refl, ap, sym, ◌∙◌}
-use mathlib.Core.Bool.{Bool, true, false}
+use mathlib.Core.Bool.{true}
 use Prim.Native.Nat.{ℕ, suc, ◌+◌, ◌-◌, ◌<◌, ◌≤◌}
 use native.Mathlib.Omega.{arith}
 use lib.ListN.{length, drop, length-drop}
 use lib.Seq.{take_all}
 use Rattle.terms.specs.declared.TypeCode.{TypeCode}
-use Rattle.forest.specs.Numbers.{range}
 use Rattle.rules.specs.Block.{Bytes, part, every, zeros}
 use Rattle.rules.specs.Catalogue.{length_of}
 use Rattle.rules.specs.Cells.{segment}
 use Rattle.rules.specs.Table.{count, cell_start, type_at, listing, padded}
-use Rattle.rules.proofs.Every.{every_in, every-out}
 use Rattle.cells.specs.Lent.{Sized, start_of}
 use Rattle.cells.proofs.Start.{start_is}
 use Rattle.cells.proofs.Located.{type-of}
 
 -- cell i, whose type the code has read as t and whose data length as w
-module _ {cat tab : Bytes} {size : ℕ} (s : Sized cat tab size) (i : ℕ) (l : i < count tab) {t : TypeCode} (e : t ≡ (segment (listing cat tab) i).code) {w : ℕ} (h : w ≡ length_of cat t) where
+module _ {cat tab : Bytes} {size : ℕ} (s : Sized cat tab size) (i : ℕ) (l : i < count tab)
+    {t : TypeCode} (e : t ≡ (segment (listing cat tab) i).code) {w : ℕ} (h : w ≡ length_of cat t) where
   pad-is : (at : ℕ) → at ≡ start_of tab size i → padded cat tab i ≡ zeros (part tab (suc at + w) (size - suc w))
   unfolding padded
   pad-is at b =
@@ -34,21 +33,6 @@ module _ {cat tab : Bytes} {size : ℕ} (s : Sized cat tab size) (i : ℕ) (l : 
       let x : at + (1 + w) ≡ suc at + w = omega arith in
       let y : at + size - (at + (1 + w)) ≡ size - suc w = omega arith in
       rw (y, x) (sym (pad-is at b))
-
--- the cells from i on, up to the last
-module _ (p : ℕ → Bool) (i n : ℕ) where
-  pub cells-next : i < n → p i ≡ true → every p (range (i + 1) (n - (i + 1))) ≡ every p (range i (n - i))
-  cells-next h e =
-      let z : n - i ≡ suc (n - (i + 1)) = omega arith in
-      let w : i + 1 ≡ suc i = omega arith in
-      rw (z, w) (sym (every_in p i (range (suc i) (n - suc i)) e))
-
-  pub cells-stop : i < n → p i ≡ false → false ≡ every p (range i (n - i))
-  cells-stop h e = let z : n - i ≡ suc (n - (i + 1)) = omega arith in rw z (sym (every-out p i (range (suc i) (n - (i + 1))) e))
-
-  pub cells-done : n ≤ i → true ≡ every p (range i (n - i))
-  unfolding every
-  cells-done h = let z : n - i ≡ 0 = omega arith in rw z
 
 -- the free cells are all that follows the first n
 pub free-is : {cat tab : Bytes} {size : ℕ} → Sized cat tab size → (n from : ℕ) → n ≡ count tab → from ≡ start_of tab size n

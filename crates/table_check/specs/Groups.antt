@@ -1,6 +1,5 @@
 -- What the twin-group reader and the segment reader leave of a stretch of cells. Assumes nothing: these are definitions.
-use Rattle.std.specs.Prelude.{Bool, List, ℕ, suc, ◌-◌}
-use Rattle.std.proofs.Math.Option.{Option, none, some}
+use Rattle.std.specs.Prelude.{Bool, List, ℕ, suc, ◌-◌, None, Some, Option}
 use Rattle.forest.specs.Numbers.{range}
 use Rattle.forest.specs.Groups as Groups
 use Rattle.rules.specs.Block.{Bytes}
@@ -27,11 +26,11 @@ module _ (cat : Bytes) (cs : List Segment) where
 
   -- what is left of the cells behind the row of segments under a segment of type p
   unfoldable pub after_row : ℕ → ℕ → ℕ → List ℕ
-  after_row p i left = Groups.rest_of typ fit key_ok p none (range i left)
+  after_row p i left = Groups.rest_of typ fit key_ok p None (range i left)
 
   -- what is left of the cells behind the twins of type v, cell i being one of them and the first of `left` cells
   unfoldable pub after_twin : ℕ → ℕ → ℕ → List ℕ
-  after_twin v i left = Groups.group typ fit key_ok v (some i) (after_row v (suc i) (left - 1))
+  after_twin v i left = Groups.group typ fit key_ok v (Some i) (after_row v (suc i) (left - 1))
 
   -- what is left behind the row, where the groups of the types up to b have been read
   unfoldable pub after_types : ℕ → ℕ → ℕ → ℕ → List ℕ

@@ -2,7 +2,7 @@
 use Rattle.std.specs.Prelude.{◌≡◌, Bool, true, ◌&&◌, ◌||◌, not, ℕ, ◌<◌, eqb}
 use Rattle.terms.specs.Choice.{pick}
 use Rattle.terms.specs.Names.{code}
-use Rattle.terms.specs.Operators.{is_smaller, is_greater}
+use Rattle.std.specs.Ordering.{is_lt, is_gt}
 use Rattle.forest.specs.Numbers.{range}
 use Rattle.rules.specs.Block.{Bytes, every}
 use Rattle.rules.specs.Packed.{packed_order}
@@ -28,4 +28,4 @@ Valued cat tab = (i : ℕ) → i < count tab → is_type cat (segment (listing c
 
 -- a packed key may stand before a later twin's, by the kind that the row of facts has: 5 where it is unique
 unfoldable pub packed_follows : ℕ → Bytes → Bytes → Bool
-packed_follows kind a b = pick (eqb kind 5) (is_smaller (packed_order a b)) (not (is_greater (packed_order a b)))
+packed_follows kind a b = pick (eqb kind 5) (is_lt (packed_order a b)) (not (is_gt (packed_order a b)))

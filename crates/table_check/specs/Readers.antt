@@ -1,7 +1,6 @@
 -- What the two readers are lent and what they leave: the cells up to the last one, a row of what the catalogue says of its types, and how many cells are
 -- left. Assumes nothing: these are definitions.
-use Rattle.std.specs.Prelude.{◌≡◌, Bool, true, ℕ, ◌+◌, ◌-◌, ◌*◌, ◌<◌, ◌≤◌, length, take}
-use Rattle.std.proofs.Math.Option.{none, some}
+use Rattle.std.specs.Prelude.{◌≡◌, Bool, true, ℕ, ◌+◌, ◌-◌, ◌*◌, ◌<◌, ◌≤◌, length, take, None, Some}
 use Rattle.terms.specs.Names.{code}
 use Rattle.forest.specs.Numbers.{range}
 use Rattle.rules.specs.Block.{Bytes, byte, part}
@@ -73,12 +72,12 @@ pub record Told (cat tab cells facts : Bytes) : Type 0 where
 -- the cell at which `left` are left is a twin of type v behind the one at which `last` were left
 pub record TwinIs (cells facts : Bytes) (v last left : ℕ) (r : Bool) : Type 0 where
   pub is : {cat tab : Bytes} → Told cat tab cells facts → v ≤ types cat → typ cat (listing cat tab) (count tab - last) ≡ v
-      → r ≡ is_twin cat (listing cat tab) v (some (count tab - last)) (count tab - left)
+      → r ≡ is_twin cat (listing cat tab) v (Some (count tab - last)) (count tab - left)
 
 -- of the last `left` cells the last r are left behind the twins of type v, and behind the row of groups under a segment of type p
 pub record GroupLeaves (cells facts : Bytes) (v left r : ℕ) : Type 0 where
   pub is : {cat tab : Bytes} → Told cat tab cells facts → v ≤ types cat
-      → after_group cat (listing cat tab) v none (count tab - left) left ≡ range (count tab - r) r
+      → after_group cat (listing cat tab) v None (count tab - left) left ≡ range (count tab - r) r
 
 pub record SegmentLeaves (cells facts : Bytes) (p left r : ℕ) : Type 0 where
   pub is : {cat tab : Bytes} → Told cat tab cells facts
@@ -88,7 +87,7 @@ pub record SegmentLeaves (cells facts : Bytes) (p left r : ℕ) : Type 0 where
 pub record GroupAt (cells facts : Bytes) (v left rest : ℕ) : Type 0 where
   pub type : {cat tab : Bytes} → Told cat tab cells facts → v ≤ types cat → typ cat (listing cat tab) (count tab - rest) ≡ v
   pub is : {cat tab : Bytes} → Told cat tab cells facts → v ≤ types cat
-      → after_twin cat (listing cat tab) v (count tab - rest) rest ≡ after_group cat (listing cat tab) v none (count tab - left) left
+      → after_twin cat (listing cat tab) v (count tab - rest) rest ≡ after_group cat (listing cat tab) v None (count tab - left) left
 
 -- the segment reader has read the groups of the types up to c, and `rest` cells are left
 pub record SegmentAt (cells facts : Bytes) (p left c rest : ℕ) : Type 0 where

@@ -16,19 +16,14 @@ use cells::lookup::{cell_size, count};
 use terms::Status;
 
 // R10 to R12: mark, version, C, n and the room.
+#[tactic(auto, unfolding(crate::specs::Frame::good_frame))]
 fn good_frame(cat: &[u8], tab: &[u8]) -> bool
     ensures { result ≡ good_frame cat.now tab.now }
 {
-    if !good_room(cat, tab) {
-        return false;
-    }
-    if !is_marked(0x54, tab) {
-        return false;
-    }
-    if wide(byte_at(tab, 5)) != cell_size(cat) {
-        return false;
-    }
-    count(tab) <= room(cat, tab)
+    good_room(cat, tab)
+        && is_marked(b'T', tab)
+        && wide(byte_at(tab, 5)) == cell_size(cat)
+        && count(tab) <= room(cat, tab)
 }
 
 // Whether the table is good, on a catalogue that is.
@@ -36,31 +31,24 @@ pub fn is_good_on(cat: &[u8], tab: &[u8]) -> bool
     requires { good_catalogue cat.now ≡ true }
     ensures { result ≡ good_table cat.now tab.now }
 {
-    if !good_frame(cat, tab) {
-        return false;
-    }
     let size = cell_size(cat);
-    if !all_padded(cat, tab, size) {
-        return false;
-    }
-    if !all_free(cat, tab, size) {
-        return false;
-    }
-    if !has_keys(cat, tab, size) {
-        return false;
-    }
-    is_listing(cat, tab, size)
+    good_frame(cat, tab)
+        && all_padded(cat, tab, size)
+        && all_free(cat, tab, size)
+        && has_keys(cat, tab, size)
+        && is_listing(cat, tab, size)
 }
 
 // R65: CX, TX, or Blank where both blocks are good.
+#[tactic(auto, unfolding(rules::specs::Outcome::check_table))]
 pub fn check(cat: &[u8], tab: &[u8]) -> Status
     ensures { result ≡ check_table cat.now tab.now }
 {
     if !is_good(cat) {
-        return Status::CX;
+        Status::CX
+    } else if !is_good_on(cat, tab) {
+        Status::TX
+    } else {
+        Status::Blank
     }
-    if !is_good_on(cat, tab) {
-        return Status::TX;
-    }
-    Status::Blank
 }

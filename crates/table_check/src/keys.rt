@@ -12,23 +12,14 @@ use catalogue::entries::{key_length, key_start, key_value};
 use catalogue::entry_bytes::types;
 use catalogue::type_range::is_type;
 use cells::lookup::{code_at, count, data_part};
-use terms::CellNumber;
+use terms::{CellNumber, TypeCode};
 use values::is_value;
 
 // Whether no type has a packed key.
 fn plain_keys(cat: &[u8]) -> bool
-    requires { good_catalogue cat.now ≡ true }
     ensures { result ≡ plain_keys cat.now }
 {
-    let top = wide(types(cat));
-    let mut k: usize = 0;
-    while k < top {
-        k += 1;
-        if cat[8 * k + 7] != 0 {
-            return false;
-        }
-    }
-    true
+    (1..=types(cat)).all(|k| key_value(cat, TypeCode(k)) == 0)
 }
 
 // Whether cell c is of a type of the catalogue, and its key a value.
@@ -37,36 +28,23 @@ fn is_keyed_cell(cat: &[u8], tab: &[u8], size: usize, c: CellNumber) -> bool
     ensures { result ≡ keyed_cell cat.now (segment (listing cat.now tab.now) c.0) }
 {
     let t = code_at(cat, tab, size, c);
-    if !is_type(cat, t) {
-        return false;
-    }
     let start = wide(key_start(cat, t));
     let long = wide(key_length(cat, t));
-    is_value(key_value(cat, t), data_part(cat, tab, size, c, start, long))
+    is_type(cat, t) && is_value(key_value(cat, t), data_part(cat, tab, size, c, start, long))
 }
 
 fn all_keyed(cat: &[u8], tab: &[u8], size: usize) -> bool
     requires { (good_catalogue cat.now ≡ true) × Sized cat.now tab.now size }
     ensures { result ≡ every (keyed_cell cat.now) (listing cat.now tab.now) }
 {
-    let n = count(tab);
-    let mut i = 0;
-    while i < n {
-        if !is_keyed_cell(cat, tab, size, CellNumber(i)) {
-            return false;
-        }
-        i += 1;
-    }
-    true
+    (0..count(tab)).all(|i| is_keyed_cell(cat, tab, size, CellNumber(i)))
 }
 
 // R89, where the listing is good.
+#[tactic(auto, unfolding(crate::specs::Keys::has_keys))]
 pub(crate) fn has_keys(cat: &[u8], tab: &[u8], size: usize) -> bool
     requires { (good_catalogue cat.now ≡ true) × Sized cat.now tab.now size }
     ensures { result ≡ has_keys cat.now tab.now }
 {
-    if plain_keys(cat) {
-        return true;
-    }
-    all_keyed(cat, tab, size)
+    plain_keys(cat) || all_keyed(cat, tab, size)
 }

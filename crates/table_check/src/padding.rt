@@ -17,28 +17,15 @@ fn is_padded(cat: &[u8], tab: &[u8], size: usize, i: usize) -> bool
     ensures { result ≡ padded cat.now tab.now i }
 {
     let used = 1 + wide(data_length(cat, code_at(cat, tab, size, CellNumber(i))));
-    if size <= used {
-        return true;
-    }
     let at = start_of(tab, size, CellNumber(i));
-    let a = at + used;
-    let b = at + size;
-    all_zero(&tab[a..b])
+    size <= used || all_zero(&tab[at + used..at + size])
 }
 
 pub(crate) fn all_padded(cat: &[u8], tab: &[u8], size: usize) -> bool
     requires { Sized cat.now tab.now size }
     ensures { result ≡ every (padded cat.now tab.now) (range 0 (count tab.now)) }
 {
-    let n = count(tab);
-    let mut i = 0;
-    while i < n {
-        if !is_padded(cat, tab, size, i) {
-            return false;
-        }
-        i += 1;
-    }
-    true
+    (0..count(tab)).all(|i| is_padded(cat, tab, size, i))
 }
 
 pub(crate) fn all_free(cat: &[u8], tab: &[u8], size: usize) -> bool

@@ -15,7 +15,8 @@ use blocks::slices::order_of;
 use blocks::wide;
 use catalogue::entry_bytes::types;
 use cells::lookup::{code_at, count, start_of};
-use terms::{CellNumber, Operator, Order};
+use std::cmp::Ordering;
+use terms::{CellNumber, Operator};
 use values::holds_at;
 
 // A type's code as the row of facts is asked by it: a byte would be kept twice in each frame, narrow and wide.
@@ -29,9 +30,7 @@ fn fill(cat: &[u8], size: usize, facts: &mut [u8; 132])
     ensures { Filled cat.now size (types cat.now) facts.new }
 {
     facts[0] = size as u8;
-    let mut v: usize = 0;
-    while v < wide(types(cat)) {
-        v += 1;
+    for v in 1..=wide(types(cat)) {
         facts[4 * v] = cat[8 * v];
         facts[4 * v + 1] = cat[8 * v + 2] + 4 * cat[8 * v + 7];
         facts[4 * v + 2] = cat[8 * v + 3];
@@ -65,7 +64,7 @@ fn code_before(cells: &[u8], facts: &[u8; 132], left: usize) -> TypeIndex
 }
 
 // How the key of a cell of type t, at which `last` were left, stands to that of a later one, at which `left` are left.
-fn key_order(cells: &[u8], facts: &[u8; 132], t: TypeIndex, last: usize, left: usize) -> Order
+fn key_order(cells: &[u8], facts: &[u8; 132], t: TypeIndex, last: usize, left: usize) -> Ordering
     requires { Follows cells.now facts.now t.0 last left }
     ensures { result ≡ order (key_before cells.now facts.now t.0 last)
         (key_before cells.now facts.now t.0 left) }
@@ -93,9 +92,10 @@ fn packed_twin(cells: &[u8], facts: &[u8; 132], t: TypeIndex, last: usize, left:
     let a = start_before(cells, facts, last) + from;
     let b = start_before(cells, facts, left) + from;
     if fact(facts, t, 1) == 5 {
-        return holds_at(Operator::Lt, cells, a, cells, b, long);
+        holds_at(Operator::Lt, cells, a, cells, b, long)
+    } else {
+        !holds_at(Operator::Lt, cells, b, cells, a, long)
     }
-    !holds_at(Operator::Lt, cells, b, cells, a, long)
 }
 
 // Whether the next cell is the next twin of type t behind the twin at which `last` were left. A type without a key is one whose key has no byte.
@@ -114,14 +114,14 @@ fn twin(cells: &[u8], facts: &[u8; 132], t: TypeIndex, last: usize, left: usize)
         return packed_twin(cells, facts, t, last, left);
     }
     match key_order(cells, facts, t, last, left) {
-        Order::Smaller => true,
-        Order::Equal => kind != 1,
-        Order::Greater => false,
+        Ordering::Less => true,
+        Ordering::Equal => kind != 1,
+        Ordering::Greater => false,
     }
 }
 
 // The twins of one group (R14): the next cell is the first twin of type v. The twins are read in a loop, so that a call stands
-// only for a level.
+// only for a level. Neither this loop nor the one of `segment` counts an index: what was read tells where to read on.
 #[cycle(group_segment)]
 fn group(cells: &[u8], facts: &[u8; 132], v: TypeIndex, left: usize) -> usize
     requires { Headed cells.now facts.now v.0 left }

@@ -8,22 +8,16 @@ use cells::lookup::cell_size;
 pub(crate) fn room(cat: &[u8], tab: &[u8]) -> usize
     ensures { result ≡ room cat.now tab.now }
 {
-    let size = cell_size(cat);
     if tab.len() < 8 {
-        return 0;
+        0
+    } else {
+        (tab.len() - 8) / cell_size(cat)
     }
-    (tab.len() - 8) / size
 }
 
 pub fn good_room(cat: &[u8], tab: &[u8]) -> bool
     ensures { result ≡ good_room cat.now tab.now }
 {
-    if tab.len() < 8 {
-        return false;
-    }
     let m = room(cat, tab);
-    if tab.len() != 8 + m * cell_size(cat) {
-        return false;
-    }
-    m <= 4096
+    8 <= tab.len() && tab.len() == 8 + m * cell_size(cat) && m <= 4096
 }

@@ -1,8 +1,8 @@
 -- A table whose rows each name their own line holds each of them once. Assumes nothing.
+use Rattle.std.specs.Prelude.{Some}
 use mathlib.Core.Path.{◌≡◌, ap}
 use mathlib.Core.Bool.{Bool, true, false, ◌&&◌}
 use mathlib.Core.List.{List, [], ◌∷◌}
-use mathlib.Core.Option.{some}
 use Prim.Native.Nat.{ℕ, zero, suc, ◌+◌}
 use native.Mathlib.Omega.{arith}
 use lib.Dec.{T, eqb, eqb→eq}
@@ -18,7 +18,7 @@ module _ {A : Type 0} (line : A → ℕ) where
   in_line k [] = true
   in_line k (r ∷ rs) = eqb (line r) k && in_line (suc k) rs
 
-  in-line : (k : ℕ) (rs : List A) → T (in_line k rs) → (i : ℕ) (r : A) → printed_row rs i ≡ some r → k + i ≡ line r
+  in-line : (k : ℕ) (rs : List A) → T (in_line k rs) → (i : ℕ) (r : A) → printed_row rs i ≡ Some r → k + i ≡ line r
   in-line k [] h i r e = cc
   in-line k (q ∷ rs) h zero r e =
       let same : q ≡ r = cc in
@@ -30,5 +30,5 @@ module _ {A : Type 0} (line : A → ℕ) where
       omega arith
 
   -- LAW: where the rows name lines 0, 1 and so on, a row stands in the line that it names, and in no other
-  pub own_line : (rs : List A) → T (in_line 0 rs) → (i : ℕ) (r : A) → printed_row rs i ≡ some r → i ≡ line r
+  pub own_line : (rs : List A) → T (in_line 0 rs) → (i : ℕ) (r : A) → printed_row rs i ≡ Some r → i ≡ line r
   own_line rs h i r e = let at : 0 + i ≡ line r = in-line 0 rs h i r e in omega arith

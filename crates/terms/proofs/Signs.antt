@@ -1,10 +1,10 @@
 -- `operator_of`, `operator_number` and `holds` are the columns of Paper.antt's operators (R25). Assumes nothing.
+use Rattle.std.specs.declared.cmp.Ordering.TheVariants.{Equal, Greater, Less}
+use Rattle.std.specs.Prelude.{None, Some, Option}
 use mathlib.Core.Path.{◌≡◌, refl, ap, ◌∙◌}
-use mathlib.Core.Option.{Option, none, some}
 use Prim.Native.Nat.{ℕ, zero, suc, ◌≤◌}
 use native.Mathlib.Omega.{arith}
 use Prim.Native.String.{String}
-use Rattle.terms.specs.declared.Order.TheVariants.{Smaller, Equal, Greater}
 use Rattle.terms.specs.declared.Operator.{Operator}
 use Rattle.terms.specs.declared.Operator.TheVariants.{Eq, Ne, Lt, Le, Gt, Ge}
 use Rattle.terms.specs.Operators.{holds, operator_of, operator_number}
@@ -14,8 +14,8 @@ use Rattle.terms.proofs.Rows.{own_line}
 
 -- the line that a row of the table names
 abbrev line : Option Operator → ℕ
-line none = 0
-line (some o) = operator_number o
+line None = 0
+line (Some o) = operator_number o
 
 abbrev sign : Operator → String
 sign Eq = "="
@@ -26,7 +26,7 @@ sign Gt = ">"
 sign Ge = "≥"
 
 -- CLAIM: the row of an operator's number is the operator's
-operator-rows : (o : Operator) → printed_row printed_operators (operator_number o) ≡ some (signed (operator_number o) (sign o) (some o))
+operator-rows : (o : Operator) → printed_row printed_operators (operator_number o) ≡ Some (signed (operator_number o) (sign o) (Some o))
 unfolding printed_operators
 operator-rows Eq = refl
 operator-rows Ne = refl
@@ -35,7 +35,7 @@ operator-rows Le = refl
 operator-rows Gt = refl
 operator-rows Ge = refl
 
-operator-once : (o : Operator) (i : ℕ) (r : OperatorRow) → printed_row printed_operators i ≡ some r → r.operator ≡ some o → i ≡ operator_number o
+operator-once : (o : Operator) (i : ℕ) (r : OperatorRow) → printed_row printed_operators i ≡ Some r → r.operator ≡ Some o → i ≡ operator_number o
 unfolding printed_operators
 operator-once o i r there same = own_line (λ (q : OperatorRow). line q.operator) printed_operators tt i r there ∙ ap line same
 
@@ -49,7 +49,7 @@ truth_line Gt = 4
 truth_line Ge = 5
 
 -- CLAIM: what holds is what the sign says
-truth-rows : (o : Operator) → printed_row printed_truth (truth_line o) ≡ some (says (sign o) (holds o Smaller) (holds o Equal) (holds o Greater))
+truth-rows : (o : Operator) → printed_row printed_truth (truth_line o) ≡ Some (says (sign o) (holds o Less) (holds o Equal) (holds o Greater))
 unfolding printed_truth
 truth-rows Eq = refl
 truth-rows Ne = refl

@@ -1,7 +1,7 @@
 -- `number` and `letters` are the columns of Paper.antt's statuses (R48), and tell the statuses apart. Assumes nothing.
+use Rattle.std.specs.Prelude.{Some}
 use mathlib.Core.Path.{◌≡◌, refl, sym, ap, ◌∙◌}
 use mathlib.Core.List.{List, [], ◌∷◌}
-use mathlib.Core.Option.{some}
 use Prim.Native.Nat.{ℕ, ◌+◌, ◌*◌}
 use lib.Dec.{eqb}
 use lib.ListN.{get_or}
@@ -37,7 +37,7 @@ line FX = 18
 line PD = 19
 
 -- CLAIM: the row there holds its number and its letters
-status-rows : (s : Status) → printed_row printed_statuses (line s) ≡ some (record { status = s; number = number s; letters = letters s })
+status-rows : (s : Status) → printed_row printed_statuses (line s) ≡ Some (record { status = s; number = number s; letters = letters s })
 unfolding printed_statuses
 status-rows Blank = refl
 status-rows GA = refl

@@ -1,34 +1,19 @@
--- How one value stands to another, and what an operator asks of that. Assumes nothing: these are definitions.
-use Rattle.std.specs.Prelude.{Bool, true, false, not, ℕ, eqb}
-use Rattle.terms.specs.declared.Order.{Order}
-use Rattle.terms.specs.declared.Order.TheVariants.{Smaller, Equal, Greater}
+-- What an operator asks of how one value stands to another. Assumes nothing: these are definitions.
+use Rattle.std.specs.declared.cmp.Ordering.{Ordering}
+use Rattle.std.specs.Prelude.{Bool, not, ℕ, eqb}
+use Rattle.std.specs.Ordering.{is_lt, is_eq, is_gt}
 use Rattle.terms.specs.declared.Operator.{Operator}
 use Rattle.terms.specs.declared.Operator.TheVariants.{Eq, Ne, Lt, Le, Gt, Ge}
 use Rattle.terms.specs.Choice.{pick}
 
-abbrev pub is_smaller : Order → Bool
-is_smaller Smaller = true
-is_smaller Equal = false
-is_smaller Greater = false
-
-abbrev pub is_equal : Order → Bool
-is_equal Smaller = false
-is_equal Equal = true
-is_equal Greater = false
-
-abbrev pub is_greater : Order → Bool
-is_greater Smaller = false
-is_greater Equal = false
-is_greater Greater = true
-
 -- R25: the field is on the left
-abbrev pub holds : Operator → Order → Bool
-holds Eq o = is_equal o
-holds Ne o = not (is_equal o)
-holds Lt o = is_smaller o
-holds Le o = not (is_greater o)
-holds Gt o = is_greater o
-holds Ge o = not (is_smaller o)
+abbrev pub holds : Operator → Ordering → Bool
+holds Eq o = is_eq o
+holds Ne o = not (is_eq o)
+holds Lt o = is_lt o
+holds Le o = not (is_gt o)
+holds Gt o = is_gt o
+holds Ge o = not (is_lt o)
 
 -- R25: read from its number, for 1 to 6, and written as one
 unfoldable pub operator_of : ℕ → Operator

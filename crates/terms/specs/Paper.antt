@@ -1,7 +1,6 @@
 -- The statuses (R48) and the operators (R25) once more, row by row, to be laid beside the manual. That the definitions say the same is stated in Printed.antt.
 -- Assumes nothing: these are definitions.
-use Rattle.std.specs.Prelude.{Bool, true, false, List, [], ◌∷◌, ℕ, zero, suc}
-use Rattle.std.proofs.Math.Option.{Option, none, some}
+use Rattle.std.specs.Prelude.{Bool, true, false, List, [], ◌∷◌, ℕ, zero, suc, None, Some, Option}
 use Prim.Native.String.{String}
 use Rattle.terms.specs.declared.Status.{Status}
 use Rattle.terms.specs.declared.Status.TheVariants.{Blank, GA, GK, GB, GE, GP, CX, TX, PX, AD, AC, AJ, AK, AH, AB, DJ, DA, II, FX, PD}
@@ -11,8 +10,8 @@ use Rattle.terms.specs.Text.{bytes_of}
 
 -- row i of a table, counted from 0
 abbrev pub printed_row : {A : Type 0} → List A → ℕ → Option A
-printed_row [] i = none
-printed_row (r ∷ rs) zero = some r
+printed_row [] i = None
+printed_row (r ∷ rs) zero = Some r
 printed_row (r ∷ rs) (suc i) = printed_row rs i
 
 pub record StatusRow : Type 0 where
@@ -59,13 +58,13 @@ signed n sign o = record { number = n; sign = sign; operator = o }
 -- R25: each operator with its number and its sign
 unfoldable pub printed_operators : List OperatorRow
 printed_operators =
-    signed 0 "none" none
-    ∷ signed 1 "=" (some Eq)
-    ∷ signed 2 "≠" (some Ne)
-    ∷ signed 3 "<" (some Lt)
-    ∷ signed 4 "≤" (some Le)
-    ∷ signed 5 ">" (some Gt)
-    ∷ signed 6 "≥" (some Ge)
+    signed 0 "None" None
+    ∷ signed 1 "=" (Some Eq)
+    ∷ signed 2 "≠" (Some Ne)
+    ∷ signed 3 "<" (Some Lt)
+    ∷ signed 4 "≤" (Some Le)
+    ∷ signed 5 ">" (Some Gt)
+    ∷ signed 6 "≥" (Some Ge)
     ∷ []
 
 -- what a sign says of a field that is smaller than the value, equal to it, greater: the field is on the left (R25)

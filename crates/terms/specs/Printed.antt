@@ -1,10 +1,9 @@
 -- The definitions say what the manual prints: `number`, `letters`, `operator_of` and `holds` are the columns of Paper.antt's tables. Assumes nothing: these are
 -- definitions, and the proofs are in proofs/.
-use Rattle.std.specs.Prelude.{◌≡◌, ℕ, ◌≤◌}
-use Rattle.std.proofs.Math.Option.{some}
+use Rattle.std.specs.declared.cmp.Ordering.TheVariants.{Equal, Greater, Less}
+use Rattle.std.specs.Prelude.{◌≡◌, ℕ, ◌≤◌, Some}
 use Prim.Native.String.{String}
 use Rattle.terms.specs.declared.Status.{Status}
-use Rattle.terms.specs.declared.Order.TheVariants.{Smaller, Equal, Greater}
 use Rattle.terms.specs.declared.Operator.{Operator}
 use Rattle.terms.specs.Statuses.{number, letters}
 use Rattle.terms.specs.Operators.{holds, operator_of, operator_number}
@@ -13,8 +12,8 @@ use Rattle.terms.specs.Paper.{printed_row, StatusRow, printed_statuses, Operator
 -- the row of a status holds its number and its letters, and no other row is of this status
 pub record StatusPrinted (s : Status) : Type 0 where
   pub line : ℕ
-  pub row : printed_row printed_statuses line ≡ some (record { status = s; number = number s; letters = letters s })
-  pub once : (i : ℕ) (r : StatusRow) → printed_row printed_statuses i ≡ some r → r.status ≡ s → i ≡ line
+  pub row : printed_row printed_statuses line ≡ Some (record { status = s; number = number s; letters = letters s })
+  pub once : (i : ℕ) (r : StatusRow) → printed_row printed_statuses i ≡ Some r → r.status ≡ s → i ≡ line
 
 abbrev pub StatusesPrinted : Type 0
 StatusesPrinted = (s : Status) → StatusPrinted s
@@ -29,10 +28,10 @@ LettersApart = (s t : Status) → letters s ≡ letters t → s ≡ t
 -- the row of an operator's number is the operator's, and no other is; what its sign says is what holds
 pub record OperatorPrinted (o : Operator) : Type 0 where
   pub sign : String
-  pub row : printed_row printed_operators (operator_number o) ≡ some (signed (operator_number o) sign (some o))
-  pub once : (i : ℕ) (r : OperatorRow) → printed_row printed_operators i ≡ some r → r.operator ≡ some o → i ≡ operator_number o
+  pub row : printed_row printed_operators (operator_number o) ≡ Some (signed (operator_number o) sign (Some o))
+  pub once : (i : ℕ) (r : OperatorRow) → printed_row printed_operators i ≡ Some r → r.operator ≡ Some o → i ≡ operator_number o
   pub line : ℕ
-  pub truth : printed_row printed_truth line ≡ some (says sign (holds o Smaller) (holds o Equal) (holds o Greater))
+  pub truth : printed_row printed_truth line ≡ Some (says sign (holds o Less) (holds o Equal) (holds o Greater))
 
 abbrev pub OperatorsPrinted : Type 0
 OperatorsPrinted = (o : Operator) → OperatorPrinted o

@@ -1,19 +1,18 @@
 // The words of the rules as types. What the calls make of a position stands beside it.
 #![tactic(auto)]
 
-mod greater;
 pub mod operators;
 pub mod positions;
 pub mod statuses;
 
 // R9: three kinds of number, so that no lookup takes one for another.
-#[derive(Clone, Copy)]
+#[derive(Clone, Copy, PartialEq, Eq)]
 pub struct TypeCode(pub u8);
 
-#[derive(Clone, Copy)]
+#[derive(Clone, Copy, PartialEq, Eq)]
 pub struct FieldNumber(pub u8);
 
-#[derive(Clone, Copy)]
+#[derive(Clone, Copy, PartialEq, Eq, PartialOrd, Ord)]
 pub struct CellNumber(pub usize);
 
 // R18: on a cell, or in the gap before one.
@@ -24,11 +23,7 @@ pub enum Place {
 }
 
 // R20: none, or the cell of a segment.
-#[derive(Clone, Copy)]
-pub enum Parentage {
-    Absent,
-    Of(CellNumber),
-}
+pub type Parentage = Option<CellNumber>;
 
 #[derive(Clone, Copy)]
 pub struct Position {
@@ -48,12 +43,16 @@ pub enum Operator {
     Ge,
 }
 
-// R24: what an argument tests; the last number is where in the list the value begins.
+// R24: what an argument tests: a field, by an operator, against the value that begins at this byte of the list.
 #[derive(Clone, Copy)]
-pub enum Qualification {
-    None,
-    Test(Operator, FieldNumber, usize),
+pub struct Test {
+    pub operator: Operator,
+    pub field: FieldNumber,
+    pub value: usize,
 }
+
+// R24: an argument tests nothing, or a field.
+pub type Qualification = Option<Test>;
 
 // An argument as it was read, and where in the list the next one begins.
 #[derive(Clone, Copy)]
@@ -86,28 +85,6 @@ pub enum Status {
     II,
     FX,
     PD,
-}
-
-// R26: an argument, or the fault that answers.
-#[derive(Clone, Copy)]
-pub enum ArgumentRead {
-    Got(Argument),
-    Fault(Status),
-}
-
-// How one value stands to another.
-#[derive(Clone, Copy)]
-pub enum Order {
-    Smaller,
-    Equal,
-    Greater,
-}
-
-// What a search finds.
-#[derive(Clone, Copy)]
-pub enum Found {
-    At(CellNumber),
-    Nothing,
 }
 
 // R46: what a call tells, and the position that it leaves.

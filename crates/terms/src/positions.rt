@@ -11,7 +11,7 @@ impl Position {
     {
         Position {
             place: Place::Before(CellNumber(0)),
-            parentage: Parentage::Absent,
+            parentage: None,
             hold: false,
         }
     }
@@ -22,42 +22,26 @@ impl Position {
     {
         Position {
             place: Place::On(c),
-            parentage: parentage,
-            hold: hold,
+            parentage,
+            hold,
         }
     }
 
-    pub fn hold_dropped(self) -> Self
+    pub fn hold_dropped(mut self) -> Self
         ensures { result ≡ hold_dropped self }
     {
-        let here = self.place;
-        let above = self.parentage;
-        let held = false;
-        Position {
-            place: here,
-            parentage: above,
-            hold: held,
-        }
+        self.hold = false;
+        self
     }
 
     // R42: shifted by its own insert of cell c; `beneath` says whether that is beneath the parentage.
     pub fn after_insert(self, c: CellNumber, beneath: bool) -> Self
         ensures { result ≡ after_insert c.0 beneath self }
     {
-        let kept = self.parentage;
-        let none = Parentage::Absent;
-        if beneath {
-            Position {
-                place: Place::On(c),
-                parentage: kept,
-                hold: false,
-            }
-        } else {
-            Position {
-                place: Place::On(c),
-                parentage: none,
-                hold: false,
-            }
+        Position {
+            place: Place::On(c),
+            parentage: if beneath { self.parentage } else { None },
+            hold: false,
         }
     }
 
@@ -66,37 +50,19 @@ impl Position {
         requires { c.0 + n < 65536 }
         ensures { result ≡ after_delete c.0 n self }
     {
-        let parentage = self.parentage;
-        let gone = Position {
+        Position {
             place: Place::Before(c),
-            parentage: Parentage::Absent,
+            parentage: self.parentage.filter(|q| q.0 < c.0 || c.0 + n <= q.0),
             hold: false,
-        };
-        let Parentage::Of(q) = parentage else {
-            return gone;
-        };
-        let kept = Position {
-            place: Place::Before(c),
-            parentage: Parentage::Of(q),
-            hold: false,
-        };
-        if q.0 < c.0 {
-            return kept;
         }
-        if c.0 + n <= q.0 {
-            return kept;
-        }
-        gone
     }
 
     // The cell that the place is on, or in the gap before.
     pub fn cell(self) -> CellNumber
         ensures { result ≡ place_cell self.place }
     {
-        let place = self.place;
-        match place {
-            Place::On(c) => c,
-            Place::Before(c) => c,
+        match self.place {
+            Place::On(c) | Place::Before(c) => c,
         }
     }
 }

@@ -1,4 +1,6 @@
 -- The key of a new segment in the area, that of a cell in the table, and how the two stand to each other, as the code reads them. Assumes nothing.
+use Rattle.std.specs.declared.cmp.Ordering.{Ordering}
+use Rattle.std.specs.declared.cmp.Ordering.TheVariants.{Equal, Greater, Less}
 use mathlib.Core.Path.{◌≡◌, refl, ap, ap₂, sym, ◌∙◌}
 use mathlib.Core.Bool.{Bool, true, false}
 use mathlib.Core.List.{[]}
@@ -10,9 +12,8 @@ use lib.ListN.{length}
 use Rattle.terms.specs.declared.TypeCode.{TypeCode}
 use Rattle.terms.specs.declared.Operator.{Operator}
 use Rattle.terms.specs.declared.Operator.TheVariants.{Eq, Lt}
-use Rattle.terms.specs.declared.Order.{Order}
-use Rattle.terms.specs.declared.Order.TheVariants.{Smaller, Equal, Greater}
-use Rattle.terms.specs.Operators.{is_smaller, is_equal, holds}
+use Rattle.terms.specs.Operators.{holds}
+use Rattle.std.specs.Ordering.{is_lt, is_eq}
 use Rattle.forest.specs.Good.{on, off, is}
 use Rattle.rules.specs.Block.{Bytes, byte, part}
 use Rattle.rules.specs.Packed.{is_number, packed_order}
@@ -30,13 +31,13 @@ use Rattle.cells.proofs.Ancestry.{sound-keyed}
 use Rattle.twins.specs.Among.{Brought, New, Keyed}
 use Rattle.twins.proofs.Twins.{smaller-is}
 
-equal_is : (o : Order) → is_equal o ≡ true → o ≡ Equal
-equal_is Smaller e = let z : ◌≡◌ {A = ℕ} 0 1 = cc in absurd (omega arith)
+equal_is : (o : Ordering) → is_eq o ≡ true → o ≡ Equal
+equal_is Less e = let z : ◌≡◌ {A = ℕ} 0 1 = cc in absurd (omega arith)
 equal_is Equal e = refl
 equal_is Greater e = let z : ◌≡◌ {A = ℕ} 0 1 = cc in absurd (omega arith)
 
-greater-is : (o : Order) → is_smaller o ≡ false → is_equal o ≡ false → o ≡ Greater
-greater-is Smaller e f = let z : ◌≡◌ {A = ℕ} 0 1 = cc in absurd (omega arith)
+greater-is : (o : Ordering) → is_lt o ≡ false → is_eq o ≡ false → o ≡ Greater
+greater-is Less e f = let z : ◌≡◌ {A = ℕ} 0 1 = cc in absurd (omega arith)
 greater-is Equal e f = let z : ◌≡◌ {A = ℕ} 0 1 = cc in absurd (omega arith)
 greater-is Greater e f = refl
 
@@ -45,7 +46,7 @@ module _ (a b : Bytes) (h : is_number a ≡ true) (k : is_number b ≡ true) whe
   tested-is : (o : Operator) {r : Bool} → (is_number b ≡ true → r ≡ tested 1 o a b) → r ≡ holds o (packed_order a b)
   tested-is o f = f k ∙ rw (is-packed 1 a refl, value-packed 1 a b refl, h)
 
-  pub packed-smaller : {r : Bool} → (is_number b ≡ true → r ≡ tested 1 Lt a b) → r ≡ true → Smaller ≡ packed_order a b
+  pub packed-smaller : {r : Bool} → (is_number b ≡ true → r ≡ tested 1 Lt a b) → r ≡ true → Less ≡ packed_order a b
   packed-smaller f e = sym (smaller-is (packed_order a b) (sym (tested-is Lt f) ∙ e))
 
   pub packed-equal : {r : Bool} → (is_number b ≡ true → r ≡ tested 1 Eq a b) → r ≡ true → Equal ≡ packed_order a b
@@ -157,7 +158,7 @@ module _ {cat tab : Bytes} {size : ℕ} {t : TypeCode} {area : Bytes} (n : New c
             ∙ sym (value-bytes (key_value cat t) (key cat x) (key cat s) (ne_eqb (key_value cat t) 1 (λ z. w (is-value-type ∙ z))))
 
         -- packed keys: both are numbers, the new one since it is a value, that of the cell since the table was checked
-        pub order-packed : {r : Order} {at : ℕ} → Keyed cat t area → byte cat (entry + 7) ≡ 1 → at ≡ start_of tab size i
+        pub order-packed : {r : Ordering} {at : ℕ} → Keyed cat t area → byte cat (entry + 7) ≡ 1 → at ≡ start_of tab size i
             → (is_number (part area (start - 1) long) ≡ true → is_number (part tab (at + start) long) ≡ true
             → r ≡ packed_order (part area (start - 1) long) (part tab (at + start) long))
             → r ≡ key_order cat x s

@@ -1,4 +1,6 @@
 -- What each branch of the code shows of the row: what is left of it to pass. Assumes nothing.
+use Rattle.std.specs.declared.cmp.Ordering.{Ordering}
+use Rattle.std.specs.declared.cmp.Ordering.TheVariants.{Greater, Less}
 use mathlib.Core.Path.{◌≡◌, refl, ap, sym, ◌∙◌}
 use mathlib.Core.Bool.{Bool, true, false, ◌||◌, not}
 use mathlib.Core.List.{List, ◌∷◌}
@@ -8,10 +10,8 @@ use borrow.Author.Tests.{eq-eqb, ne_eqb}
 use lib.ListN.{drop}
 use lib.Seq.{drop-cons}
 use Rattle.terms.specs.declared.TypeCode.{TypeCode}
-use Rattle.terms.specs.declared.Order.{Order}
-use Rattle.terms.specs.declared.Order.TheVariants.{Smaller, Greater}
 use Rattle.terms.specs.Names.{code}
-use Rattle.terms.specs.Operators.{is_smaller, is_equal}
+use Rattle.std.specs.Ordering.{is_lt, is_eq}
 use Rattle.forest.specs.Insert.{passes, spot}
 use Rattle.rules.specs.Block.{Bytes}
 use Rattle.rules.specs.Catalogue.{key_kind, level}
@@ -54,7 +54,8 @@ onward-here cat cs x i b e =
     rw (e, ← z, ← y)
 
 -- where cell i is passed
-onward-step : (cat : Bytes) (cs : List Segment) (x : Segment) (i : ℕ) (b c : Bool) → c ≡ same_key cat x (segment cs i) → passed cat cs x i ≡ suc (passed cat cs x (suc i))
+onward-step : (cat : Bytes) (cs : List Segment) (x : Segment) (i : ℕ) (b c : Bool) → c ≡ same_key cat x (segment cs i)
+    → passed cat cs x i ≡ suc (passed cat cs x (suc i))
     → onward cat cs x (i + 1) (b || c) ≡ onward cat cs x i b
 unfolding onward
 onward-step cat cs x i b c e p =
@@ -62,25 +63,26 @@ onward-step cat cs x i b c e p =
     let z : i + 1 ≡ suc i = omega arith in
     let y : suc i + m ≡ i + suc m = omega arith in
     let k : ((b || c) || key_taken cat cs x (suc i) m) ≡ (b || key_taken cat cs x i (suc m)) =
-    or_assoc b c (key_taken cat cs x (suc i) m) ∙ ap (λ (d : Bool). b || (d || key_taken cat cs x (suc i) m)) e ∙ sym (ap (λ (d : Bool). b || d) (taken_next cat cs x i m)) in
+    or_assoc b c (key_taken cat cs x (suc i) m) ∙ ap (λ (d : Bool). b || (d || key_taken cat cs x (suc i) m)) e
+    ∙ sym (ap (λ (d : Bool). b || d) (taken_next cat cs x i m)) in
     rw (z, p, k, y)
 
 module _ {cat tab : Bytes} {x : Segment} {from to : ℕ} (r : Row cat tab x from to) (i : ℕ) (b : Bool) (a : from ≤ i) where
   -- at the end of the row
-  pub onward-end : i ≤ to → to ≤ i → record { at = i; taken = b } ≡ onward cat (listing cat tab) x i b
+  pub onward-end : i ≤ to → to ≤ i → record { at = to; taken = b } ≡ onward cat (listing cat tab) x i b
   onward-end l h =
       let z : i ≡ to = omega arith in
-      onward-here cat (listing cat tab) x i b (ap (passed cat (listing cat tab) x) z ∙ row-end r)
+      ap (λ (n : ℕ). record { at = n; taken = b }) (sym z) ∙ onward-here cat (listing cat tab) x i b (ap (passed cat (listing cat tab) x) z ∙ row-end r)
 
-  module _ (l : i < to) {o : Order} (e : o ≡ stands_to cat x (segment (listing cat tab) i)) where
+  module _ (l : i < to) {o : Ordering} (e : o ≡ stands_to cat x (segment (listing cat tab) i)) where
     cells_left : drop i (listing cat tab) ≡ segment (listing cat tab) i ∷ drop (suc i) (listing cat tab)
     cells_left = drop-cons (listing cat tab) i blank (omega (arith, r.within, listing-length cat tab))
 
-    passes-cell : passes (segment_level cat) x (goes_before cat x) (segment (listing cat tab) i) ≡ not (is_smaller o)
-    passes-cell = passes-stands cat x (segment (listing cat tab) i) (row-level r i a l) ∙ sym (ap (λ (p : Order). not (is_smaller p)) e)
+    passes-cell : passes (segment_level cat) x (goes_before cat x) (segment (listing cat tab) i) ≡ not (is_lt o)
+    passes-cell = passes-stands cat x (segment (listing cat tab) i) (row-level r i a l) ∙ sym (ap (λ (p : Ordering). not (is_lt p)) e)
 
     -- at a cell that x goes before
-    pub onward-stop : is_smaller o ≡ true → record { at = i; taken = b } ≡ onward cat (listing cat tab) x i b
+    pub onward-stop : is_lt o ≡ true → record { at = i; taken = b } ≡ onward cat (listing cat tab) x i b
     unfolding passed
     onward-stop h =
         onward-here cat (listing cat tab) x i b
@@ -88,18 +90,18 @@ module _ {cat tab : Bytes} {x : Segment} {from to : ℕ} (r : Row cat tab x from
         ∙ spot-stop (segment_level cat) x (goes_before cat x) (segment (listing cat tab) i) (drop (suc i) (listing cat tab)) (passes-cell ∙ ap not h))
 
     -- past one that it does not
-    onward-next : is_smaller o ≡ false → onward cat (listing cat tab) x (i + 1) (b || is_equal o) ≡ onward cat (listing cat tab) x i b
+    onward-next : is_lt o ≡ false → onward cat (listing cat tab) x (i + 1) (b || is_eq o) ≡ onward cat (listing cat tab) x i b
     unfolding passed
     onward-next h =
-        onward-step cat (listing cat tab) x i b (is_equal o) (ap is_equal e ∙ sym (key-stands cat x (segment (listing cat tab) i)))
+        onward-step cat (listing cat tab) x i b (is_eq o) (ap is_eq e ∙ sym (key-stands cat x (segment (listing cat tab) i)))
         (ap (spot (segment_level cat) x (goes_before cat x)) cells_left
         ∙ spot-pass (segment_level cat) x (goes_before cat x) (segment (listing cat tab) i) (drop (suc i) (listing cat tab)) (passes-cell ∙ ap not h))
 
     -- with p for whether a cell before the next one has the key
-    pub onward-twin : {p : Bool} → is_smaller o ≡ false → is_equal o ≡ true → p ≡ true → onward cat (listing cat tab) x (i + 1) p ≡ onward cat (listing cat tab) x i b
+    pub onward-twin : {p : Bool} → is_lt o ≡ false → is_eq o ≡ true → p ≡ true → onward cat (listing cat tab) x (i + 1) p ≡ onward cat (listing cat tab) x i b
     onward-twin h k q = ap (onward cat (listing cat tab) x (i + 1)) (q ∙ sym (ap (λ (c : Bool). b || c) k ∙ or-true b)) ∙ onward-next h
 
-    pub onward-other : {p : Bool} → is_smaller o ≡ false → is_equal o ≡ false → p ≡ b → onward cat (listing cat tab) x (i + 1) p ≡ onward cat (listing cat tab) x i b
+    pub onward-other : {p : Bool} → is_lt o ≡ false → is_eq o ≡ false → p ≡ b → onward cat (listing cat tab) x (i + 1) p ≡ onward cat (listing cat tab) x i b
     onward-other h k q = ap (onward cat (listing cat tab) x (i + 1)) (q ∙ sym (ap (λ (c : Bool). b || c) k ∙ or-false b)) ∙ onward-next h
 
 -- how a new segment stands to a cell c, whose type the code has read as u
@@ -124,7 +126,7 @@ module _ (cat : Bytes) (t : TypeCode) (area : Bytes) (c : Segment) {u : TypeCode
     unfolding arriving segment_of
     new_deep l = stands-deep cat (arriving cat t area) c (omega (arith, at-type)) (omega (arith, at_level))
 
-    pub new-less : here ≤ depth → Smaller ≡ stands_to cat (arriving cat t area) c
+    pub new-less : here ≤ depth → Less ≡ stands_to cat (arriving cat t area) c
     unfolding arriving segment_of
     new-less l = stands-less cat (arriving cat t area) c (omega (arith, at-type)) (omega (arith, at_level))
 
@@ -133,7 +135,8 @@ pub type-same : {s t u : TypeCode} → u ≡ s → u.0 ≡ t.0 → s ≡ t
 type-same {s} {t} {u} e z = sym e ∙ ap code z
 
 -- the answer, from what the row gave
-module _ {cat tab : Bytes} {size : ℕ} {t : TypeCode} {area : Bytes} (n : New cat tab size t area) {from to : ℕ} (b : Beneath cat tab t from to) {s : Spot} (e : s ≡ placed cat (listing cat tab) (arriving cat t area) from) {kind : ℕ} (k : kind ≡ key_kind cat t) where
+module _ {cat tab : Bytes} {size : ℕ} {t : TypeCode} {area : Bytes} (n : New cat tab size t area) {from to : ℕ}
+    (b : Beneath cat tab t from to) {s : Spot} (e : s ≡ placed cat (listing cat tab) (arriving cat t area) from) {kind : ℕ} (k : kind ≡ key_kind cat t) where
   pub spot-unique : kind ≡ 1 → s ≡ spot_among cat (listing cat tab) (arriving cat t area) from to
   unfolding arriving segment_of placed spot_among
   spot-unique h = e ∙ rw (row-taken (row_new n b) (sym k ∙ h), eq-eqb (key_kind cat t) 1 (sym k ∙ h))

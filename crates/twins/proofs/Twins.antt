@@ -1,13 +1,13 @@
 -- How a new segment x stands to one cell: it goes before it, has its key, or passes it. Assumes nothing.
+use Rattle.std.specs.declared.cmp.Ordering.{Ordering}
+use Rattle.std.specs.declared.cmp.Ordering.TheVariants.{Equal, Greater, Less}
 use mathlib.Core.Path.{◌≡◌, refl, ap, sym, ◌∙◌}
 use mathlib.Core.Bool.{true, false, not}
 use Prim.Native.Nat.{ℕ, ◌<◌, ◌≤◌}
 use native.Mathlib.Omega.{arith}
 use borrow.Author.Tests.{lt-ltb, le-ltb, eq-eqb, ne_eqb}
-use Rattle.terms.specs.declared.Order.{Order}
-use Rattle.terms.specs.declared.Order.TheVariants.{Smaller, Equal, Greater}
 use Rattle.terms.specs.Names.{code}
-use Rattle.terms.specs.Operators.{is_smaller, is_equal}
+use Rattle.std.specs.Ordering.{is_lt, is_eq}
 use Rattle.forest.specs.Forest.{inside, outside, side}
 use Rattle.forest.specs.Insert.{passes}
 use Rattle.rules.specs.Block.{Bytes}
@@ -30,8 +30,8 @@ against n m = elim (side n m) [
   | outside l ↦ elim (side m n) [ inside k ↦ more k | outside k ↦ same (omega arith) ]
 ]
 
-pub smaller-is : (o : Order) → is_smaller o ≡ true → o ≡ Smaller
-smaller-is Smaller e = refl
+pub smaller-is : (o : Ordering) → is_lt o ≡ true → o ≡ Less
+smaller-is Less e = refl
 smaller-is Equal e = let z : ◌≡◌ {A = ℕ} 0 1 = cc in absurd (omega arith)
 smaller-is Greater e = let z : ◌≡◌ {A = ℕ} 0 1 = cc in absurd (omega arith)
 
@@ -45,7 +45,7 @@ module _ (cat : Bytes) (x : Segment) where
   unfolding goes_before
   before_more c l = rw (le-ltb (type_number x) (type_number c) (omega arith), ne_eqb (type_number x) (type_number c) (λ e. omega arith))
 
-  before_same : (c : Segment) → type_number x ≡ type_number c → goes_before cat x c ≡ is_smaller (key_order cat x c)
+  before_same : (c : Segment) → type_number x ≡ type_number c → goes_before cat x c ≡ is_lt (key_order cat x c)
   unfolding goes_before
   before_same c e = rw (le-ltb (type_number x) (type_number c) (omega arith), eq-eqb (type_number x) (type_number c) e)
 
@@ -53,7 +53,7 @@ module _ (cat : Bytes) (x : Segment) where
   unfolding same_key
   key-other c n = rw (ne_eqb (type_number x) (type_number c) n)
 
-  key-same : (c : Segment) → type_number x ≡ type_number c → same_key cat x c ≡ is_equal (key_order cat x c)
+  key-same : (c : Segment) → type_number x ≡ type_number c → same_key cat x c ≡ is_eq (key_order cat x c)
   unfolding same_key
   key-same c e = rw (eq-eqb (type_number x) (type_number c) e)
 
@@ -69,7 +69,7 @@ module _ (cat : Bytes) (x : Segment) where
   pub key-past : (c : Segment) → goes_before cat x c ≡ true → same_key cat x c ≡ false
   key-past c h = elim (against (type_number x) (type_number c)) [
     | less l ↦ key-other c (λ e. omega arith)
-    | same e ↦ key-same c e ∙ ap is_equal (smaller-is (key_order cat x c) (sym (before_same c e) ∙ h))
+    | same e ↦ key-same c e ∙ ap is_eq (smaller-is (key_order cat x c) (sym (before_same c e) ∙ h))
     | more l ↦ key-other c (λ e. omega arith)
   ]
 
@@ -86,7 +86,7 @@ module _ (cat : Bytes) (x : Segment) where
   ]
 
   -- R15, of a unique key
-  twins-ascend : (c d : Segment) → key_kind cat c.code ≡ 1 → type_number c ≡ type_number d → siblings cat c d ≡ true → key_order cat c d ≡ Smaller
+  twins-ascend : (c d : Segment) → key_kind cat c.code ≡ 1 → type_number c ≡ type_number d → siblings cat c d ≡ true → key_order cat c d ≡ Less
   unfolding twin_order
   twins-ascend c d k e h =
       smaller-is (key_order cat c d)
@@ -101,9 +101,9 @@ module _ (cat : Bytes) (x : Segment) where
         let e : type_number x ≡ type_number c = omega (arith, before-le c h, siblings-le c d g) in
         let f : type_number c ≡ type_number d = omega (arith, before-le c h, siblings-le c d g) in
         let kc : key_kind cat c.code ≡ 1 = sym (ap (λ (n : ℕ). key_kind cat (code n)) e) ∙ k in
-        let a : key_order cat x c ≡ Smaller = smaller-is (key_order cat x c) (sym (before_same c e) ∙ h) in
-        let b : value_order (key_value cat x.code) (key cat c) (key cat d) ≡ Smaller = ap (λ (n : ℕ). value_order (key_value cat (code n)) (key cat c) (key cat d)) e ∙ twins-ascend c d kc f g in
-        before_same d (e ∙ f) ∙ ap is_smaller (value-transitive (key_value cat x.code) (key cat x) (key cat c) (key cat d) a b)
+        let a : key_order cat x c ≡ Less = smaller-is (key_order cat x c) (sym (before_same c e) ∙ h) in
+        let b : value_order (key_value cat x.code) (key cat c) (key cat d) ≡ Less = ap (λ (n : ℕ). value_order (key_value cat (code n)) (key cat c) (key cat d)) e ∙ twins-ascend c d kc f g in
+        before_same d (e ∙ f) ∙ ap is_lt (value-transitive (key_value cat x.code) (key cat x) (key cat c) (key cat d) a b)
   ]
 
   module _ (c : Segment) where
@@ -122,17 +122,17 @@ module _ (cat : Bytes) (x : Segment) where
       stands-deep h =
           rw (le-ltb (type_number c) (type_number x) (omega arith), ne_eqb (type_number c) (type_number x) (λ e. omega arith), lt-ltb (segment_level cat x) (segment_level cat c) h)
 
-      pub stands-less : segment_level cat c ≤ segment_level cat x → Smaller ≡ stands_to cat x c
+      pub stands-less : segment_level cat c ≤ segment_level cat x → Less ≡ stands_to cat x c
       unfolding stands_to
       stands-less h =
           rw (le-ltb (type_number c) (type_number x) (omega arith), ne_eqb (type_number c) (type_number x) (λ e. omega arith), le-ltb (segment_level cat x) (segment_level cat c) h)
 
     -- Smaller: x goes before it, or it is deeper
-    before_stands : segment_level cat c ≤ segment_level cat x → goes_before cat x c ≡ is_smaller (stands_to cat x c)
+    before_stands : segment_level cat c ≤ segment_level cat x → goes_before cat x c ≡ is_lt (stands_to cat x c)
     before_stands h = elim (against (type_number x) (type_number c)) [
-      | less l ↦ before-less c l ∙ ap is_smaller (stands-less l h)
-      | same e ↦ before_same c e ∙ ap is_smaller (stands-twin e)
-      | more l ↦ before_more c l ∙ ap is_smaller (stands-more l)
+      | less l ↦ before-less c l ∙ ap is_lt (stands-less l h)
+      | same e ↦ before_same c e ∙ ap is_lt (stands-twin e)
+      | more l ↦ before_more c l ∙ ap is_lt (stands-more l)
     ]
 
     deep-stands : segment_level cat x < segment_level cat c → Greater ≡ stands_to cat x c
@@ -143,19 +143,19 @@ module _ (cat : Bytes) (x : Segment) where
     ]
 
     -- in a row no cell is less deep than x, and x passes those to which it does not stand Smaller
-    pub passes-stands : segment_level cat x ≤ segment_level cat c → passes (segment_level cat) x (goes_before cat x) c ≡ not (is_smaller (stands_to cat x c))
+    pub passes-stands : segment_level cat x ≤ segment_level cat c → passes (segment_level cat) x (goes_before cat x) c ≡ not (is_lt (stands_to cat x c))
     passes-stands h = elim (side (segment_level cat x) (segment_level cat c)) [
-      | inside l ↦ pass-deep (segment_level cat) x (goes_before cat x) c l ∙ ap (λ (o : Order). not (is_smaller o)) (deep-stands l)
+      | inside l ↦ pass-deep (segment_level cat) x (goes_before cat x) c l ∙ ap (λ (o : Ordering). not (is_lt o)) (deep-stands l)
       | outside l ↦ pass_same (segment_level cat) x (goes_before cat x) c (omega arith) ∙ ap not (before_stands l)
     ]
 
     -- Equal: c is a twin with its key
-    pub key-stands : same_key cat x c ≡ is_equal (stands_to cat x c)
+    pub key-stands : same_key cat x c ≡ is_eq (stands_to cat x c)
     key-stands = elim (against (type_number x) (type_number c)) [
       | less l ↦ key-other c (λ e. omega arith) ∙ elim (side (segment_level cat x) (segment_level cat c)) [
-        | inside h ↦ ap is_equal (stands-deep l h)
-        | outside h ↦ ap is_equal (stands-less l h)
+        | inside h ↦ ap is_eq (stands-deep l h)
+        | outside h ↦ ap is_eq (stands-less l h)
       ]
-      | same e ↦ key-same c e ∙ ap is_equal (stands-twin e)
-      | more l ↦ key-other c (λ e. omega arith) ∙ ap is_equal (stands-more l)
+      | same e ↦ key-same c e ∙ ap is_eq (stands-twin e)
+      | more l ↦ key-other c (λ e. omega arith) ∙ ap is_eq (stands-more l)
     ]

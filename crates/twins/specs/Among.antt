@@ -1,8 +1,8 @@
 -- Where a new segment goes, and what the search for its spot is lent. Assumes nothing: these are definitions.
+use Rattle.std.specs.declared.cmp.Ordering.{Ordering}
+use Rattle.std.specs.declared.cmp.Ordering.TheVariants.{Greater, Less}
 use Rattle.std.specs.Prelude.{◌≡◌, true, ◌&&◌, List, ℕ, ◌+◌, ◌-◌, ◌≤◌, ◌<◌, ltb, eqb, length, drop}
 use Rattle.terms.specs.declared.TypeCode.{TypeCode}
-use Rattle.terms.specs.declared.Order.{Order}
-use Rattle.terms.specs.declared.Order.TheVariants.{Smaller, Greater}
 use Rattle.terms.specs.Choice.{pick}
 use Rattle.forest.specs.Insert.{spot}
 use Rattle.rules.specs.Block.{Bytes}
@@ -37,11 +37,11 @@ pub data Beneath (cat tab : Bytes) (t : TypeCode) (from to : ℕ) : Type 0 where
 module _ (cat : Bytes) where
   -- how a new segment x stands to a cell c beneath its parent: Greater, it passes c, one of an earlier group or deeper than x; Smaller, it goes
   -- before c; Equal, c is a twin with its key
-  unfoldable pub stands_to : Segment → Segment → Order
+  unfoldable pub stands_to : Segment → Segment → Ordering
   stands_to x c =
       pick (ltb (type_number c) (type_number x)) Greater
       (pick (eqb (type_number c) (type_number x)) (key_order cat x c)
-      (pick (ltb (segment_level cat x) (segment_level cat c)) Greater Smaller))
+      (pick (ltb (segment_level cat x) (segment_level cat c)) Greater Less))
 
   module _ (cs : List Segment) (x : Segment) where
     -- how many of the cells from i on x passes

@@ -16,8 +16,8 @@ use blocks::wide;
 use catalogue::entries::{entry_of, key_kind, key_length, key_start, key_value};
 use catalogue::lineage::{level_by, levels};
 use cells::lookup::{code_at, data_part, start_of};
-use terms::operators::{is_equal, is_smaller};
-use terms::{CellNumber, Operator, Order, TypeCode};
+use std::cmp::Ordering;
+use terms::{CellNumber, Operator, TypeCode};
 use values::{holds_at, is_value};
 
 // The cell that the new segment becomes, and whether it has a unique key that a twin has already.
@@ -37,23 +37,23 @@ pub fn is_keyed(cat: &[u8], t: TypeCode, area: &[u8]) -> bool
         return true;
     }
     let from = wide(key_start(cat, t)) - 1;
-    let to = from + wide(key_length(cat, t));
-    is_value(w, &area[from..to])
+    let long = wide(key_length(cat, t));
+    is_value(w, &area[from..from + long])
 }
 
 // How the packed key in the area, from byte i on, stands to the one in the table from byte j on.
-fn packed_order_with(area: &[u8], i: usize, tab: &[u8], j: usize, long: usize) -> Order
+fn packed_order_with(area: &[u8], i: usize, tab: &[u8], j: usize, long: usize) -> Ordering
     requires { (i + long ≤ length area.now) × (j + long ≤ length tab.now) }
     ensures { is_number (part area.now i long) ≡ true → is_number (part tab.now j long) ≡ true
         → result ≡ packed_order (part area.now i long) (part tab.now j long) }
 {
     if holds_at(Operator::Lt, area, i, tab, j, long) {
-        return Order::Smaller;
+        return Ordering::Less;
     }
     if holds_at(Operator::Eq, area, i, tab, j, long) {
-        return Order::Equal;
+        return Ordering::Equal;
     }
-    Order::Greater
+    Ordering::Greater
 }
 
 // How the key of the new segment stands to that of cell c, which has its type; without a key, as to an equal one.
@@ -64,7 +64,7 @@ fn key_order_with(
     t: TypeCode,
     area: &[u8],
     c: CellNumber,
-) -> Order
+) -> Ordering
     requires { New cat.now tab.now size t area.now × Keyed cat.now t area.now × (c.0 < count tab.now) × ((segment (listing cat.now tab.now) c.0).code ≡ t) }
     ensures { result ≡ key_order cat.now (arriving cat.now t area.now)
         (segment (listing cat.now tab.now) c.0) }
@@ -72,15 +72,17 @@ fn key_order_with(
     let entry = entry_of(cat, t);
     let start = wide(cat[entry + 3]);
     if start == 0 {
-        return Order::Equal;
+        return Ordering::Equal;
     }
     let long = wide(cat[entry + 4]);
     let from = start - 1;
     if cat[entry + 7] == 1 {
         return packed_order_with(area, from, tab, start_of(tab, size, c) + start, long);
     }
-    let to = from + long;
-    order_of(&area[from..to], data_part(cat, tab, size, c, start, long))
+    order_of(
+        &area[from..from + long],
+        data_part(cat, tab, size, c, start, long),
+    )
 }
 
 // How the new segment stands to cell c beneath its parent: greater, it passes c; smaller, it goes before c; equal, c is a
@@ -93,22 +95,18 @@ fn stands_to(
     t: TypeCode,
     area: &[u8],
     c: CellNumber,
-) -> Order
+) -> Ordering
     requires { New cat.now tab.now size t area.now × Keyed cat.now t area.now × (c.0 < count tab.now) × Levels cat.now row.now (types cat.now) }
     ensures { result ≡ stands_to cat.now (arriving cat.now t area.now)
         (segment (listing cat.now tab.now) c.0) }
 {
     let u = code_at(cat, tab, size, c);
-    if u.0 < t.0 {
-        return Order::Greater;
+    match u.0.cmp(&t.0) {
+        Ordering::Less => Ordering::Greater,
+        Ordering::Equal => key_order_with(cat, tab, size, t, area, c),
+        Ordering::Greater if level_by(row, cat, t) < level_by(row, cat, u) => Ordering::Greater,
+        Ordering::Greater => Ordering::Less,
     }
-    if u.0 == t.0 {
-        return key_order_with(cat, tab, size, t, area, c);
-    }
-    if level_by(row, cat, t) < level_by(row, cat, u) {
-        return Order::Greater;
-    }
-    Order::Smaller
 }
 
 // Passes the cells up to the first that the new segment goes before, and tells whether one of them is a twin with its key. Where the key is
@@ -127,19 +125,15 @@ fn pass_row(
 {
     let mut row = [0u8; 33];
     levels(cat, &mut row);
-    let mut at = from;
     let mut taken = false;
-    while at < to {
-        let o = stands_to(cat, tab, size, &row, t, area, CellNumber(at));
-        if is_smaller(o) {
-            return Spot { at, taken };
+    for at in from..to {
+        match stands_to(cat, tab, size, &row, t, area, CellNumber(at)) {
+            Ordering::Less => return Spot { at, taken },
+            Ordering::Equal => taken = true,
+            Ordering::Greater => {}
         }
-        if is_equal(o) {
-            taken = true;
-        }
-        at += 1;
     }
-    Spot { at, taken }
+    Spot { at: to, taken }
 }
 
 // R41: where the new segment goes among its twins; R59: whether one of them has its unique key.
@@ -161,8 +155,5 @@ pub fn spot_sound(
     if key_kind(cat, t) == 1 {
         return s;
     }
-    Spot {
-        at: s.at,
-        taken: false,
-    }
+    Spot { taken: false, ..s }
 }

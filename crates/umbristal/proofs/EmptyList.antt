@@ -6,7 +6,7 @@ use Prim.Native.Nat.{ℕ, suc, ◌-◌, ◌<◌, ◌≤◌}
 use native.Mathlib.Omega.{arith}
 use lib.Dec.{leb, eqb}
 use lib.ListN.{length}
-use borrow.Author.Tests.{le-ltb, eq-eqb, ne_eqb, eqb-true, leb-true}
+use borrow.Author.Tests.{le-ltb, eqb-true, leb-true}
 use Rattle.terms.specs.declared.Position.{Position}
 use Rattle.terms.specs.declared.Status.TheVariants.{Blank}
 use Rattle.terms.specs.declared.Answer.{Answer}
@@ -29,18 +29,6 @@ use Rattle.umbristal.specs.Face.{sound_face, is_step}
 
 -- the test, as the code meets it
 module _ (tab : Bytes) (c : ℕ) (list area : Bytes) where
-  pub not-two : (c ≡ 2 → ⊥) → false ≡ is_step tab c list area
-  unfolding is_step
-  not-two n = rw (ne_eqb c 2 n)
-
-  pub not-empty : c ≡ 2 → (length list ≡ 0 → ⊥) → false ≡ is_step tab c list area
-  unfolding is_step
-  not-empty e n = rw (eq-eqb c 2 e, ne_eqb (length list) 0 n)
-
-  pub by-area : (size : ℕ) → size ≡ byte tab 5 → c ≡ 2 → length list ≡ 0 → leb (size - 1) (length area) ≡ is_step tab c list area
-  unfolding is_step
-  by-area size w e f = rw (w, eq-eqb c 2 e, eq-eqb (length list) 0 f)
-
   module _ (e : is_step tab c list area ≡ true) where
     pub step-two : c ≡ 2
     unfolding is_step

@@ -1,4 +1,6 @@
 -- What a call leaves fits the block and the number that it comes back in. Assumes nothing.
+use Rattle.terms.specs.Names.{Parentage}
+use Rattle.std.specs.Prelude.{None, Some}
 use mathlib.Core.Path.{◌≡◌, refl, ap, sym, ◌∙◌, subst}
 use mathlib.Core.Bool.{Bool, true, false, ◌&&◌}
 use mathlib.Core.List.{List}
@@ -8,8 +10,6 @@ use lib.ListN.{length}
 use borrow.Author.Tests.{ltb-true, leb-true}
 use Rattle.terms.specs.declared.Place.{Place}
 use Rattle.terms.specs.declared.Place.TheVariants.{On, Before}
-use Rattle.terms.specs.declared.Parentage.{Parentage}
-use Rattle.terms.specs.declared.Parentage.TheVariants.{Absent, Of}
 use Rattle.terms.specs.declared.Position.{Position}
 use Rattle.terms.specs.declared.Answer.{Answer}
 use Rattle.terms.specs.Choice.{pick}
@@ -40,8 +40,8 @@ module _ (cat : Bytes) (cs : List Segment) where
   place-near (Before c) e = leb-true c.0 (length cs) e
 
   parent-near : (q : Place) (r : Parentage) → good_place cat cs q ≡ true → good_parentage cat cs q r ≡ true → parentage_number r ≤ length cs
-  parent-near q Absent g e = omega arith
-  parent-near q (Of p) g e = omega (arith, (parent-before cat cs q p g e).0)
+  parent-near q None g e = omega arith
+  parent-near q (Some p) g e = omega (arith, (parent-before cat cs q p g e).0)
 
 one_at_most : (b : Bool) → pick b 1 0 ≤ 1
 one_at_most true = omega arith

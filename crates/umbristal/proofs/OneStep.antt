@@ -1,4 +1,5 @@
 -- One step of a reading of the whole table: what it leaves where no cell is left, and where one is. Assumes nothing.
+use Rattle.std.specs.Prelude.{Some}
 use mathlib.Core.Path.{◌≡◌, refl, ap, sym, ◌∙◌}
 use mathlib.Core.Bool.{Bool, true, false, ◌&&◌, not}
 use mathlib.Core.List.{List, []}
@@ -7,7 +8,6 @@ use native.Mathlib.Omega.{arith}
 use lib.Dec.{ltb, eqb}
 use lib.ListN.{length}
 use Rattle.terms.specs.declared.TypeCode.{TypeCode}
-use Rattle.terms.specs.declared.Parentage.TheVariants.{Of}
 use Rattle.terms.specs.declared.Position.{Position}
 use Rattle.terms.specs.declared.Status.{Status}
 use Rattle.terms.specs.declared.Status.TheVariants.{Blank, GA, GK, GB}
@@ -61,7 +61,7 @@ module _ (cat tab block list area : Bytes) (f : SoundFor cat tab (position_of bl
     pub fresh-fits : Writable block fresh
     fresh-fits = record { long = good-long block block-good; place = omega arith; parent = omega arith }
 
-    pub onto-fits : i < n → (p : Position) → p ≡ moved_onto i (Of (cell i)) false → Writable block p
+    pub onto-fits : i < n → (p : Position) → p ≡ moved_onto i (Some (cell i)) false → Writable block p
     onto-fits l p h =
         let few = ready.sound.sized.few in
         rw h (record { long = good-long block block-good; place = omega arith; parent = omega arith })
@@ -82,7 +82,7 @@ module _ (cat tab block list area : Bytes) (f : SoundFor cat tab (position_of bl
           (eqb (level_at cat cs i) (level_at cat cs was) && not (same_type (segment cs i).code (segment cs was).code)))
 
       module _ (t : TypeCode) (te : t ≡ (segment cs i).code) (out : Bytes) (oe : out ≡ over (shown_bytes cat (segment cs i)) area)
-          (p : Position) (pe : p ≡ moved_onto i (Of (cell i)) false) (a : Answer) (ae : a ≡ told cat s p t 0) where
+          (p : Position) (pe : p ≡ moved_onto i (Some (cell i)) false) (a : Answer) (ae : a ≡ told cat s p t 0) where
         told-low : number a.status < 20
         unfolding told
         told-low = rw ae status-low
@@ -100,5 +100,5 @@ module _ (cat tab block list area : Bytes) (f : SoundFor cat tab (position_of bl
             sound-left cat tab block 2 list area pos refl a tab out r b w
             (block-put block a (number a.status) refl told-low b (x ∙ ap position_bytes (sym told-place)))
             (step-made cat tab pos list area f e a out
-            (got-is cat tab i s (Of (cell i)) false area te oe pe ae
+            (got-is cat tab i s (Some (cell i)) false area te oe pe ae
             ∙ cell-found ready area false i at n to s l (se ∙ status-is cat cs i on pos.place o at)))

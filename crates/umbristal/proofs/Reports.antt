@@ -3,7 +3,7 @@ use mathlib.Core.Path.{◌≡◌, ap, ◌∙◌}
 use Prim.Native.Nat.{ℕ, ◌<◌}
 use native.Mathlib.Omega.{arith}
 use Rattle.rules.specs.Block.{Bytes}
-use Rattle.reports.specs.declared.Report.{Report}
+use Rattle.reports.specs.Report.{Report}
 use Rattle.reports.specs.Report.{Reported, reported, report}
 use Rattle.reports.proofs.Whole.{report-few}
 use Rattle.umbristal.specs.Face.{packed_report, reported_back, report_face}

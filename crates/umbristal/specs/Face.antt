@@ -6,7 +6,7 @@ use Rattle.rules.specs.Block.{Bytes, byte}
 use Rattle.rules.specs.Position.{position_of}
 use Rattle.rules.specs.Outcome.{Outcome, outcome, sound_outcome, block_after}
 use Rattle.position.specs.Block.{Writable}
-use Rattle.reports.specs.declared.Report.{Report}
+use Rattle.reports.specs.Report.{Report}
 use Rattle.reports.specs.Report.{report}
 
 -- status, type, level and length, a byte each, the first lowest; removed above them

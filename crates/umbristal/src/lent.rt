@@ -2,44 +2,36 @@
 ghost use Rattle.std.specs.Prelude.{◌≡◌, ◌<◌};
 ghost use Rattle.terms.specs.Statuses.{number};
 ghost use Rattle.rules.specs.Outcome.{block_after};
+ghost use Rattle.reports.specs.Report.{told};
 ghost use Rattle.umbristal.specs.Face.{packed, packed_report, Fitting};
 
 use position::block::put_position;
-use reports::Report;
 use terms::statuses::number;
 use terms::{Answer, Status};
 
-fn long(b: u8) -> u64
-    ensures { (result ≡ b) × (result < 256) }
-{
-    b as u64
-}
-
 // Status, type, level and length are a byte each; removed stands above them.
+#[tactic(auto, unfolding(crate::specs::Face::packed))]
 pub(crate) fn packed(a: Answer) -> u64
     requires { a.removed < 65536 }
     ensures { result ≡ packed a }
 {
-    let s = a.status;
-    let status = long(number(s));
-    let code = long(a.code.0);
-    let level = long(a.level);
-    let length = long(a.length);
+    let status = u64::from(number(a.status));
+    let code = u64::from(a.code.0);
+    let level = u64::from(a.level);
+    let length = u64::from(a.length);
     let removed = a.removed as u64;
     status + 256 * code + 65536 * level + 16777216 * length + 4294967296 * removed
 }
 
 // Leaves the position in its block, which a refusal does not touch (R62), and hands back the rest of the answer.
+#[tactic(auto, unfolding(rules::specs::Outcome::block_after))]
 pub(crate) fn leave(block: &mut [u8], a: Answer) -> u64
     requires { Fitting block.old a }
     ensures { (result ≡ packed a) × (block.new ≡ block_after block.old a) }
 {
-    let s = a.status;
-    if 20 <= number(s) {
-        return packed(a);
+    if number(a.status) < 20 {
+        put_position(block, a.position);
     }
-    let p = a.position;
-    put_position(block, p);
     packed(a)
 }
 
@@ -47,16 +39,17 @@ pub(crate) fn leave(block: &mut [u8], a: Answer) -> u64
 pub(crate) fn refused(s: Status) -> u64
     ensures { result ≡ number s }
 {
-    long(number(s))
+    u64::from(number(s))
 }
 
 // The status of a report is the lowest byte; the number of cells stands where `removed` does.
-pub(crate) fn packed_report(r: Report) -> u64
-    requires { r.hits < 65536 }
-    ensures { result ≡ packed_report r }
+#[tactic(auto, unfolding(crate::specs::Face::packed_report))]
+pub(crate) fn packed_report(r: Result<usize, Status>) -> u64
+    requires { (told r).hits < 65536 }
+    ensures { result ≡ packed_report (told r) }
 {
-    let s = r.status;
-    let status = long(number(s));
-    let hits = r.hits as u64;
-    status + 4294967296 * hits
+    match r {
+        Ok(hits) => 4294967296 * hits as u64,
+        Err(s) => refused(s),
+    }
 }

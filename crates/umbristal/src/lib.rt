@@ -5,7 +5,7 @@ mod lent;
 
 ghost use Rattle.std.specs.Prelude.{◌≡◌, true, ◌<◌, ◌≤◌, length};
 ghost use Rattle.rules.specs.Block.{byte};
-ghost use Rattle.terms.specs.Statuses.{number};
+ghost use Rattle.terms.specs.Statuses.{number, verdict};
 ghost use Rattle.rules.specs.Position.{position_of};
 ghost use Rattle.rules.specs.Outcome.{check_catalogue, check_table, make_status, made_table, unsound};
 ghost use Rattle.answers.specs.Ready.{SoundFor};
@@ -39,8 +39,8 @@ pub fn umbristal_table_make(cat: &[u8], tab: &mut [u8]) -> u8
 }
 
 // The check before a call. It reads the position for itself, so that the caller's frame holds none meanwhile.
-fn unsound(cat: &[u8], tab: &[u8], pos: &[u8]) -> Status
-    ensures { result ≡ unsound cat.now tab.now (position_of pos.now) }
+fn unsound(cat: &[u8], tab: &[u8], pos: &[u8]) -> Result<(), Status>
+    ensures { result ≡ verdict (unsound cat.now tab.now (position_of pos.now)) }
 {
     refusals::unsound(cat, tab, position_of(pos))
 }
@@ -80,8 +80,7 @@ pub fn umbristal_call(
     ensures { handed_back result tab.new pos.new area.new
         ≡ face cat.now tab.old pos.old number list.now area.old }
 {
-    let s = unsound(cat, tab, pos);
-    if terms::statuses::number(s) != 0 {
+    if let Err(s) = unsound(cat, tab, pos) {
         return lent::refused(s);
     }
     if number < 7 {
@@ -91,17 +90,12 @@ pub fn umbristal_call(
 }
 
 // Whether nothing is left to refuse, and nothing to search.
+#[tactic(auto, unfolding(crate::specs::Face::is_step))]
 fn is_step(tab: &[u8], number: u8, list: &[u8], area: &[u8]) -> bool
     requires { (5 < length tab.now) × (1 ≤ byte tab.now 5) }
     ensures { result ≡ is_step tab.now number list.now area.now }
 {
-    if number != 2 {
-        return false;
-    }
-    if list.len() != 0 {
-        return false;
-    }
-    wide(tab[5]) - 1 <= area.len()
+    number == 2 && list.is_empty() && wide(tab[5]) - 1 <= area.len()
 }
 
 // One step of a reading of the whole table. The calls would answer the same; here neither position nor answer is handed on, which is most of what a step
@@ -119,7 +113,7 @@ fn step(cat: &[u8], tab: &[u8], pos: &mut [u8], list: &[u8], area: &mut [u8]) ->
     }
     let c = CellNumber(i);
     let s = gets::next_status(cat, tab, size, is_on(pos), c);
-    let p = Position::fresh().moved_onto(c, Parentage::Of(c), false);
+    let p = Position::fresh().moved_onto(c, Some(c), false);
     put_position(pos, p);
     let t = gets::show(cat, tab, size, c, area);
     lent::packed(answers::told(cat, s, p, t, 0))

@@ -1,12 +1,12 @@
 -- Two numbers of one length stand as their bytes do, the sign half left off: so code compares bytes and makes no number of them. Assumes nothing.
+use Rattle.std.specs.declared.cmp.Ordering.{Ordering}
+use Rattle.std.specs.declared.cmp.Ordering.TheVariants.{Equal, Greater, Less}
 use mathlib.Core.Path.{◌≡◌, ap, sym, ◌∙◌}
 use mathlib.Core.Bool.{true}
 use mathlib.Core.List.{[], ◌∷◌}
 use Prim.Native.Nat.{ℕ, zero, suc, ◌+◌, ◌*◌, ◌/◌, ◌%◌, ◌<◌}
 use native.Mathlib.Omega.{arith}
 use lib.ListN.{length, take}
-use Rattle.terms.specs.declared.Order.{Order}
-use Rattle.terms.specs.declared.Order.TheVariants.{Smaller, Equal, Greater}
 use Rattle.forest.specs.Forest.{inside, outside, side}
 use Rattle.rules.specs.Block.{Bytes, byte}
 use Rattle.rules.specs.Order.{order}
@@ -32,8 +32,8 @@ digits-less n m (x ∷ x' ∷ xs) (y ∷ y' ∷ ys) l e f h =
     digits-less (further n x) (further m y) (x' ∷ xs) (y' ∷ ys) (omega arith) a.2 (pair-digits y y' ys f).2 (omega arith)
 
 -- the first that differ decide
-abbrev pub and_then : Order → Order → Order
-and_then Smaller o = Smaller
+abbrev pub and_then : Ordering → Ordering → Ordering
+and_then Less o = Less
 and_then Equal o = o
 and_then Greater o = Greater
 
@@ -53,7 +53,7 @@ digits-order n (suc k) (x ∷ x' ∷ xs) (y ∷ y' ∷ ys) l m e f =
     let b = pair-digits y y' ys f in
     let v : Bytes = take k (x' ∷ xs) in
     let w : Bytes = take k (y' ∷ ys) in
-    let first : Order → Order = λ q. and_then q (number_order (byte (x' ∷ xs) k / 16) (byte (y' ∷ ys) k / 16)) in
+    let first : Ordering → Ordering = λ q. and_then q (number_order (byte (x' ∷ xs) k / 16) (byte (y' ∷ ys) k / 16)) in
     elim (side x y) [
       | inside h ↦
           ap first (order-less x y v w h)

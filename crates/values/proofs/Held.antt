@@ -1,4 +1,5 @@
 -- A test of two packed values at their places: what the code cuts out there, and what the test answers (R90). Assumes nothing.
+use Rattle.std.specs.declared.cmp.Ordering.{Ordering}
 use mathlib.Core.Path.{◌≡◌, refl, ap, ◌∙◌}
 use mathlib.Core.Bool.{Bool, true, false}
 use Prim.Native.Nat.{ℕ, ◌+◌, ◌-◌, ◌≤◌}
@@ -6,7 +7,6 @@ use native.Mathlib.Omega.{arith}
 use lib.ListN.{length, drop, length-drop}
 use lib.Seq.{length-take-le}
 use Rattle.terms.specs.declared.Operator.{Operator}
-use Rattle.terms.specs.declared.Order.{Order}
 use Rattle.terms.specs.Operators.{holds}
 use Rattle.rules.specs.Block.{Bytes, part}
 use Rattle.rules.specs.Packed.{is_number, packed_order}
@@ -28,7 +28,7 @@ module _ (o : Operator) (a b : Bytes) (i j long : ℕ) where
       rw (is-packed 1 (part a i long) refl, x)
 
   -- LAW: a number stands to a number as the operator says, which is the whole test
-  pub number-held : {r : Order} {q : Bool} → is_number (part a i (i + long - i)) ≡ true
+  pub number-held : {r : Ordering} {q : Bool} → is_number (part a i (i + long - i)) ≡ true
       → (Numbers (part a i (i + long - i)) (part b j (j + long - j)) → r ≡ packed_order (part a i (i + long - i)) (part b j (j + long - j)))
       → q ≡ holds o r → is_number (part b j long) ≡ true → q ≡ tested 1 o (part a i long) (part b j long)
   number-held {r} e f g n =

@@ -1,37 +1,21 @@
 -- Signs: which is minus, and how two numbers of any signs stand by their digits. Assumes nothing.
-use mathlib.Core.Path.{◌≡◌, refl, sym}
+use Rattle.std.specs.declared.cmp.Ordering.{Ordering}
+use Rattle.std.specs.declared.cmp.Ordering.TheVariants.{Equal, Greater, Less}
+use mathlib.Core.Path.{◌≡◌, sym}
 use mathlib.Core.Bool.{true, false, ◌&&◌}
-use mathlib.Core.List.{[], ◌∷◌}
 use Prim.Native.Nat.{ℕ, ◌+◌, ◌<◌}
 use native.Mathlib.Omega.{arith}
 use lib.Dec.{eqb}
-use lib.ListN.{length}
 use borrow.Author.Tests.{eq-eqb, ne_eqb}
-use Rattle.terms.specs.declared.Order.{Order}
-use Rattle.terms.specs.declared.Order.TheVariants.{Smaller, Equal, Greater}
 use Rattle.terms.specs.Choice.{pick}
 use Rattle.forest.specs.Forest.{inside, outside, side}
 use Rattle.rules.specs.Block.{Bytes}
-use Rattle.rules.specs.Packed.{magnitude, sign, is_minus, above, below, number_order, packed_order}
+use Rattle.rules.specs.Packed.{magnitude, is_minus, above, below, number_order, packed_order}
 use Rattle.rules.proofs.Packed.{number-less, number_same, number_more, number-alike}
 use Rattle.values.specs.Lent.{unless_zeros}
 
--- which is minus: a branch of the code each
-pub minus-none : (b : Bytes) → length b ≡ 0 → false ≡ is_minus b
-unfolding is_minus
-minus-none [] e = refl
-minus-none (x ∷ xs) e = absurd (omega arith)
-
-pub minus-first : (b : Bytes) → sign b ≡ 0xB → true ≡ is_minus b
-unfolding is_minus
-minus-first b e = rw (eq-eqb (sign b) 0xB e)
-
-pub minus-second : (b : Bytes) → (sign b ≡ 0xB → ⊥) → eqb (sign b) 0xD ≡ is_minus b
-unfolding is_minus
-minus-second b n = rw (ne_eqb (sign b) 0xB n)
-
 -- o where one of two numbers of digits is not 0, and Equal where both are
-either : (n m s t : ℕ) (o : Order) → (0 < n + m → number_order s t ≡ o) → (n + m ≡ 0 → number_order s t ≡ Equal)
+either : (n m s t : ℕ) (o : Ordering) → (0 < n + m → number_order s t ≡ o) → (n + m ≡ 0 → number_order s t ≡ Equal)
     → pick (eqb n 0 && eqb m 0) Equal o ≡ number_order s t
 either n m s t o f g = elim (side 0 n) [
   | inside l ↦ rw (ne_eqb n 0 (λ e. omega arith)) (sym (f (omega arith)))
@@ -51,23 +35,12 @@ module _ (a b : Bytes) where
   unfolding packed_order above below
   both-minus e f = rw (e, f) (number-alike (magnitude b) (magnitude a) (0 + magnitude b) (0 + magnitude a) (omega arith))
 
-  pub minus_plus : is_minus a ≡ true → is_minus b ≡ false → unless_zeros a b Smaller ≡ packed_order a b
+  pub minus_plus : is_minus a ≡ true → is_minus b ≡ false → unless_zeros a b Less ≡ packed_order a b
   unfolding packed_order above below
   minus_plus e f =
-      rw (e, f) (either (magnitude a) (magnitude b) _ _ Smaller (λ l. number-less _ _ (omega arith)) (λ z. number_same _ _ (omega arith)))
+      rw (e, f) (either (magnitude a) (magnitude b) _ _ Less (λ l. number-less _ _ (omega arith)) (λ z. number_same _ _ (omega arith)))
 
   pub plus-minus : is_minus a ≡ false → is_minus b ≡ true → unless_zeros a b Greater ≡ packed_order a b
   unfolding packed_order above below
   plus-minus e f =
       rw (e, f) (either (magnitude a) (magnitude b) _ _ Greater (λ l. number_more _ _ (omega arith)) (λ z. number_same _ _ (omega arith)))
-
-  -- unless both are zero
-  module _ (o : Order) where
-    pub first-counts : eqb (magnitude a) 0 ≡ false → o ≡ unless_zeros a b o
-    first-counts e = rw e
-
-    pub second-counts : eqb (magnitude a) 0 ≡ true → eqb (magnitude b) 0 ≡ false → o ≡ unless_zeros a b o
-    second-counts e f = rw (e, f)
-
-    pub zeros_equal : eqb (magnitude a) 0 ≡ true → eqb (magnitude b) 0 ≡ true → Equal ≡ unless_zeros a b o
-    zeros_equal e f = rw (e, f)

@@ -1,12 +1,13 @@
 -- Every digit is 0: the bytes before the last are zeros, and the last is below 16. Assumes nothing.
 use mathlib.Core.Path.{◌≡◌, refl, ap, sym, ◌∙◌}
-use mathlib.Core.Bool.{true, false}
-use mathlib.Core.List.{[], ◌∷◌}
-use Prim.Native.Nat.{ℕ, zero, suc, ◌+◌, ◌-◌, ◌*◌, ◌/◌, ◌<◌, ◌≤◌}
+use mathlib.Core.Bool.{true, ◌&&◌}
+use mathlib.Core.List.{[], ◌∷◌, ◌++◌}
+use Prim.Native.Nat.{ℕ, zero, suc, ◌+◌, ◌*◌, ◌/◌, ◌<◌, ◌≤◌}
 use native.Mathlib.Omega.{arith}
-use lib.Dec.{eqb}
-use lib.ListN.{length, take}
-use borrow.Author.Tests.{eq-eqb, ne_eqb}
+use lib.Dec.{eqb, ltb}
+use lib.ListN.{length, take, length-append}
+use lib.Seq.{take_at, get_or-append_seam}
+use borrow.Author.Tests.{eq-eqb, ne_eqb, lt-ltb, le-ltb}
 use Rattle.forest.specs.Forest.{inside, outside, side}
 use Rattle.rules.specs.Block.{Bytes, byte, every, zeros}
 use Rattle.rules.specs.Packed.{digits_on, magnitude}
@@ -41,19 +42,23 @@ digits-zero (suc k) (x ∷ y ∷ ys) e l = elim (side 0 x) [
       rw (z, every) (digits-zero k (y ∷ ys) (omega arith) l)
 ]
 
--- a branch of the code each: no byte, a last digit that is not 0, and the bytes before it
-pub zero-none : (b : Bytes) → length b ≡ 0 → true ≡ eqb (magnitude b) 0
+-- no byte is zero
+pub zero_none : (b : Bytes) → length b ≡ 0 → true ≡ eqb (magnitude b) 0
 unfolding magnitude digits_on
-zero-none [] e = refl
-zero-none (x ∷ xs) e = absurd (omega arith)
+zero_none [] e = refl
+zero_none (x ∷ xs) e = absurd (omega arith)
 
-module _ (b : Bytes) (some : length b ≡ 0 → ⊥) where
-  pub zero-last : 15 < byte b (length b - 1) → false ≡ eqb (magnitude b) 0
-  unfolding magnitude
-  zero-last l = let h = digits_last 0 (length b - 1) b (omega arith) l in sym (ne_eqb (digits_on 0 b) 0 (λ z. omega arith))
-
-  pub zero-front : byte b (length b - 1) ≤ 15 → zeros (take (length b - 1 - 0) b) ≡ eqb (magnitude b) 0
-  unfolding magnitude
-  zero-front l =
-      let d : length b - 1 - 0 ≡ length b - 1 = omega arith in
-      ap (λ (n : ℕ). zeros (take n b)) d ∙ digits-zero (length b - 1) b (omega arith) l
+-- LAW: the last byte has no digit but 0, and those before it are zeros
+pub zero_split : (b xs : Bytes) (z : ℕ) → b ≡ xs ++ z ∷ [] → eqb (magnitude b) 0 ≡ (ltb z 16 && zeros xs)
+unfolding magnitude
+zero_split b xs z e =
+    let long : length (xs ++ z ∷ []) ≡ suc (length xs) = omega (arith, length-append xs (z ∷ [])) in
+    let last : byte (xs ++ z ∷ []) (length xs) ≡ z = get_or-append_seam xs z [] 0 in
+    let before : take (length xs) (xs ++ z ∷ []) ≡ xs = take_at xs (z ∷ []) (length xs) refl in
+    ap (λ (t : Bytes). eqb (digits_on 0 t) 0) e
+    ∙ elim (side z 16) [
+      | inside l ↦ rw (lt-ltb z 16 l) (sym (digits-zero (length xs) (xs ++ z ∷ []) long (omega arith)) ∙ ap zeros before)
+      | outside l ↦
+          let h = digits_last 0 (length xs) (xs ++ z ∷ []) long (omega arith) in
+          rw (le-ltb z 16 l) (ne_eqb (digits_on 0 (xs ++ z ∷ [])) 0 (λ q. omega arith))
+    ]

@@ -5,133 +5,111 @@ ghost use Rattle.std.specs.Prelude.{◌≡◌, true, ◌+◌, ◌≤◌, eqb, le
 ghost use Rattle.rules.specs.Packed.{is_number, magnitude, is_minus, number_order, packed_order};
 ghost use Rattle.rules.specs.Block.{part};
 ghost use Rattle.rules.specs.Order.{is_value};
-ghost use Rattle.values.specs.Lent.{Numbers, unless_zeros, tested};
+ghost use Rattle.std.specs.List.{list_all};
+ghost use Rattle.values.specs.Lent.{two_digits, Numbers, unless_zeros, tested};
 
 use blocks::slices::{all_zero, order_of};
+use std::cmp::Ordering;
+use terms::Operator;
 use terms::operators::holds;
-use terms::{Operator, Order};
+
+// Whether each byte has two digits.
+fn has_digits(b: &[u8]) -> bool
+    ensures { result ≡ list_all two_digits b.now }
+{
+    b.iter().all(|&x| x / 16 <= 9 && x % 16 <= 9)
+}
 
 // R87: digits 0 to 9, two in a byte, and behind the last of them a sign, A to F.
+#[tactic(auto, using(crate::proofs::Number::none_number))]
 pub fn is_number(b: &[u8]) -> bool
     ensures { result ≡ is_number b.now }
 {
-    if b.len() == 0 {
+    let Some((&last, before)) = b.split_last() else {
         return false;
-    }
-    let n = b.len() - 1;
-    let mut i = 0;
-    while i < n {
-        let x = b[i];
-        if 9 < x / 16 {
-            return false;
-        }
-        if 9 < x % 16 {
-            return false;
-        }
-        i += 1;
-    }
-    let z = b[n];
-    if 9 < z / 16 {
-        return false;
-    }
-    9 < z % 16
+    };
+    has_digits(before) && (last / 16 <= 9 && 9 < last % 16)
 }
 
 // R86: whether these bytes are a value of value type w.
+#[tactic(auto, unfolding(rules::specs::Order::is_value))]
 pub fn is_value(w: u8, b: &[u8]) -> bool
     ensures { result ≡ is_value w b.now }
 {
-    if w == 1 {
-        return is_number(b);
-    }
-    true
+    w != 1 || is_number(b)
 }
 
 // R87: the signs B and D.
+#[tactic(auto, unfolding(rules::specs::Packed::is_minus))]
 fn is_minus(b: &[u8]) -> bool
     ensures { result ≡ is_minus b.now }
 {
-    if b.len() == 0 {
-        return false;
-    }
-    let n = b.len() - 1;
-    let sign = b[n] % 16;
-    if sign == 0xB {
-        return true;
-    }
-    sign == 0xD
+    b.last().is_some_and(|&last| matches!(last % 16, 0xB | 0xD))
 }
 
 // Whether every digit is 0.
+#[tactic(auto, using(crate::proofs::Zero::zero_none))]
 fn is_zero(b: &[u8]) -> bool
     ensures { result ≡ eqb (magnitude b.now) 0 }
 {
-    if b.len() == 0 {
+    let Some((&last, before)) = b.split_last() else {
         return true;
-    }
-    let n = b.len() - 1;
-    if 15 < b[n] {
-        return false;
-    }
-    all_zero(&b[0..n])
+    };
+    last < 16 && all_zero(before)
 }
 
-fn digit_order(n: u8, m: u8) -> Order
+#[tactic(auto, unfolding(rules::specs::Packed::number_order))]
+fn digit_order(n: u8, m: u8) -> Ordering
     ensures { result ≡ number_order n m }
 {
     if n < m {
-        return Order::Smaller;
+        return Ordering::Less;
     }
     if m < n {
-        return Order::Greater;
+        return Ordering::Greater;
     }
-    Order::Equal
+    Ordering::Equal
 }
 
 // How the digits of a stand to those of b: the bytes before the last decide, then the digit in the last.
-fn digits_order(a: &[u8], b: &[u8]) -> Order
+fn digits_order(a: &[u8], b: &[u8]) -> Ordering
     requires { length a.now ≡ length b.now }
     ensures { Numbers a.now b.now → result ≡ number_order (magnitude a.now) (magnitude b.now) }
 {
-    if a.len() == 0 {
-        return Order::Equal;
-    }
-    let n = a.len() - 1;
-    match order_of(&a[0..n], &b[0..n]) {
-        Order::Smaller => Order::Smaller,
-        Order::Greater => Order::Greater,
-        Order::Equal => digit_order(a[n] / 16, b[n] / 16),
+    let Some((&x, xs)) = a.split_last() else {
+        return Ordering::Equal;
+    };
+    let Some((&y, ys)) = b.split_last() else {
+        return Ordering::Equal;
+    };
+    match order_of(xs, ys) {
+        Ordering::Equal => digit_order(x / 16, y / 16),
+        other => other,
     }
 }
 
 // What stands for two values of different signs, unless both are zero.
-fn unless_zeros(a: &[u8], b: &[u8], o: Order) -> Order
+fn unless_zeros(a: &[u8], b: &[u8], o: Ordering) -> Ordering
     ensures { result ≡ unless_zeros a.now b.now o }
 {
-    if !is_zero(a) {
-        return o;
+    if is_zero(a) && is_zero(b) {
+        Ordering::Equal
+    } else {
+        o
     }
-    if !is_zero(b) {
-        return o;
-    }
-    Order::Equal
 }
 
 // R88: below zero the greater digits are the smaller value, and both zeros are one.
-fn packed_order(a: &[u8], b: &[u8]) -> Order
+fn packed_order(a: &[u8], b: &[u8]) -> Ordering
     requires { length a.now ≡ length b.now }
     ensures { Numbers a.now b.now → result ≡ packed_order a.now b.now }
 {
-    if is_minus(a) {
-        if is_minus(b) {
-            return digits_order(b, a);
-        }
-        return unless_zeros(a, b, Order::Smaller);
+    match (is_minus(a), is_minus(b)) {
+        (false, false) => digits_order(a, b),
+        (true, true) => digits_order(b, a),
+        (true, false) => unless_zeros(a, b, Ordering::Less),
+        (false, true) => unless_zeros(a, b, Ordering::Greater),
     }
-    if is_minus(b) {
-        return unless_zeros(a, b, Order::Greater);
-    }
-    digits_order(a, b)
 }
 
 // R90: whether the `long` bytes of a from byte i on are a number and stand to those of b from byte j on, a number, as the operator says. Places are handed
@@ -144,8 +122,5 @@ pub fn holds_at(o: Operator, a: &[u8], i: usize, b: &[u8], j: usize, long: usize
     let x = i + long;
     let y = j + long;
     let own = &a[i..x];
-    if !is_number(own) {
-        return false;
-    }
-    holds(o, packed_order(own, &b[j..y]))
+    is_number(own) && holds(o, packed_order(own, &b[j..y]))
 }

@@ -1,21 +1,10 @@
-use native.Mathlib.Omega.{arith}
-use mathlib.Core.Path.{◌∙◌}
-use Rattle.dbd_names.proofs.Named.{trimmed-next, trimmed-stop, trimmed-end}
+use Rattle.std.proofs.Common.{rules, ◌≡◌}
+use borrow.Author.Tests.{tests}
+use Rattle.std.proofs.lemmas.Iterator.{YieldsList-from_slice, IsFirst-from_position}
+use Rattle.dbd_names.proofs.Named.{name_ends}
 use Rattle.dbd_names.proofs.name_end.Goals as goal
 
-pub returns-then-name-i-eq32 : goal.returns-then-name-i-eq32
-returns-then-name-i-eq32 c = (
-  omega arith,
-  trimmed-stop c.args.name.now c.loop-i.i
-      c.loop-i-test.true c.if-name-i-eq32.true ∙ c.loop-i.invariant.1,
-)
-
-pub loop-i-preserved : goal.loop-i-preserved
-loop-i-preserved c = (
-  omega arith,
-  trimmed-next c.args.name.now c.loop-i.i
-      c.loop-i-test.true c.if-name-i-eq32.false ∙ c.loop-i.invariant.1,
-)
-
 pub returns : goal.returns
-returns c = (omega arith, trimmed-end c.args.name.now c.loop-i.i c.loop-i-test.false ∙ c.loop-i.invariant.1)
+returns c = name_ends _ c.position.result _ c.unwrap_or.ensures
+    (IsFirst-from_position _ _ _ (λ x. x ≡ 0x20) (λ x. x ≡ 0x20 → ⊥) c.position.ensures.ran
+    (YieldsList-from_slice _ c.iter.ensures.rest) (λ x q k. search (rules, tests)) (λ x q k. search (rules, tests)))

@@ -1,24 +1,17 @@
-use Rattle.dbd_read.proofs.LinesRead.{whole_is, fault-is}
-use mathlib.Core.Path.{refl, ◌∙◌}
-use Rattle.statements.specs.Dbd.{given, dbd_read}
-use Rattle.dbd_draft.specs.Kept.{draft_of}
+use mathlib.Core.Path.{refl, ap, ◌∙◌}
+use mathlib.Core.List.{◌++◌}
+use lib.ListN.{drop, replicate}
+use Rattle.rules.specs.Block.{Bytes}
 use Rattle.dbd_read.proofs.FreshDraft.{fresh}
 use Rattle.dbd_read.proofs.HandedOut.{fault-out, read-into}
+use Rattle.dbd_read.proofs.LinesRead.{whole_is, fault-is}
 use Rattle.dbd_read.proofs.umbristal_dbd_read.Goals as goal
 
-pub read_lines-reading-requires : goal.read_lines-reading-requires
-read_lines-reading-requires c = fresh c.put.new.tail c.put.ensures
+pub read_lines-requires : goal.read_lines-requires
+read_lines-requires c = fresh _ (ap (λ (front : Bytes). front ++ drop 5 (replicate 1296 0)) c.copy_from_slice.ensures.after)
 
-pub returns-in-Whole : goal.returns-in-Whole
-returns-in-Whole c = c.hand_out.ensures ∙ read-into c.args.text.now c.args.cat.now c.args.names.now
-    (given (draft_of c.read_lines-reading.new.draft)) (whole_is c.read_lines-reading.result c.read_lines-reading.new.draft
-    c.read_lines-reading.new.levels (dbd_read c.args.text.now) c.read_lines-reading.ensures c.in-Whole.is)
+pub returns-in-Ok : goal.returns-in-Ok
+returns-in-Ok c = c.hand_out.ensures ∙ read-into _ _ _ _ (whole_is _ _ _ _ c.read_lines.ensures c.in-Ok.is)
 
-pub returns-in-Fault : goal.returns-in-Fault
-returns-in-Fault c = fault-out c.in-Fault.kind c.in-Fault.line c.told_fault.result c.args.cat.now
-    c.args.names.now (dbd_read c.args.text.now)
-    (c.read_lines-reading.ensures.told c.in-Fault.kind c.in-Fault.line c.in-Fault.is)
-    (fault-is c.read_lines-reading.result c.read_lines-reading.new.draft c.read_lines-reading.new.levels (dbd_read c.args.text.now)
-    c.read_lines-reading.ensures c.in-Fault.kind c.in-Fault.line c.in-Fault.is)
-    c.told_fault.ensures ∙ read-into c.args.text.now c.args.cat.now c.args.names.now
-    (dbd_read c.args.text.now) refl
+pub returns-in-Err : goal.returns-in-Err
+returns-in-Err c = fault-out _ _ _ _ _ _ (fault-is _ _ _ _ c.read_lines.ensures c.in-Err.is) c.told_fault.ensures ∙ read-into _ _ _ _ refl

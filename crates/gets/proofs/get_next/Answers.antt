@@ -58,8 +58,8 @@ got-requires c = (
         (list_read c.args.cat.now (c.args.one.now ++ c.args.two.now)).arguments
         c.last_type-t.result)
         c.after_place-from.result
-        c.count.result c.in-At.c
-        (sym c.first_match.ensures ∙ c.in-At.is),
+        c.count.result c.in-Some.c
+        (sym c.first_match.ensures ∙ c.in-Some.is),
     c.count.ensures.0,
   ),
   c.requires.2,
@@ -68,6 +68,6 @@ got-requires c = (
 pub returns : goal.returns
 returns c = c.got.ensures ∙ next-found c.requires.0 c.args.area.now c.args.hold c.last_type-t.result c.first_match.result
     c.last_type-t.ensures c.after_place-from.result c.after_place-from.ensures c.count.result c.first_match.ensures
-    c.in-At.c Blank (c.count.ensures.0 ∙ sym (listing-length c.args.cat.now c.args.tab.now))
-    c.in-At.is (status-named c.requires.0 c.in-At.c.0
+    c.in-Some.c Blank (c.count.ensures.0 ∙ sym (listing-length c.args.cat.now c.args.tab.now))
+    c.in-Some.is (status-named c.requires.0 c.in-Some.c.0
     (eqb-false _ _ (sym c.are_empty.ensures ∙ c.if-are_empty.false)))

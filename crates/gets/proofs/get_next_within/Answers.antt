@@ -34,7 +34,7 @@ first_beneath-requires c = (
         c.requires.1;
   },
   search-beneath c.requires.0 c.last_type-t.result c.last_type-t.ensures
-      (eqb-false _ _ (sym c.are_empty.ensures ∙ c.if-are_empty.false)) c.in-Of.p c.in-Of.is
+      (eqb-false _ _ (sym c.are_empty.ensures ∙ c.if-are_empty.false)) c.in-Some.p c.in-Some.is
       c.after_place-from.result c.after_place-from.ensures,
 )
 
@@ -42,7 +42,7 @@ pub returns-in_default-first_beneath : goal.returns-in_default-first_beneath
 returns-in_default-first_beneath c =
     ap (λ (r : Answer). left r c.args.area.now) c.missed-in_default-first_beneath.ensures ∙ within-missed c.requires.0 c.args.area.now
     c.args.hold c.last_type-t.result c.first_beneath.result c.last_type-t.ensures c.after_place-from.result
-    c.after_place-from.ensures _ c.first_beneath.ensures c.in-Of.p c.in-Of.is refl
+    c.after_place-from.ensures _ c.first_beneath.ensures c.in-Some.p c.in-Some.is refl
     c.in_default-first_beneath.is
 
 pub got-requires : goal.got-requires
@@ -56,17 +56,17 @@ got-requires c = (
         c.last_type-t.result)
         c.after_place-from.result
         (end_at c.args.cat.now (listing c.args.cat.now c.args.tab.now)
-        c.in-Of.p.0)
-        c.in-At.c (sym c.first_beneath.ensures ∙
-        c.in-At.is),
+        c.in-Some.p.0)
+        c.in-Some-first_beneath.c (sym c.first_beneath.ensures ∙
+        c.in-Some-first_beneath.is),
     end-in (search-good
         c.requires.0 c.last_type-t.result
         c.last_type-t.ensures)
-        c.in-Of.p.0
+        c.in-Some.p.0
         (parent_in c.args.cat.now c.args.tab.now c.args.pos
         c.requires.0.position
-        c.in-Of.p
-        c.in-Of.is),
+        c.in-Some.p
+        c.in-Some.is),
   ),
   c.requires.2,
 )
@@ -74,6 +74,6 @@ got-requires c = (
 pub returns : goal.returns
 returns c = c.got.ensures ∙ within-found c.requires.0 c.args.area.now c.args.hold c.last_type-t.result
     c.first_beneath.result c.last_type-t.ensures c.after_place-from.result c.after_place-from.ensures _
-    c.first_beneath.ensures c.in-Of.p c.in-At.c Blank c.in-Of.is refl
-    c.in-At.is (status-named c.requires.0 c.in-At.c.0
+    c.first_beneath.ensures c.in-Some.p c.in-Some-first_beneath.c Blank c.in-Some.is refl
+    c.in-Some-first_beneath.is (status-named c.requires.0 c.in-Some-first_beneath.c.0
     (eqb-false _ _ (sym c.are_empty.ensures ∙ c.if-are_empty.false)))

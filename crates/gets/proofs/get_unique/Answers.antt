@@ -13,23 +13,23 @@ along-requires c = (
   place-good c.args.cat.now c.args.tab.now c.args.pos c.requires.0.position,
 )
 
-pub returns-in_default : goal.returns-in_default
-returns-in_default c =
+pub returns-in-None : goal.returns-in-None
+returns-in-None c =
     ap (λ (r : Answer). left r c.args.area.now) c.missed.ensures ∙ unique-missed c.requires.0 c.args.area.now
     c.args.hold c.last_of.result.code c.along.result (ap (λ (a : Argument). a.code) c.last_of.ensures)
-    (along-alone _ _ _ _ _ c.along.ensures) c.in_default.is
+    (along-alone _ _ _ _ _ c.along.ensures) c.in-None.is
 
 pub got-requires : goal.got-requires
 got-requires c = (
   c.requires.0.sound,
   along-in (search-good c.requires.0 c.last_of.result.code
-      (ap (λ (a : Argument). a.code) c.last_of.ensures)) c.args.pos.place c.in-At.c
+      (ap (λ (a : Argument). a.code) c.last_of.ensures)) c.args.pos.place c.in-Some.c
       (place-good c.args.cat.now c.args.tab.now c.args.pos c.requires.0.position)
-      (sym (along-alone _ _ _ _ _ c.along.ensures) ∙ c.in-At.is),
+      (sym (along-alone _ _ _ _ _ c.along.ensures) ∙ c.in-Some.is),
   c.requires.1,
 )
 
-pub returns : goal.returns
-returns c = c.got.ensures ∙ unique-found c.requires.0 c.args.area.now c.args.hold c.last_of.result.code c.along.result
-    (ap (λ (a : Argument). a.code) c.last_of.ensures) (along-alone _ _ _ _ _ c.along.ensures) c.in-At.c
-    c.in-At.is
+pub returns-in-Some : goal.returns-in-Some
+returns-in-Some c = c.got.ensures ∙ unique-found c.requires.0 c.args.area.now c.args.hold c.last_of.result.code c.along.result
+    (ap (λ (a : Argument). a.code) c.last_of.ensures) (along-alone _ _ _ _ _ c.along.ensures) c.in-Some.c
+    c.in-Some.is

@@ -1,56 +1,28 @@
 use native.Mathlib.Omega.{arith}
-use Rattle.listing.proofs.Lines.{size_small, list-ready, answer-short, listed-last, listed-cell}
+use borrow.Author.Tests.{le-leb, lt-leb}
+use Rattle.listing.proofs.Lines.{size_small, list-ready, answer-short, listed-line}
 use Rattle.gets.proofs.OneList.{ready-alone}
 use Rattle.listing.proofs.next_line.Goals as goal
+use Rattle.listing.proofs.next_line.Goals.{then-done, else-done}
 
 pub read_next-a-requires : goal.read_next-a-requires
 read_next-a-requires c = (list-ready _ _ _ c.requires.0, (ready-alone (list-ready _ _ _ c.requires.0)).1, size_small _ _ _ c.requires.0)
 
-pub returns-then-number-ge10 : goal.returns-then-number-ge10
-returns-then-number-ge10 c = listed-last _ _ _ c.requires.0
-    c.read_next-a.result _
-    c.read_next-a.ensures
-    (λ i. omega (
-      arith,
-      c.shared_slice_known-2-1.given i,
-    )) c.number.result
-    c.number.ensures _ c.last_line-end.result
-    c.last_line-end.new.out (omega (
-      arith,
-      c.requires.1,
-      c.last_line-end.ensures.1,
-      c.last_line-end.ensures.0.long,
-    ))
-    c.if-number-ge10.true c.last_line-end.ensures.0
-
 pub cell_line-long-requires : goal.cell_line-long-requires
-cell_line-long-requires c = let short = answer-short _ _ _
-    c.requires.0
-    c.read_next-a.result _
-    c.read_next-a.ensures in (
-      omega (arith, c.area-2-1.given),
-      omega (
-        arith,
-        c.requires.1,
-      ),
-    )
+cell_line-long-requires c =
+    let short = answer-short _ _ _ c.requires.0 c.read_next-a.result _ c.read_next-a.ensures in
+    (omega arith, omega (arith, c.requires.1))
 
 pub returns : goal.returns
-returns c = listed-cell _ _ _ c.requires.0
-    c.read_next-a.result _
-    c.read_next-a.ensures
-    (λ i. omega (
-      arith,
-      c.shared_slice_known-2-1.given i,
-    ))
-    c.number.result
-    c.number.ensures _ c.cell_line-long.result
-    c.cell_line-long.new.out (omega (
-      arith,
-      c.requires.1,
-      c.cell_line-long.ensures.1,
-      c.cell_line-long.ensures.0.long,
-      answer-short _ _ _
-          c.requires.0 c.read_next-a.result _ c.read_next-a.ensures,
-    ))
-    c.if-number-ge10.false c.cell_line-long.ensures.0
+returns c =
+    let line = listed-line _ _ _ c.requires.0 c.read_next-a.result _ c.read_next-a.ensures (λ i. omega (arith, c.type_inv.tab i)) c.number-done.result
+    c.number-done.ensures c.args.out.now c.if-done.long c.if-done.out in
+    elim c.if-done.branch [
+      | then-done w ↦
+          line (rw (w.long-is, w.out-is) (omega (arith, c.requires.1, w.last_line-long.ensures.1, w.last_line-long.ensures.0.long)))
+          (rw (w.long-is, w.out-is, le-leb 10 c.number-done.result w.if-done.true) w.last_line-long.ensures.0)
+      | else-done w ↦
+          let short = answer-short _ _ _ c.requires.0 c.read_next-a.result _ c.read_next-a.ensures in
+          line (rw (w.long-is, w.out-is) (omega (arith, c.requires.1, w.cell_line-long.ensures.1, w.cell_line-long.ensures.0.long)))
+          (rw (w.long-is, w.out-is, lt-leb 10 c.number-done.result w.if-done.false) w.cell_line-long.ensures.0)
+    ]

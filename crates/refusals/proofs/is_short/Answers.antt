@@ -2,10 +2,10 @@ use borrow.Author.Tests.{eq-eqb, ne_eqb}
 use Rattle.refusals.specs.Refusals.{too_short}
 use Rattle.refusals.proofs.is_short.Goals as goal
 
-pub returns-then-number-eq9 : goal.returns-then-number-eq9
+pub returns-then-number-ne9 : goal.returns-then-number-ne9
 unfolding too_short
-returns-then-number-eq9 c = simp (eq-eqb _ _ c.if-number-eq9.true)
+returns-then-number-ne9 c = simp (ne_eqb _ _ c.if-number-ne9.true)
 
-pub returns : goal.returns
+pub returns-else-number-ne9 : goal.returns-else-number-ne9
 unfolding too_short
-returns c = simp (ne_eqb _ _ c.if-number-eq9.false)
+returns-else-number-ne9 c = simp (eq-eqb _ _ c.if-number-ne9.false)

@@ -1,28 +1,27 @@
 use mathlib.Core.Path.{sym, ◌∙◌}
-use borrow.Author.Tests.{eq-eqb, ne_eqb}
 use Rattle.refusals.specs.Refusals.{misused_held}
 use Rattle.refusals.proofs.misused_held.Goals as goal
 
-pub returns-then-list-ne0 : goal.returns-then-list-ne0
+pub returns-then-not-is_empty : goal.returns-then-not-is_empty
 unfolding misused_held
-returns-then-list-ne0 c = simp (ne_eqb _ _ c.if-list-ne0.true)
+returns-then-not-is_empty c = simp (sym c.is_empty.ensures ∙ c.if-not-is_empty.true)
 
 pub returns-then-is_short : goal.returns-then-is_short
 unfolding misused_held
-returns-then-is_short c = simp (eq-eqb _ _ c.if-list-ne0.false, sym c.is_short.ensures ∙ c.if-is_short.true)
+returns-then-is_short c = simp (sym c.is_empty.ensures ∙ c.if-not-is_empty.false, sym c.is_short.ensures ∙ c.if-is_short.true)
 
-pub returns-then-not-hold : goal.returns-then-not-hold
+pub returns-then-not-pos : goal.returns-then-not-pos
 unfolding misused_held
-returns-then-not-hold c = simp (
-  eq-eqb _ _ c.if-list-ne0.false,
+returns-then-not-pos c = simp (
+  sym c.is_empty.ensures ∙ c.if-not-is_empty.false,
   sym c.is_short.ensures ∙ c.if-is_short.false,
-  c.if-not-hold.true,
+  c.if-not-pos.true,
 )
 
 pub returns : goal.returns
 unfolding misused_held
 returns c = simp (
-  eq-eqb _ _ c.if-list-ne0.false,
+  sym c.is_empty.ensures ∙ c.if-not-is_empty.false,
   sym c.is_short.ensures ∙ c.if-is_short.false,
-  c.if-not-hold.false,
+  c.if-not-pos.false,
 )

@@ -1,36 +1,35 @@
 use mathlib.Core.Path.{ap, sym, ◌∙◌}
-use borrow.Author.Tests.{eq-eqb, ne_eqb}
 use Rattle.terms.specs.declared.Argument.{Argument}
 use Rattle.rules.specs.Arguments.{is_qualified}
 use Rattle.refusals.specs.Refusals.{misused_insert}
 use Rattle.refusals.proofs.misused_insert.Goals as goal
 
-pub returns-then-list-eq0 : goal.returns-then-list-eq0
+pub returns-then-is_empty : goal.returns-then-is_empty
 unfolding misused_insert
-returns-then-list-eq0 c = simp (eq-eqb _ _ c.if-list-eq0.true)
+returns-then-is_empty c = simp (sym c.is_empty.ensures ∙ c.if-is_empty.true)
 
-pub returns-then-is_qualified : goal.returns-then-is_qualified
+pub returns-then-is_some : goal.returns-then-is_some
 unfolding misused_insert
-returns-then-is_qualified c = simp (
-  ne_eqb _ _ c.if-list-eq0.false,
-  sym (c.is_qualified.ensures ∙ ap
-      (λ (a : Argument). is_qualified a.qualification) c.last_of-last.ensures) ∙ c.if-is_qualified.true,
+returns-then-is_some c = simp (
+  sym c.is_empty.ensures ∙ c.if-is_empty.false,
+  sym (c.is_some.ensures ∙ ap
+      (λ (a : Argument). is_qualified a.qualification) c.last_of.ensures) ∙ c.if-is_some.true,
 )
 
 pub returns-then-is_short : goal.returns-then-is_short
 unfolding misused_insert
 returns-then-is_short c = simp (
-  ne_eqb _ _ c.if-list-eq0.false,
-  sym (c.is_qualified.ensures ∙ ap (λ (a : Argument). is_qualified a.qualification)
-      c.last_of-last.ensures) ∙ c.if-is_qualified.false,
+  sym c.is_empty.ensures ∙ c.if-is_empty.false,
+  sym (c.is_some.ensures ∙ ap (λ (a : Argument). is_qualified a.qualification)
+      c.last_of.ensures) ∙ c.if-is_some.false,
   sym c.is_short.ensures ∙ c.if-is_short.true,
 )
 
 pub returns : goal.returns
 unfolding misused_insert
 returns c = simp (
-  ne_eqb _ _ c.if-list-eq0.false,
-  sym (c.is_qualified.ensures ∙ ap (λ (a : Argument). is_qualified a.qualification)
-      c.last_of-last.ensures) ∙ c.if-is_qualified.false,
+  sym c.is_empty.ensures ∙ c.if-is_empty.false,
+  sym (c.is_some.ensures ∙ ap (λ (a : Argument). is_qualified a.qualification)
+      c.last_of.ensures) ∙ c.if-is_some.false,
   sym c.is_short.ensures ∙ c.if-is_short.false,
 )

@@ -1,18 +1,22 @@
-use mathlib.Core.Path.{◌∙◌}
-use Rattle.reports.proofs.Whole.{whole-refused, five-in, whole-given, whole-shows}
+use mathlib.Core.Path.{ap, sym, ◌∙◌}
+use Rattle.terms.specs.Statuses.{number}
+use Rattle.terms.proofs.Verdict.{verdict-err}
+use Rattle.std.proofs.lemmas.Result.{err_from_is_err_and}
+use Rattle.reports.proofs.Whole.{whole-refused, whole-given, whole-shows}
 use Rattle.reports.proofs.report_by.Goals as goal
 
-pub returns-then-number-ne0 : goal.returns-then-number-ne0
-returns-then-number-ne0 c = whole-refused _ _ _ _ _ _ c.report_refusal-s.ensures c.number.ensures _ _ c.shows_nothing.ensures
-    c.if-number-ne0.true
+pub returns-in_err-report_refusal : goal.returns-in_err-report_refusal
+returns-in_err-report_refusal g c =
+    let p = err_from_is_err_and c.from_residual.result c.from_residual.ensures.1 in
+    let e = sym c.report_refusal.ensures ∙ c.in_err-report_refusal.was in
+    let told = verdict-err _ e in
+    rw (p.1, p.2) (record { told = whole-refused _ _ _ _ _ e; refused = λ z. told.0 (ap number (sym told.1) ∙ z) })
 
-pub bounds-tab-5 : goal.bounds-tab-5
-bounds-tab-5 c =
-    five-in _ _ c.args.one.now c.args.two.now _ _ c.report_refusal-s.ensures c.number.ensures
-    c.if-number-ne0.false
-
-pub shown_by-requires : goal.shown_by-requires
-shown_by-requires c = whole-given _ _ _ _ _ _ c.report_refusal-s.ensures c.number.ensures c.if-number-ne0.false _ c.wide-size.ensures.0
+pub shown_by-requires-clause-given : goal.shown_by-requires-clause-given
+shown_by-requires-clause-given g c = whole-given _ _ _ _ (sym c.report_refusal.ensures ∙ c.in_ok-report_refusal.was)
 
 pub returns : goal.returns
-returns c = c.shown_by.ensures ∙ whole-shows _ _ _ _ _ _ c.report_refusal-s.ensures c.number.ensures c.if-number-ne0.false _
+returns g c = record {
+  told = c.shown_by.ensures.told ∙ whole-shows _ _ _ _ (sym c.report_refusal.ensures ∙ c.in_ok-report_refusal.was) _;
+  refused = c.shown_by.ensures.refused;
+}

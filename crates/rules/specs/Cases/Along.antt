@@ -1,7 +1,6 @@
 -- Along the position (R30, R31): what is kept of the path, and where the rest of the list is sought. The claim is in proofs/Cases.antt. Assumes nothing:
 -- these are definitions.
-use Rattle.std.specs.Prelude.{true, false, List, [], ◌∷◌, ◌++◌, ℕ}
-use Rattle.terms.specs.declared.Parentage.TheVariants.{Absent}
+use Rattle.std.specs.Prelude.{true, false, List, [], ◌∷◌, ◌++◌, ℕ, None}
 use Rattle.terms.specs.declared.Position.{Position}
 use Rattle.terms.specs.declared.Status.TheVariants.{Blank, GE}
 use Rattle.terms.specs.Moves.{fresh}
@@ -60,9 +59,9 @@ along_cases =
     -- R31: in a gap, whatever the parentage
     ∷ finds (position (gap 4) (parent 3) false) (named 3) 2
     ∷ finds (position (gap 8) (parent 7) false) step13 1
-    ∷ finds (position (gap 9) Absent false) step14 3
+    ∷ finds (position (gap 9) None false) step14 3
     -- on a cell without parentage, or with one above, the place counts
-    ∷ finds (position (upon 7) Absent false) step14 8
+    ∷ finds (position (upon 7) None false) step14 8
     ∷ finds (position (upon 5) (parent 0) true) (named 3) 4
     -- a level that the list names is not implied, with an operator or without: nothing is kept
     ∷ finds (on_cell 8) (named 1 ++ step14) 3

@@ -1,8 +1,7 @@
 -- ISRT, REPL and DLET: the spot of a new cell, what is told, what becomes of the position and of every byte of the table. The claims are in
 -- proofs/Cases.antt. Assumes nothing: these are definitions.
-use Rattle.std.specs.Prelude.{true, false, List, [], ◌∷◌, ◌++◌}
-use Rattle.terms.specs.declared.Parentage.{Parentage}
-use Rattle.terms.specs.declared.Parentage.TheVariants.{Absent}
+use Rattle.terms.specs.Names.{Parentage}
+use Rattle.std.specs.Prelude.{true, false, List, [], ◌∷◌, ◌++◌, None}
 use Rattle.terms.specs.declared.Position.{Position}
 use Rattle.terms.specs.declared.Status.{Status}
 use Rattle.terms.specs.declared.Status.TheVariants.{Blank, DJ, DA, II, FX}
@@ -50,14 +49,14 @@ insert_cases =
     -- R42, of the parentage: it is the parent, an ancestor, a twin, none
     ∷ keeps (parent 3) (parent 3)
     ∷ keeps (parent 0) (parent 0)
-    ∷ keeps (parent 5) Absent
-    ∷ keeps Absent Absent
+    ∷ keeps (parent 5) None
+    ∷ keeps None None
     -- elsewhere: beneath another unit, before the parentage and behind it; a root, which has no parent
-    ∷ calls catalogue table (on_cell 8) (isrt (unit07 ++ named 4) (ascii "m..") (gives Blank ∷ tells 4 2 1 ∷ stands (position (upon 7) Absent false) ∷ []) ∷ [])
-    ∷ calls catalogue table (position (upon 8) (parent 7) true) (isrt (unit07 ++ named 4) (ascii "m..") (stands (position (upon 7) Absent false) ∷ []) ∷ [])
-    ∷ calls catalogue table (on_cell 1) (isrt (unit09 ++ named 4) (ascii "m..") (gives Blank ∷ stands (position (upon 9) Absent false) ∷ []) ∷ [])
-    ∷ calls catalogue table (on_cell 1) (isrt (named 2) (ascii "15X") (gives Blank ∷ tells 2 2 3 ∷ stands (position (upon 6) Absent false) ∷ []) ∷ [])
-    ∷ calls catalogue table (on_cell 0) (isrt (named 1) (ascii "08C") (gives Blank ∷ tells 1 1 3 ∷ stands (position (upon 7) Absent false) ∷ []) ∷ [])
+    ∷ calls catalogue table (on_cell 8) (isrt (unit07 ++ named 4) (ascii "m..") (gives Blank ∷ tells 4 2 1 ∷ stands (position (upon 7) None false) ∷ []) ∷ [])
+    ∷ calls catalogue table (position (upon 8) (parent 7) true) (isrt (unit07 ++ named 4) (ascii "m..") (stands (position (upon 7) None false) ∷ []) ∷ [])
+    ∷ calls catalogue table (on_cell 1) (isrt (unit09 ++ named 4) (ascii "m..") (gives Blank ∷ stands (position (upon 9) None false) ∷ []) ∷ [])
+    ∷ calls catalogue table (on_cell 1) (isrt (named 2) (ascii "15X") (gives Blank ∷ tells 2 2 3 ∷ stands (position (upon 6) None false) ∷ []) ∷ [])
+    ∷ calls catalogue table (on_cell 0) (isrt (named 1) (ascii "08C") (gives Blank ∷ tells 1 1 3 ∷ stands (position (upon 7) None false) ∷ []) ∷ [])
     ∷ calls catalogue table (on_cell 0) (isrt (named 2) (ascii "15X") (gives Blank ∷ stands (position (upon 6) (parent 0) false) ∷ []) ∷ [])
     ∷ calls catalogue table (position (gap 3) (parent 1) false) (isrt (named 3) (ascii "S3.") (stands (position (upon 3) (parent 1) false) ∷ []) ∷ [])
     -- among its twins by key: first_unit, between, last, with their runs passed over; before a later group
@@ -79,7 +78,7 @@ insert_cases =
     ∷ isrt (named 4) (ascii "m..") (gives FX ∷ leaves 4 ∷ []) ∷ [])
     -- into the empty table
     ∷ calls catalogue empty fresh (isrt (named 1) (ascii "08Czz") (
-    gives Blank ∷ tells 1 1 3 ∷ stands (position (upon 0) Absent false) ∷ fills (ascii "08Czz")
+    gives Blank ∷ tells 1 1 3 ∷ stands (position (upon 0) None false) ∷ fills (ascii "08Czz")
     ∷ bytes (bench_of 1 (unit "08C" ++ free ++ free ++ free ++ free ++ free ++ free ++ free ++ free ++ free ++ free ++ free)) ∷ []) ∷ [])
     -- II (R59): the key of the first twin, of the last, of a root; its other bytes do not matter
     ∷ calls catalogue table (position (upon 8) (parent 7) true) (isrt (named 2) (ascii "14Z") (refuses II (position (upon 8) (parent 7) true)) ∷ [])
@@ -107,7 +106,7 @@ replace_cases =
     ∷ repl (ascii "14Q") (gives DJ ∷ stands (position (upon 3) (parent 0) false) ∷ []) ∷ [])
     -- the parentage is the cell itself, or absent
     ∷ calls catalogue table (position (upon 3) (parent 3) true) (repl (ascii "14Q") (gives Blank ∷ stands (on_cell 3) ∷ []) ∷ [])
-    ∷ calls catalogue table (position (upon 3) Absent true) (repl (ascii "14Q") (gives Blank ∷ stands (position (upon 3) Absent false) ∷ []) ∷ [])
+    ∷ calls catalogue table (position (upon 3) None true) (repl (ascii "14Q") (gives Blank ∷ stands (position (upon 3) None false) ∷ []) ∷ [])
     -- R43: L bytes of the area, and zeros to C; no key byte to change
     ∷ calls catalogue table (position (upon 6) (parent 0) true) (repl (ascii "mxy") (
     gives Blank ∷ tells 4 2 1 ∷ contains 6 4 (ascii "m")
@@ -141,8 +140,8 @@ delete_cases =
     ∷ dlet (gives DJ ∷ [])
     ∷ gnp [] (gives Blank ∷ stands (position (upon 3) (parent 0) false) ∷ []) ∷ [])
     -- R45, of the parentage: in the run, and none before
-    ∷ calls catalogue table (position (upon 3) (parent 3) true) (dlet (gives Blank ∷ stands (position (gap 3) Absent false) ∷ []) ∷ [])
-    ∷ calls catalogue table (position (upon 3) Absent true) (dlet (gives Blank ∷ stands (position (gap 3) Absent false) ∷ []) ∷ [])
+    ∷ calls catalogue table (position (upon 3) (parent 3) true) (dlet (gives Blank ∷ stands (position (gap 3) None false) ∷ []) ∷ [])
+    ∷ calls catalogue table (position (upon 3) None true) (dlet (gives Blank ∷ stands (position (gap 3) None false) ∷ []) ∷ [])
     ∷ calls catalogue table (position (upon 5) (parent 3) true) (
     dlet (gives Blank ∷ tells 3 3 2 ∷ removes 1 ∷ stands (position (gap 5) (parent 3) false) ∷ []) ∷ [])
     ∷ calls catalogue table (position (upon 4) (parent 3) true) (
@@ -151,13 +150,13 @@ delete_cases =
     ∷ calls catalogue table (position (upon 8) (parent 7) true) (
     dlet (gives Blank ∷ removes 1 ∷ stands (position (gap 8) (parent 7) false) ∷ bytes (bench_of 8 (first_unit ++ unit "09B" ++ free ++ three_free)) ∷ []) ∷ [])
     ∷ calls catalogue table (position (upon 7) (parent 7) true) (
-    dlet (gives Blank ∷ tells 1 1 3 ∷ removes 2 ∷ stands (position (gap 7) Absent false) ∷ bytes (bench_of 7 (first_unit ++ two_free ++ three_free)) ∷ []) ∷ [])
+    dlet (gives Blank ∷ tells 1 1 3 ∷ removes 2 ∷ stands (position (gap 7) None false) ∷ bytes (bench_of 7 (first_unit ++ two_free ++ three_free)) ∷ []) ∷ [])
     ∷ calls catalogue table (position (upon 0) (parent 0) true) (
     dlet (
-    gives Blank ∷ tells 1 1 3 ∷ removes 7 ∷ stands (position (gap 0) Absent false)
+    gives Blank ∷ tells 1 1 3 ∷ removes 7 ∷ stands (position (gap 0) None false)
     ∷ bytes (bench_of 2 (second_unit ++ free ++ three_free ++ three_free ++ three_free)) ∷ []) ∷ [])
     ∷ calls catalogue (bench_of 1 (unit "07A")) (position (upon 0) (parent 0) true) (
-    dlet (removes 1 ∷ bytes (bench_of 0 free) ∷ []) ∷ gn [] (stands (position (gap 0) Absent false) ∷ []) ∷ [])
+    dlet (removes 1 ∷ bytes (bench_of 0 free) ∷ []) ∷ gn [] (stands (position (gap 0) None false) ∷ []) ∷ [])
     -- the note: one cell, of one byte
     ∷ calls catalogue table (position (upon 6) (parent 0) true) (
     dlet (gives Blank ∷ tells 4 2 1 ∷ removes 1 ∷ stands (position (gap 6) (parent 0) false) ∷ []) ∷ [])

@@ -1,8 +1,7 @@
 -- The six gets: what each finds, tells, shows and makes of the position; what a miss leaves; what follows a GB; GA and GK against blank. The claims are
 -- in proofs/Cases.antt.
 -- Assumes nothing: these are definitions.
-use Rattle.std.specs.Prelude.{true, false, List, [], ◌∷◌, ◌++◌, ℕ}
-use Rattle.terms.specs.declared.Parentage.TheVariants.{Absent}
+use Rattle.std.specs.Prelude.{true, false, List, [], ◌∷◌, ◌++◌, ℕ, None}
 use Rattle.terms.specs.declared.Position.{Position}
 use Rattle.terms.specs.declared.Status.{Status}
 use Rattle.terms.specs.declared.Status.TheVariants.{Blank, GA, GK, GB, GE, GP, DJ}
@@ -55,10 +54,10 @@ get_cases =
     gives Blank ∷ tells 3 3 2 ∷ removes 0 ∷ stands (position (upon 4) (parent 0) true) ∷ block (1 ∷ 0 ∷ 4 ∷ 1 ∷ 0 ∷ 0 ∷ 1 ∷ 0 ∷ [])
     ∷ fills (ascii "T1...") ∷ bytes table ∷ [])
     -- from a position without parentage and hold
-    ∷ from (position (upon 3) Absent false) 1 step13 (gives Blank ∷ stands (position (upon 1) (parent 1) false) ∷ [])
-    ∷ from (position (upon 3) Absent false) 2 [] (gives Blank ∷ stands (position (upon 4) (parent 4) false) ∷ [])
-    ∷ from (position (upon 3) Absent false) 4 step13 (gives Blank ∷ stands (position (upon 1) (parent 1) true) ∷ [])
-    ∷ from (position (upon 3) Absent false) 5 [] (gives Blank ∷ stands (position (upon 4) (parent 4) true) ∷ [])
+    ∷ from (position (upon 3) None false) 1 step13 (gives Blank ∷ stands (position (upon 1) (parent 1) false) ∷ [])
+    ∷ from (position (upon 3) None false) 2 [] (gives Blank ∷ stands (position (upon 4) (parent 4) false) ∷ [])
+    ∷ from (position (upon 3) None false) 4 step13 (gives Blank ∷ stands (position (upon 1) (parent 1) true) ∷ [])
+    ∷ from (position (upon 3) None false) 5 [] (gives Blank ∷ stands (position (upon 4) (parent 4) true) ∷ [])
     -- from the start, one after the other: the unit, the note, the next unit
     ∷ calls catalogue table fresh (
     gn [] (gives Blank ∷ tells 1 1 3 ∷ stands (on_cell 0) ∷ shows (ascii "07A") ∷ [])
@@ -76,7 +75,7 @@ get_cases =
     ∷ from fresh 1 [] (gives Blank ∷ stands (on_cell 0) ∷ [])
     ∷ from (on_cell 8) 1 [] (gives Blank ∷ stands (on_cell 0) ∷ [])
     ∷ from (position (gap 5) (parent 3) false) 4 [] (gives Blank ∷ stands (position (upon 0) (parent 0) true) ∷ [])
-    ∷ from (position (gap 9) Absent false) 1 [] (gives Blank ∷ stands (on_cell 0) ∷ [])
+    ∷ from (position (gap 9) None false) 1 [] (gives Blank ∷ stands (on_cell 0) ∷ [])
     -- GNP: what lies beneath p, grandchildren too, and never p itself
     ∷ from (on_cell 0) 3 (named 3) (gives Blank ∷ stands (position (upon 2) (parent 0) false) ∷ [])
     ∷ from (on_cell 0) 3 (named 1) (gives GE ∷ stands (on_cell 0) ∷ [])
@@ -112,15 +111,15 @@ miss_cases =
     -- GB (R50): place, parentage and hold are then the fresh ones; with a list it is GE, and they stay but for the hold
     ∷ misses (position (upon 8) (parent 7) true) 2 [] GB fresh
     ∷ misses (position (upon 8) (parent 8) false) 2 [] GB fresh
-    ∷ misses (position (upon 8) Absent true) 5 [] GB fresh
+    ∷ misses (position (upon 8) None true) 5 [] GB fresh
     ∷ misses (position (gap 9) (parent 7) false) 2 [] GB fresh
-    ∷ misses (position (gap 9) Absent false) 5 [] GB fresh
+    ∷ misses (position (gap 9) None false) 5 [] GB fresh
     ∷ misses (position (upon 8) (parent 7) true) 2 (named 2) GE (position (upon 8) (parent 7) false)
     ∷ misses (position (upon 8) (parent 7) true) 5 (named 3) GE (position (upon 8) (parent 7) false)
     -- GP (R52): on a cell and in a gap, with a list or without
-    ∷ misses (position (upon 3) Absent true) 3 [] GP (position (upon 3) Absent false)
-    ∷ misses (position (upon 3) Absent true) 6 [] GP (position (upon 3) Absent false)
-    ∷ misses (position (gap 3) Absent false) 6 (named 3) GP (position (gap 3) Absent false)
+    ∷ misses (position (upon 3) None true) 3 [] GP (position (upon 3) None false)
+    ∷ misses (position (upon 3) None true) 6 [] GP (position (upon 3) None false)
+    ∷ misses (position (gap 3) None false) 6 (named 3) GP (position (gap 3) None false)
     ∷ misses fresh 3 [] GP fresh
     -- in a table of no cells
     ∷ calls catalogue empty fresh (gu [] (gives GE ∷ stands fresh ∷ []) ∷ ghu [] (gives GE ∷ []) ∷ gu (named 1) (gives GE ∷ []) ∷ [])
@@ -147,7 +146,7 @@ over_cases =
     -- GU and ISRT: nothing is kept along the position, so that step "14" is that of the first unit, where cell 8 would keep the second
     ∷ after_gb (gu step14 (gives Blank ∷ stands (on_cell 3) ∷ []))
     ∷ after_gb (ghu [] (gives Blank ∷ stands (position (upon 0) (parent 0) true) ∷ []))
-    ∷ after_gb (isrt (step14 ++ named 3) (ascii "T9.") (gives Blank ∷ stands (position (upon 6) Absent false) ∷ leaves 10 ∷ []))
+    ∷ after_gb (isrt (step14 ++ named 3) (ascii "T9.") (gives Blank ∷ stands (position (upon 6) None false) ∷ leaves 10 ∷ []))
     -- from one pass into the next
     ∷ calls catalogue table (on_cell 7) (
     gn [] (gives Blank ∷ place (upon 8) ∷ []) ∷ gn [] (gives GB ∷ stands fresh ∷ [])
@@ -160,7 +159,7 @@ over_cases =
     ∷ calls catalogue table (position (upon 8) (parent 8) true) (
     gnp [] (gives GE ∷ stands (on_cell 8) ∷ []) ∷ gnp [] (gives GE ∷ stands (on_cell 8) ∷ []) ∷ gn [] (gives GB ∷ []) ∷ [])
     -- nor does GP
-    ∷ calls catalogue table (position (upon 3) Absent true) (gnp [] (gives GP ∷ []) ∷ gn [] (gives Blank ∷ place (upon 4) ∷ []) ∷ [])
+    ∷ calls catalogue table (position (upon 3) None true) (gnp [] (gives GP ∷ []) ∷ gn [] (gives Blank ∷ place (upon 4) ∷ []) ∷ [])
     ∷ []
 
 -- GA and GK (R49), and blank beside them
@@ -186,7 +185,7 @@ level_cases =
     ∷ calls catalogue step_note (on_cell 1) (gn (named 4) (gives Blank ∷ place (upon 2) ∷ []) ∷ [])
     -- blank: from a gap
     ∷ from (position (gap 6) (parent 3) false) 2 [] (gives Blank ∷ place (upon 6) ∷ [])
-    ∷ from (position (gap 7) Absent false) 2 [] (gives Blank ∷ place (upon 7) ∷ [])
+    ∷ from (position (gap 7) None false) 2 [] (gives Blank ∷ place (upon 7) ∷ [])
     ∷ calls catalogue step_note (position (gap 2) (parent 0) false) (gnp [] (gives Blank ∷ place (upon 2) ∷ []) ∷ [])
     -- blank: GU and GHU, which are none of the four
     ∷ from (on_cell 5) 1 [] (gives Blank ∷ place (upon 0) ∷ [])

@@ -1,8 +1,8 @@
 -- Packed numbers by themselves (R87, R88): which bytes are one, its digits and sign, and how two stand to each other. The claim is in proofs/Cases.antt.
 -- Assumes nothing: these are definitions.
+use Rattle.std.specs.declared.cmp.Ordering.{Ordering}
+use Rattle.std.specs.declared.cmp.Ordering.TheVariants.{Equal, Greater, Less}
 use Rattle.std.specs.Prelude.{Bool, true, false, not, ◌&&◌, List, [], ◌∷◌, ℕ, eqb}
-use Rattle.terms.specs.declared.Order.{Order}
-use Rattle.terms.specs.declared.Order.TheVariants.{Smaller, Equal, Greater}
 use Rattle.rules.specs.Block.{Bytes}
 use Rattle.rules.specs.Packed.{is_number, magnitude, is_minus}
 use Rattle.rules.specs.Order.{is_value, value_order}
@@ -13,15 +13,15 @@ pub data NumberCase : Type 0 where
   is_one : Bytes → ℕ → Bool → NumberCase
   is_none : Bytes → NumberCase
   -- how two values of a value type stand to each other, and so turned round
-  stand : ℕ → Bytes → Order → Bytes → NumberCase
+  stand : ℕ → Bytes → Ordering → Bytes → NumberCase
 
-abbrev rank : Order → ℕ
-rank Smaller = 0
+abbrev rank : Ordering → ℕ
+rank Less = 0
 rank Equal = 1
 rank Greater = 2
 
-abbrev turned_rank : Order → ℕ
-turned_rank Smaller = 2
+abbrev turned_rank : Ordering → ℕ
+turned_rank Less = 2
 turned_rank Equal = 1
 turned_rank Greater = 0
 
@@ -60,30 +60,30 @@ number_cases =
     ∷ stand 1 (0x0C ∷ []) Equal (0x0D ∷ [])
     ∷ stand 1 (0x0B ∷ []) Equal (0x0F ∷ [])
     ∷ stand 1 (0x0B ∷ []) Equal (0x0D ∷ [])
-    ∷ stand 1 (0x1D ∷ []) Smaller (0x0D ∷ [])
-    ∷ stand 1 (0x0D ∷ []) Smaller (0x1C ∷ [])
-    ∷ stand 1 (0x1B ∷ []) Smaller (0x0C ∷ [])
+    ∷ stand 1 (0x1D ∷ []) Less (0x0D ∷ [])
+    ∷ stand 1 (0x0D ∷ []) Less (0x1C ∷ [])
+    ∷ stand 1 (0x1B ∷ []) Less (0x0C ∷ [])
     -- 12 in its forms, and -12
     ∷ is_one (0x01 ∷ 0x2C ∷ []) 12 false
     ∷ is_one (0x01 ∷ 0x2D ∷ []) 12 true
     ∷ stand 1 (0x01 ∷ 0x2C ∷ []) Equal (0x01 ∷ 0x2F ∷ [])
     ∷ stand 1 (0x01 ∷ 0x2A ∷ []) Equal (0x01 ∷ 0x2E ∷ [])
-    ∷ stand 1 (0x01 ∷ 0x2D ∷ []) Smaller (0x01 ∷ 0x2C ∷ [])
+    ∷ stand 1 (0x01 ∷ 0x2D ∷ []) Less (0x01 ∷ 0x2C ∷ [])
     ∷ stand 1 (0x01 ∷ 0x2B ∷ []) Equal (0x01 ∷ 0x2D ∷ [])
     -- as bytes these stand otherwise
-    ∷ stand 0 (0x01 ∷ 0x2C ∷ []) Smaller (0x01 ∷ 0x2F ∷ [])
+    ∷ stand 0 (0x01 ∷ 0x2C ∷ []) Less (0x01 ∷ 0x2F ∷ [])
     ∷ stand 0 (0x01 ∷ 0x2D ∷ []) Greater (0x01 ∷ 0x2C ∷ [])
     ∷ stand 0 (0x02 ∷ 0x0D ∷ []) Greater (0x01 ∷ 0x2D ∷ [])
     -- the first digits are the heaviest; below zero the greater digits are the smaller value
-    ∷ stand 1 (0x01 ∷ 0x9F ∷ []) Smaller (0x02 ∷ 0x0A ∷ [])
-    ∷ stand 1 (0x02 ∷ 0x0D ∷ []) Smaller (0x01 ∷ 0x2D ∷ [])
+    ∷ stand 1 (0x01 ∷ 0x9F ∷ []) Less (0x02 ∷ 0x0A ∷ [])
+    ∷ stand 1 (0x02 ∷ 0x0D ∷ []) Less (0x01 ∷ 0x2D ∷ [])
     ∷ stand 1 (0x10 ∷ 0x0C ∷ []) Greater (0x09 ∷ 0x9C ∷ [])
     -- sixteen bytes: 31 digits
     ∷ is_one (fifteen 0x99 (0x9C ∷ [])) 9999999999999999999999999999999 false
     ∷ is_one (fifteen 0x00 (0x0D ∷ [])) 0 true
     ∷ is_none (fifteen 0x99 (0x99 ∷ []))
     ∷ stand 1 (fifteen 0x99 (0x9C ∷ [])) Equal (fifteen 0x99 (0x9E ∷ []))
-    ∷ stand 1 (fifteen 0x99 (0x8C ∷ [])) Smaller (fifteen 0x99 (0x9C ∷ []))
-    ∷ stand 1 (fifteen 0x99 (0x9D ∷ [])) Smaller (fifteen 0x00 (0x0C ∷ []))
+    ∷ stand 1 (fifteen 0x99 (0x8C ∷ [])) Less (fifteen 0x99 (0x9C ∷ []))
+    ∷ stand 1 (fifteen 0x99 (0x9D ∷ [])) Less (fifteen 0x00 (0x0C ∷ []))
     ∷ stand 1 (fifteen 0x00 (0x0D ∷ [])) Equal (fifteen 0x00 (0x0C ∷ []))
     ∷ []

@@ -1,7 +1,6 @@
 -- Positions (R18 to R23): good ones at each border and bad ones of each kind, as positions and as blocks of 8 bytes. The claim is in proofs/Cases.antt. Assumes
 -- nothing: these are definitions.
-use Rattle.std.specs.Prelude.{true, false, List, [], ◌∷◌}
-use Rattle.terms.specs.declared.Parentage.TheVariants.{Absent}
+use Rattle.std.specs.Prelude.{true, false, List, [], ◌∷◌, None}
 use Rattle.terms.specs.declared.Position.{Position}
 use Rattle.terms.specs.declared.Status.TheVariants.{Blank, GB, GE, GP, PX}
 use Rattle.rules.specs.Block.{Bytes}
@@ -22,17 +21,17 @@ bad_block b = lends catalogue table b (gu [] (gives PX ∷ block b ∷ []) ∷ [
 unfoldable pub position_cases : List Case
 position_cases =
     -- R18, with n = 9
-    good_from (position (upon 0) Absent false)
-    ∷ good_from (position (upon 8) Absent false)
-    ∷ bad_from (position (upon 9) Absent false)
-    ∷ bad_from (position (upon 12) Absent false)
-    ∷ good_from (position (gap 0) Absent false)
-    ∷ good_from (position (gap 9) Absent false)
-    ∷ bad_from (position (gap 10) Absent false)
+    good_from (position (upon 0) None false)
+    ∷ good_from (position (upon 8) None false)
+    ∷ bad_from (position (upon 9) None false)
+    ∷ bad_from (position (upon 12) None false)
+    ∷ good_from (position (gap 0) None false)
+    ∷ good_from (position (gap 9) None false)
+    ∷ bad_from (position (gap 10) None false)
     -- in a table of no cells
-    ∷ calls catalogue empty (position (gap 0) Absent false) (gn [] (gives GB ∷ []) ∷ [])
-    ∷ calls catalogue empty (position (upon 0) Absent false) (gn [] (gives PX ∷ []) ∷ [])
-    ∷ calls catalogue empty (position (gap 1) Absent false) (gn [] (gives PX ∷ []) ∷ [])
+    ∷ calls catalogue empty (position (gap 0) None false) (gn [] (gives GB ∷ []) ∷ [])
+    ∷ calls catalogue empty (position (upon 0) None false) (gn [] (gives PX ∷ []) ∷ [])
+    ∷ calls catalogue empty (position (gap 1) None false) (gn [] (gives PX ∷ []) ∷ [])
     -- R20, on a cell: cell 5 lies beneath 3 and 0; 4 is its twin, 1 its parent's twin, 6 and 7 come later
     ∷ good_from (position (upon 5) (parent 5) false)
     ∷ good_from (position (upon 5) (parent 3) false)
@@ -68,12 +67,12 @@ position_cases =
     -- R21: with a parentage or without
     ∷ good_from (position (upon 3) (parent 3) true)
     ∷ good_from (position (upon 3) (parent 0) true)
-    ∷ good_from (position (upon 3) Absent true)
-    ∷ bad_from (position (gap 3) Absent true)
+    ∷ good_from (position (upon 3) None true)
+    ∷ bad_from (position (gap 3) None true)
     ∷ bad_from (position (gap 3) (parent 1) true)
-    ∷ bad_from (position (gap 9) Absent true)
+    ∷ bad_from (position (gap 9) None true)
     -- the block: place kind, cell number, high byte first, parentage, its cell number, hold, zero
-    ∷ block_is (position (gap 0) Absent false) (0 ∷ 0 ∷ 0 ∷ 0 ∷ 0 ∷ 0 ∷ 0 ∷ 0 ∷ [])
+    ∷ block_is (position (gap 0) None false) (0 ∷ 0 ∷ 0 ∷ 0 ∷ 0 ∷ 0 ∷ 0 ∷ 0 ∷ [])
     ∷ block_is (position (upon 300) (parent 258) true) (1 ∷ 1 ∷ 44 ∷ 1 ∷ 1 ∷ 2 ∷ 1 ∷ 0 ∷ [])
     ∷ block_is (position (gap 4096) (parent 255) false) (0 ∷ 16 ∷ 0 ∷ 1 ∷ 0 ∷ 255 ∷ 0 ∷ 0 ∷ [])
     ∷ block_is (position (upon 0) (parent 0) false) (1 ∷ 0 ∷ 0 ∷ 1 ∷ 0 ∷ 0 ∷ 0 ∷ 0 ∷ [])

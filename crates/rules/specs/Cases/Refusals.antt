@@ -1,7 +1,6 @@
 -- The refusals that look at what is asked (R53 to R57), and their order (R61). A case of the order has two of them at once, and the earlier answers.
 -- The claims are in proofs/Cases.antt. Assumes nothing: these are definitions.
-use Rattle.std.specs.Prelude.{true, false, List, [], ◌∷◌, ◌++◌, ℕ, set}
-use Rattle.terms.specs.declared.Parentage.TheVariants.{Absent}
+use Rattle.std.specs.Prelude.{true, false, List, [], ◌∷◌, ◌++◌, ℕ, set, None}
 use Rattle.terms.specs.declared.Position.{Position}
 use Rattle.terms.specs.declared.Status.{Status}
 use Rattle.terms.specs.declared.Status.TheVariants.{Blank, GE, GP, CX, TX, PX, AD, AC, AJ, AK, AH, AB, DJ, II, FX}
@@ -96,7 +95,7 @@ abbrev bad_table : Bytes
 bad_table = set table 5 3
 
 abbrev bad_position : Position
-bad_position = position (upon 9) Absent true
+bad_position = position (upon 9) None true
 
 unfoldable pub order_cases : List Case
 order_cases =
@@ -113,7 +112,7 @@ order_cases =
     ∷ calls catalogue table bad_position (calling 0 [] enough PX)
     ∷ calls catalogue table bad_position (calling 2 (named 9) enough PX)
     ∷ calls catalogue table bad_position (calling 2 [] [] PX)
-    ∷ calls catalogue table (position (gap 9) Absent true) (calling 3 [] enough PX)
+    ∷ calls catalogue table (position (gap 9) None true) (calling 3 [] enough PX)
     -- 23 before list faults, 28
     ∷ calls catalogue table fresh (calling 0 (named 9) enough AD)
     ∷ calls catalogue table fresh (calling 10 (1 ∷ []) enough AD)
@@ -152,8 +151,8 @@ order_cases =
     ∷ calls catalogue table fresh (calling 7 (named 1) (ascii "07") AB)
     ∷ calls catalogue full fresh (calling 7 (named 4) (ascii "z") AB)
     -- 12 before 10 and 11: no parentage, and no cell left
-    ∷ calls catalogue table (position (upon 8) Absent false) (calling 3 [] enough GP)
-    ∷ calls catalogue table (position (gap 9) Absent false) (calling 6 (named 3) enough GP)
+    ∷ calls catalogue table (position (upon 8) None false) (calling 3 [] enough GP)
+    ∷ calls catalogue table (position (gap 9) None false) (calling 6 (named 3) enough GP)
     -- 29 before 30
     ∷ calls catalogue table (on_cell 3) (calling 8 [] (ascii "15T") DJ)
     -- 11 before 32: no parent in a full table; 31 before 32

@@ -1,8 +1,7 @@
 -- The table, rule by rule (R10 to R15): what the check answers of a small table, and what the maker of empty tables answers and writes (R64). The claims are in
 -- proofs/Cases.antt. Assumes nothing: these are definitions.
-use Rattle.std.specs.Prelude.{true, false, List, [], ◌∷◌, ◌++◌, ℕ, set, take, replicate}
+use Rattle.std.specs.Prelude.{true, false, List, [], ◌∷◌, ◌++◌, ℕ, set, take, replicate, None}
 use Prim.Native.String.{String}
-use Rattle.terms.specs.declared.Parentage.TheVariants.{Absent}
 use Rattle.terms.specs.declared.Status.TheVariants.{Blank, GB, CX, TX}
 use Rattle.rules.specs.Block.{Bytes}
 use Rattle.rules.specs.Cases.{Case, Says, table_is, calls, makes, gives, stands, fills, bytes, nothing_told, ascii, upon, gap, parent, position, dots}
@@ -147,7 +146,7 @@ maker_cases =
     -- a table that was there is written over
     ∷ makes catalogue table Blank (ascii "HDT" ++ (0 ∷ 1 ∷ 4 ∷ 0 ∷ 0 ∷ []) ++ replicate 48 0)
     -- what it made is a good_tab table of no cells
-    ∷ calls catalogue (ascii "HDT" ++ (0 ∷ 1 ∷ 4 ∷ 0 ∷ 0 ∷ []) ++ free) (position (gap 0) Absent false) (gn [] (gives GB ∷ []) ∷ [])
+    ∷ calls catalogue (ascii "HDT" ++ (0 ∷ 1 ∷ 4 ∷ 0 ∷ 0 ∷ []) ++ free) (position (gap 0) None false) (gn [] (gives GB ∷ []) ∷ [])
     -- TX: no M fits, and nothing is written
     ∷ makes catalogue [] TX []
     ∷ makes catalogue (lent_slice 7) TX (lent_slice 7)

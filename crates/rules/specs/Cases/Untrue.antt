@@ -1,7 +1,6 @@
 -- Cases that say what is not so, one for each thing that a case can say: the test of a case must tell them from true ones. The claim is in
 -- proofs/Cases.antt. Assumes nothing: these are definitions.
-use Rattle.std.specs.Prelude.{true, false, List, [], ◌∷◌, ◌++◌, set, take}
-use Rattle.terms.specs.declared.Parentage.TheVariants.{Absent}
+use Rattle.std.specs.Prelude.{true, false, List, [], ◌∷◌, ◌++◌, set, take, None}
 use Rattle.terms.specs.declared.Status.TheVariants.{Blank, GA, GB, CX, TX}
 use Rattle.terms.specs.Moves.{fresh}
 use Rattle.rules.specs.Cases.{Case, Says, lists, calls, lends, catalogue_is, table_is, makes, block_is, writes}
@@ -27,7 +26,7 @@ untrue_cases =
     ∷ first (stands (position (gap 0) (parent 0) false))
     ∷ first (stands (position (upon 1) (parent 0) false))
     ∷ first (stands (position (upon 0) (parent 1) false))
-    ∷ first (stands (position (upon 0) Absent false))
+    ∷ first (stands (position (upon 0) None false))
     ∷ first (stands (position (upon 0) (parent 0) true))
     ∷ first (block (0 ∷ 0 ∷ 0 ∷ 1 ∷ 0 ∷ 0 ∷ 0 ∷ 0 ∷ []))
     ∷ first (block (1 ∷ 0 ∷ 0 ∷ 1 ∷ 0 ∷ 0 ∷ 0 ∷ []))
@@ -46,7 +45,7 @@ untrue_cases =
     ∷ calls catalogue table fresh (gn [] (gives Blank ∷ leaves 9 ∷ removes 1 ∷ []) ∷ [])
     ∷ calls catalogue table fresh (gn [] (gives Blank ∷ []) ∷ gn [] (place (upon 0) ∷ []) ∷ [])
     ∷ calls catalogue table (on_cell 5) (gn [] (gives Blank ∷ []) ∷ [])
-    ∷ calls catalogue table (position (upon 8) Absent false) (gn [] (stands (on_cell 8) ∷ []) ∷ [])
+    ∷ calls catalogue table (position (upon 8) None false) (gn [] (stands (on_cell 8) ∷ []) ∷ [])
     ∷ calls catalogue table (position (upon 3) (parent 0) true) (dlet (place (upon 3) ∷ []) ∷ [])
     ∷ lends catalogue table (0 ∷ 0 ∷ 0 ∷ 0 ∷ 0 ∷ 0 ∷ 0 ∷ 0 ∷ []) (gn [] (block (0 ∷ 0 ∷ 0 ∷ 0 ∷ 0 ∷ 0 ∷ 0 ∷ 0 ∷ []) ∷ []) ∷ [])
     -- the other kinds of case

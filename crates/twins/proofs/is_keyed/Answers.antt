@@ -22,9 +22,9 @@ slice_bounds-is_value-end c = omega (
       c.requires,
   c.wide-from.ensures.0 ∙
       c.key_start.ensures,
-  c.wide.ensures.0 ∙ c.key_length.ensures,
+  c.wide-long.ensures.0 ∙ c.key_length.ensures,
 )
 
 pub returns : goal.returns
 returns c = c.is_value.ensures ∙ keyed-value c.requires c.key_value-w.ensures c.if-w-eq0.false
-    (c.wide-from.ensures.0 ∙ c.key_start.ensures) (c.wide.ensures.0 ∙ c.key_length.ensures)
+    (c.wide-from.ensures.0 ∙ c.key_start.ensures) (c.wide-long.ensures.0 ∙ c.key_length.ensures)

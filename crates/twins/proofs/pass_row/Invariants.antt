@@ -1,5 +1,4 @@
 use mathlib.Core.Path.{◌≡◌}
-use Prim.Native.Nat.{◌≤◌, ◌-◌}
 use Rattle.rules.specs.Cells.{arriving}
 use Rattle.rules.specs.Table.{listing}
 use Rattle.twins.specs.Among.{placed}
@@ -7,9 +6,6 @@ use Rattle.twins.proofs.Passing.{onward}
 use Rattle.twins.proofs.pass_row.Given as goal
 
 abbrev pub invariant-loop-at : goal.invariant-loop-at
-invariant-loop-at l = (l.from ≤ l.at) × (l.at ≤ l.to) ×
-    (onward l.cat (listing l.cat l.tab) (arriving l.cat l.t l.area) l.at l.taken ≡ placed l.cat (listing l.cat l.tab) (arriving l.cat l.t l.area)
-    l.from)
-
-abbrev pub decreases-loop-at : goal.decreases-loop-at
-decreases-loop-at l = l.to - l.at
+invariant-loop-at l =
+    onward l.cat (listing l.cat l.tab) (arriving l.cat l.t l.area) l.at l.taken ≡ placed l.cat (listing l.cat l.tab) (arriving l.cat l.t l.area)
+    l.from

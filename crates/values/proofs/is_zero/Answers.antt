@@ -1,12 +1,10 @@
-use mathlib.Core.Path.{◌∙◌}
-use Rattle.values.proofs.Zero.{zero-none, zero-last, zero-front}
+use borrow.Author.Tests.{lt-ltb, le-ltb}
+use Rattle.values.proofs.Zero.{zero_split}
 use Rattle.values.proofs.is_zero.Goals as goal
 
-pub returns-then-b-eq0 : goal.returns-then-b-eq0
-returns-then-b-eq0 c = zero-none c.args.b.now c.if-b-eq0.true
+pub returns-then-last-lt16 : goal.returns-then-last-lt16
+returns-then-last-lt16 c =
+    rw (zero_split _ _ _ c.in-Some.ensures.cases.0, lt-ltb _ 16 c.if-last-lt16.true) c.all_zero.ensures
 
-pub returns-then-b-n-gt15 : goal.returns-then-b-n-gt15
-returns-then-b-n-gt15 c = zero-last c.args.b.now c.if-b-eq0.false c.if-b-n-gt15.true
-
-pub returns : goal.returns
-returns c = c.all_zero.ensures ∙ zero-front c.args.b.now c.if-b-eq0.false c.if-b-n-gt15.false
+pub returns-else-last-lt16 : goal.returns-else-last-lt16
+returns-else-last-lt16 c = rw (zero_split _ _ _ c.in-Some.ensures.cases.0, le-ltb _ 16 c.if-last-lt16.false)

@@ -13,10 +13,10 @@ pub argument_at-a-requires : goal.argument_at-a-requires
 argument_at-a-requires c = walked-room c.args.cat.now c.args.list.now c.loop-at.at c.loop-at-test.true
     c.loop-at.invariant.walk
 
-pub returns-then-is_qualified : goal.returns-then-is_qualified
-returns-then-is_qualified c = telling-other c.args.cat.now c.args.list.now c.args.base c.args.t c.args.e c.loop-at.own c.loop-at.at
+pub returns-then-is_some : goal.returns-then-is_some
+returns-then-is_some c = telling-other c.args.cat.now c.args.list.now c.args.base c.args.t c.args.e c.loop-at.own c.loop-at.at
     c.loop-at.invariant c.loop-at-test.true c.argument_at-a.ensures c.if-a-t.true
-    (sym c.is_qualified.ensures ∙ c.if-is_qualified.true)
+    (sym c.is_some.ensures ∙ c.if-is_some.true)
 
 pub entry_of-own-requires : goal.entry_of-own-requires
 entry_of-own-requires c =
@@ -24,8 +24,8 @@ entry_of-own-requires c =
     (walked-room c.args.cat.now c.args.list.now c.loop-at.at c.loop-at-test.true c.loop-at.invariant.walk)
     c.argument_at-a.ensures
 
-pub loop-at-smaller-else-is_qualified : goal.loop-at-smaller-else-is_qualified
-loop-at-smaller-else-is_qualified c = omega (
+pub loop-at-smaller-else-is_some : goal.loop-at-smaller-else-is_some
+loop-at-smaller-else-is_some c = omega (
   arith,
   walked-onward c.args.cat.now c.args.list.now
       c.loop-at.at
@@ -35,11 +35,11 @@ loop-at-smaller-else-is_qualified c = omega (
       c.argument_at-a.ensures,
 )
 
-pub loop-at-preserved-else-is_qualified : goal.loop-at-preserved-else-is_qualified
-loop-at-preserved-else-is_qualified c =
+pub loop-at-preserved-else-is_some : goal.loop-at-preserved-else-is_some
+loop-at-preserved-else-is_some c =
     telling-passed c.args.cat.now c.args.list.now c.args.base c.args.t c.args.e c.loop-at.own c.loop-at.at
     c.loop-at.invariant c.loop-at-test.true c.argument_at-a.ensures c.if-a-t.true
-    (sym c.is_qualified.ensures ∙ c.if-is_qualified.false)
+    (sym c.is_some.ensures ∙ c.if-is_some.false)
 
 pub loop-at-smaller-then-own-eq1 : goal.loop-at-smaller-then-own-eq1
 loop-at-smaller-then-own-eq1 c =

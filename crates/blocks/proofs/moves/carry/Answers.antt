@@ -1,9 +1,11 @@
-use mathlib.Core.Path.{refl}
-use lib.ListN.{replicate}
-use Rattle.blocks.proofs.Moved.{carried}
+use Rattle.std.proofs.Common.{◌≡◌, ◌+◌, ◌-◌}
+use mathlib.Core.List.{append_assoc}
+use native.Mathlib.Omega.{arith}
+use lib.Seq.{drop-drop}
 use Rattle.blocks.proofs.moves.carry.Goals as goal
 
 pub returns : goal.returns
 returns c =
-    carried c.args.tail.now (replicate 1024 0) c.put_each.new.tail c.put_each-2.new.tail c.args.from c.args.to
-    1024 c.requires.0 c.requires.1 refl c.put_each.ensures c.put_each-2.ensures
+    let f : c.args.from + 1024 - c.args.from ≡ 1024 = omega arith in
+    let t : c.args.to + 1024 - c.args.to ≡ 1024 = omega arith in
+    simp (c.copy_from_slice-2.ensures.after, c.copy_from_slice.ensures.after, f, t, append_assoc, drop-drop)

@@ -1,7 +1,7 @@
 use native.Mathlib.Omega.{arith}
-use mathlib.Core.Path.{ap, ◌∙◌}
-use Prim.Native.Nat.{◌+◌}
-use lib.ListN.{drop}
+use mathlib.Core.Path.{◌≡◌, ap, ◌∙◌}
+use Prim.Native.Nat.{◌+◌, ◌-◌}
+use lib.ListN.{length, drop}
 use lib.Seq.{paste}
 use Rattle.blocks.proofs.Moved.{down-more, down-end}
 use Rattle.blocks.proofs.moves.shift_down.Goals as goal
@@ -17,6 +17,8 @@ loop-i-preserved c = let l = c.loop-i in let a = c.args.tail.now in (
 )
 
 pub returns : goal.returns
-returns c = down-end c.args.gap c.loop-i.i c.args.tail.now
-    c.loop-i.tail c.lower.new.tail (omega arith)
-    (omega arith) c.loop-i.invariant.3 c.lower.ensures
+returns c =
+    let t = c.loop-i.tail in
+    let z : length t - (c.args.gap + c.loop-i.i) ≡ length t - c.args.gap - c.loop-i.i = omega arith in
+    down-end c.args.gap c.loop-i.i c.args.tail.now t c.copy_within.new.self (omega arith) (omega arith) c.loop-i.invariant.3
+    (rw z at c.copy_within.ensures.after)

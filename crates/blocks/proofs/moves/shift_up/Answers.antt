@@ -1,3 +1,4 @@
+use native.Mathlib.Nat.{sub-zero}
 use native.Mathlib.Omega.{arith}
 use mathlib.Core.Path.{ap, ◌∙◌}
 use Prim.Native.Nat.{◌+◌, ◌-◌}
@@ -18,5 +19,5 @@ loop-i-preserved c = let l = c.loop-i in let a = c.args.tail.now in let j = l.i 
 
 pub returns : goal.returns
 returns c = let l = c.loop-i in let a = c.args.tail.now in
-    c.lift.ensures ∙ ap (λ t. paste t c.args.gap t l.i) l.invariant.3 ∙ up-end c.args.gap
+    (simp sub-zero at c.copy_within.ensures.after) ∙ ap (λ t. paste t c.args.gap t l.i) l.invariant.3 ∙ up-end c.args.gap
     (length a - c.args.gap) l.i a (omega arith) (omega arith)

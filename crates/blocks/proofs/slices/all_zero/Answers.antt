@@ -1,21 +1,9 @@
-use mathlib.Core.Path.{◌∙◌}
-use native.Mathlib.Omega.{arith}
-use Rattle.blocks.proofs.Remaining.{most-more, most-same, most-end}
+use Rattle.std.proofs.Common.{◌∙◌}
+use Rattle.blocks.proofs.Remaining.{most-next, most-end}
 use Rattle.blocks.proofs.slices.all_zero.Goals as goal
 
-pub loop-i-preserved-then-most-x : goal.loop-i-preserved-then-most-x
-loop-i-preserved-then-most-x c = (
-  omega arith,
-  most-more _ _ _ c.loop-i-test.true c.if-most-x.true ∙
-      c.loop-i.invariant.1,
-)
-
-pub loop-i-preserved : goal.loop-i-preserved
-loop-i-preserved c = (
-  omega arith,
-  most-same _ _ _ c.loop-i-test.true c.if-most-x.false ∙
-      c.loop-i.invariant.1,
-)
+pub loop-x-preserved : goal.loop-x-preserved
+loop-x-preserved c = rw c.max-most.ensures (most-next _ _ _ c.loop-x-test.true ∙ c.loop-x.invariant)
 
 pub returns : goal.returns
-returns c = most-end c.args.b.now c.loop-i.i c.loop-i.most c.loop-i-test.false ∙ c.loop-i.invariant.1
+returns c = most-end _ _ _ c.loop-x-test.false ∙ c.loop-x.invariant

@@ -1,10 +1,7 @@
-use mathlib.Core.Path.{◌≡◌}
+use Rattle.std.proofs.Common.{◌≡◌, ◌-◌}
 use Rattle.forest.specs.Numbers.{is_in}
 use Rattle.catalogue.proofs.Climbing.{climbed}
 use Rattle.catalogue.proofs.lineage.is_above.Given as goal
 
-abbrev pub invariant-loop-left : goal.invariant-loop-left
-invariant-loop-left l = is_in l.x.0 (climbed l.cat l.left l.u) ≡ is_in l.x.0 (climbed l.cat l.initial.u l.initial.u)
-
-abbrev pub decreases-loop-left : goal.decreases-loop-left
-decreases-loop-left l = l.left
+abbrev pub invariant-loop : goal.invariant-loop
+invariant-loop l = is_in l.x.0 (climbed l.cat (l.end - l.counter) l.u.0) ≡ is_in l.x.0 (climbed l.cat l.fn.t.0 l.fn.t.0)

@@ -4,11 +4,7 @@ use Rattle.terms.specs.declared.TypeCode.{TypeCode}
 use Rattle.rules.proofs.Cells.{listing-length}
 use Rattle.cells.proofs.Start.{inside-less, inside-sized}
 use Rattle.cells.proofs.Ancestry.{sound-listing, own-type, end-run}
-use borrow.Author.Rules.{rules}
 use Rattle.cells.proofs.runs.run_end.Goals as goal
-
-pub code_at-t-requires : goal.code_at-t-requires
-code_at-t-requires c = search rules
 
 pub last_beneath-last-requires : goal.last_beneath-last-requires
 last_beneath-last-requires c = let o = own-type _ _ c.requires.0.catalogue
@@ -16,15 +12,6 @@ last_beneath-last-requires c = let o = own-type _ _ c.requires.0.catalogue
     (omega (arith, c.requires.1, listing-length c.args.cat.now c.args.tab.now)) in let e = ap
     (λ (x : TypeCode). x.0) c.code_at-t.ensures in
     (c.requires.0.catalogue, omega arith, omega arith)
-
-pub overflow_add-next : goal.overflow_add-next
-overflow_add-next c = search rules
-
-pub count-requires : goal.count-requires
-count-requires c = search rules
-
-pub overflow_sub-count : goal.overflow_sub-count
-overflow_sub-count c = search rules
 
 pub end_from-requires : goal.end_from-requires
 end_from-requires c = inside-less (inside-sized c.requires.0.sized) _

@@ -18,23 +18,23 @@ along-requires c = (
       c.requires.2,
 )
 
-pub returns-in_default : goal.returns-in_default
-returns-in_default c = parented-none c.args.cat.now (listing c.args.cat.now c.args.tab.now) c.args.pos c.args.t _ c.if-t-eq1.false
+pub returns-in_err-p : goal.returns-in_err-p
+returns-in_err-p c = rw c.from_residual.ensures (parented-none c.args.cat.now (listing c.args.cat.now c.args.tab.now) c.args.pos c.args.t _ c.if-t-eq1.false
     (parent-levels c.requires.0 c.requires.1 c.requires.2 c.parent.ensures
-    (sym c.in_default.is ∙ along-alone _ _ _ _ _ c.along.ensures))
+    (sym c.in_err-p.was ∙ along-alone _ _ _ _ _ c.along.ensures)))
 
 pub run_end-end-requires : goal.run_end-end-requires
 run_end-end-requires c = (
   c.requires.0.sound,
   parent_in c.requires.0 c.requires.1 c.requires.2 c.parent.ensures c.if-t-eq1.false
-      (sym c.in-At.is ∙ along-alone _ _ _ _ _ c.along.ensures),
+      (sym c.in_ok-p.was ∙ along-alone _ _ _ _ _ c.along.ensures),
 )
 
 pub is_one_of_row-beneath-requires : goal.is_one_of_row-beneath-requires
 is_one_of_row-beneath-requires c = (
   c.requires.0.sound,
   parent_in c.requires.0 c.requires.1 c.requires.2 c.parent.ensures c.if-t-eq1.false
-      (sym c.in-At.is ∙ along-alone _ _ _ _ _ c.along.ensures),
+      (sym c.in_ok-p.was ∙ along-alone _ _ _ _ _ c.along.ensures),
 )
 
 pub overflow_add-result : goal.overflow_add-result
@@ -43,7 +43,7 @@ overflow_add-result c = omega (
   parent_in c.requires.0
       c.requires.1 c.requires.2 c.parent.ensures
       c.if-t-eq1.false
-      (sym c.in-At.is ∙ along-alone _ _ _ _ _
+      (sym c.in_ok-p.was ∙ along-alone _ _ _ _ _
       c.along.ensures),
   c.requires.0.sound.sized.few,
 )
@@ -52,5 +52,5 @@ pub returns : goal.returns
 returns c =
     parented-child c.args.cat.now (listing c.args.cat.now c.args.tab.now) c.args.pos c.args.t _
     c.if-t-eq1.false _ _ _ (parent-levels c.requires.0 c.requires.1 c.requires.2 c.parent.ensures
-    (sym c.in-At.is ∙ along-alone _ _ _ _ _ c.along.ensures)) c.run_end-end.ensures
+    (sym c.in_ok-p.was ∙ along-alone _ _ _ _ _ c.along.ensures)) c.run_end-end.ensures
     c.is_one_of_row-beneath.ensures

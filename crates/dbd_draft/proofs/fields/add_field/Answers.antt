@@ -29,11 +29,6 @@ overflow_add-draft c = omega arith
 pub returns : goal.returns
 unfolding types fields
 returns c =
-    field-kept c.args.draft.now c.args.levels.now
-    c.requires.0 c.args.name.now c.args.long c.args.start (omega arith)
-    c.requires.1 c.wide.result
-    c.wide-2.result
-    c.write.new.block
-    c.write-2.new.block c.wide.ensures.0 c.wide-2.ensures.0
-    c.write.ensures
-    c.write-2.ensures _ refl
+    let k = field-kept _ _ c.requires.sound c.args.name.now c.args.long c.args.start (omega arith) c.requires.room _ _ _ c.write-2.new.block
+    c.wide.ensures.0 c.wide-2.ensures.0 c.write.ensures c.write-2.ensures _ refl in
+    record { sound = k.0; added = k.1 }

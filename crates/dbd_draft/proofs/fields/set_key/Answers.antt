@@ -9,5 +9,6 @@ write-requires c = omega arith
 
 pub returns : goal.returns
 unfolding types
-returns c = key-kept c.args.draft.now c.args.levels.now c.requires.0 c.requires.1 c.args.kind c.args.start c.args.long
-    c.wide.result _ c.wide.ensures.0 c.write.ensures
+returns c =
+    let k = key-kept _ _ c.requires.sound c.requires.typed c.args.kind c.args.start c.args.long _ _ c.wide.ensures.0 c.write.ensures in
+    record { sound = k.0; keyed = k.1 }

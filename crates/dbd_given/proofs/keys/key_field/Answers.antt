@@ -1,49 +1,29 @@
-use mathlib.Core.Path.{◌≡◌, sym, ◌∙◌}
-use Prim.Native.Nat.{◌+◌, ◌-◌}
+use mathlib.Core.Path.{sym, ◌∙◌}
+use mathlib.Core.Bool.{◌&&◌}
+use lib.Dec.{eqb}
 use native.Mathlib.Omega.{arith}
-use Rattle.statements.specs.Dbd.{is_key_of}
-use Rattle.dbd_given.proofs.Rest.{first-here, first_next, first-other, first-none}
-use Rattle.dbd_given.proofs.Fields.{of_type, type-own, type-other, key_of}
+use borrow.Author.Tests.{tests}
+use Rattle.std.proofs.Common.{rules}
+use Rattle.std.specs.Iterator.Adapters.{map_source}
+use Rattle.std.proofs.lemmas.Iterator.{YieldsList, YieldsList-from_map}
+use Rattle.std.proofs.lemmas.Iterator.Adapters.{option_map_id}
+use Rattle.std.proofs.lemmas.Iterator.Search.{find_from_yields_List}
+use Rattle.forest.specs.Numbers.{range}
+use Rattle.terms.specs.Names.{field}
+use Rattle.rules.specs.Catalogue.{fields, field_type}
+use Rattle.statements.specs.Dbd.{is_key_of, key_field, own_fields}
+use Rattle.blocks.proofs.Given.{upwards, YieldsList-from_range_inclusive}
+use Rattle.dbd_given.proofs.Fields.{find-numbered}
 use Rattle.dbd_given.proofs.keys.key_field.Goals as goal
 
-pub loop-f-init : goal.loop-f-init
-loop-f-init c = (
-  omega arith,
-  (let z : c.fields-last.result - 0 ≡ c.fields-last.result = omega arith in rw z
-      (key_of c.args.cat.now c.args.t.0 c.fields-last.result c.fields-last.ensures)),
-)
-
-pub returns-then-is_key_of : goal.returns-then-is_key_of
-returns-then-is_key_of c = first-here (of_type c.args.cat.now c.args.t.0) (is_key_of c.args.cat.now c.args.t.0) c.loop-f.f
-    c.fields-last.result c.loop-f-test.true (type-own c.args.cat.now c.args.t.0 (c.loop-f.f + 1) c.field_type-u.result
-    c.field_type-u.ensures c.if-u-t.true) (sym c.is_key_of.ensures ∙ c.if-is_key_of.true) ∙ c.loop-f.invariant.1
-
-pub loop-f-preserved-else-is_key_of : goal.loop-f-preserved-else-is_key_of
-loop-f-preserved-else-is_key_of c = (
-  omega arith,
-  first_next (of_type c.args.cat.now c.args.t.0) (is_key_of c.args.cat.now c.args.t.0)
-      c.loop-f.f
-      c.fields-last.result
-      c.loop-f-test.true
-      (type-own c.args.cat.now c.args.t.0 (c.loop-f.f + 1)
-      c.field_type-u.result
-      c.field_type-u.ensures c.if-u-t.true)
-      (sym c.is_key_of.ensures ∙ c.if-is_key_of.false) ∙
-      c.loop-f.invariant.1,
-)
-
-pub loop-f-preserved : goal.loop-f-preserved
-loop-f-preserved c = (
-  omega arith,
-  first-other (of_type c.args.cat.now c.args.t.0) (is_key_of c.args.cat.now c.args.t.0)
-      c.loop-f.f
-      c.fields-last.result
-      c.loop-f-test.true
-      (type-other c.args.cat.now c.args.t.0 (c.loop-f.f + 1)
-      c.field_type-u.result c.field_type-u.ensures c.if-u-t.false) ∙
-      c.loop-f.invariant.1,
-)
-
 pub returns : goal.returns
-returns c = first-none (of_type c.args.cat.now c.args.t.0) (is_key_of c.args.cat.now c.args.t.0) c.loop-f.f
-    c.fields-last.result c.loop-f-test.false ∙ c.loop-f.invariant.1
+unfolding key_field own_fields
+returns c =
+    let n = fields c.args.cat.now in
+    let numbers : YieldsList upwards (λ x. x) (map_source c.map.result) (range 1 n) =
+    rw c.map.ensures.source (YieldsList-from_range_inclusive c.new.result 1 n n
+    c.new.ensures.start (c.new.ensures.end ∙ c.fields.ensures) c.new.ensures.exhausted (omega arith)) in
+    sym (option_map_id c.find.result)
+    ∙ find_from_yields_List (λ f. eqb (field_type c.args.cat.now (field f.0)).0 c.args.t.0 && is_key_of c.args.cat.now c.args.t.0 f.0) _ _ c.find.result
+    c.find.ensures.ran (YieldsList-from_map _ field numbers c.map.ensures.closure (λ x r q k. search rules)) (λ x b q k. search (rules, tests))
+    ∙ find-numbered (λ f. eqb (field_type c.args.cat.now (field f)).0 c.args.t.0) (is_key_of c.args.cat.now c.args.t.0) 0 n

@@ -1,21 +1,8 @@
-use mathlib.Core.Path.{◌∙◌}
-use native.Mathlib.Omega.{arith}
-use Rattle.blocks.proofs.Negated.{told-no, told-yes}
+use borrow.Author.Tests.{tests}
+use Rattle.std.proofs.Common.{rules}
 use Rattle.statements.specs.Words.{in_word}
-use Rattle.dbd_given.proofs.Rest.{bytes_next, bytes-stop, bytes-end}
+use Rattle.blocks.proofs.Tested.{all-slice}
 use Rattle.dbd_given.proofs.names.is_word.Goals as goal
 
-pub returns-then-not-in_word : goal.returns-then-not-in_word
-returns-then-not-in_word c = bytes-stop in_word c.args.word.now c.loop-i.i c.loop-i-test.true
-    (told-no c.in_word.ensures c.if-not-in_word.true) ∙ c.loop-i.invariant.1
-
-pub loop-i-preserved : goal.loop-i-preserved
-loop-i-preserved c = (
-  omega arith,
-  bytes_next in_word c.args.word.now c.loop-i.i
-      c.loop-i-test.true (told-yes c.in_word.ensures c.if-not-in_word.false) ∙
-      c.loop-i.invariant.1,
-)
-
 pub returns : goal.returns
-returns c = bytes-end in_word c.args.word.now c.loop-i.i c.loop-i-test.false ∙ c.loop-i.invariant.1
+returns c = all-slice in_word c.iter.ensures.rest c.all.ensures.ran (λ x b q k. search (rules, tests))

@@ -1,14 +1,14 @@
-use mathlib.Core.Path.{◌∙◌}
 use Rattle.statements.specs.Text.{bytes_of}
-use Rattle.statements.specs.Statement.{word_dbd, word_name, dbd_of}
-use Rattle.dbd_line.proofs.Told.{dbd-form, dbd-right}
+use Rattle.statements.specs.Statement.{word_dbd, word_name, dbd_form}
+use Rattle.dbd_words.proofs.Behind.{reached-held}
+use Rattle.dbd_line.proofs.Row.{unformed}
+use Rattle.dbd_line.proofs.Told.{dbd-told}
 use Rattle.dbd_line.proofs.forms.dbd.Goals as goal
 
-pub returns-then-not-ends : goal.returns-then-not-ends
-unfolding word_dbd word_name bytes_of
-returns-then-not-ends c = dbd-form c.keyword-first.ensures c.assigned-at.ensures c.held-name.ensures c.ends.ensures ∙ c.if-not-ends.true
+pub returns-in_err-name : goal.returns-in_err-name
+unfolding word_dbd word_name bytes_of dbd_form
+returns-in_err-name c = rw c.from_residual.ensures (unformed _ (reached-held c.in_err-name.ensures))
 
 pub returns : goal.returns
-unfolding word_dbd word_name bytes_of dbd_of
-returns c = dbd-right c.keyword-first.ensures c.assigned-at.ensures c.held-name.ensures c.ends.ensures
-    c.if-not-ends.false
+unfolding word_dbd word_name bytes_of dbd_form
+returns c = rw c.then_some.ensures (dbd-told c.in_ok-name.ensures _ c.ends.ensures)

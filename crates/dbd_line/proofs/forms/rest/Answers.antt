@@ -1,28 +1,31 @@
+use mathlib.Core.Path.{refl}
 use Rattle.statements.specs.Text.{bytes_of}
-use Rattle.statements.specs.Statement.{word_bytes, word_start, word_type}
-use Rattle.dbd_line.proofs.Told.{is-number, span-bytes, span-start, span-wrong, span_right}
+use Rattle.statements.specs.Statement.{word_bytes, word_start, word_type, span_form}
+use Rattle.dbd_words.proofs.Behind.{reached-held, held-after}
+use Rattle.dbd_line.proofs.Told.{is_number_held, span-none, span-told}
 use Rattle.dbd_line.proofs.forms.rest.Goals as goal
 
-pub returns-then-not-ends : goal.returns-then-not-ends
-unfolding word_bytes word_start word_type bytes_of
-returns-then-not-ends c = span-wrong c.operand-at.ensures c.held-long.ensures c.operand-at-2.ensures c.held-start.ensures c.operand-at-3.ensures
-    c.held-letter.ensures c.ends.ensures 0 0 c.if-not-ends.true
+pub returns-in_err-bytes : goal.returns-in_err-bytes
+unfolding word_bytes word_start word_type bytes_of span_form
+returns-in_err-bytes c = rw c.from_residual.ensures (span-none _ (reached-held c.in_err-bytes.ensures) refl)
 
-pub number-requires : goal.number-requires
-unfolding word_bytes word_start word_type bytes_of
-number-requires c =
-    is-number (span-bytes c.operand-at.ensures c.held-long.ensures c.operand-at-2.ensures c.held-start.ensures
-    c.operand-at-3.ensures c.held-letter.ensures c.ends.ensures c.if-not-ends.false)
+pub returns-in_err-first : goal.returns-in_err-first
+unfolding word_bytes word_start word_type bytes_of span_form
+returns-in_err-first c = rw c.from_residual-in_err-first.ensures (span-none _ (reached-held (held-after c.in_ok-bytes.ensures
+    c.in_err-first.ensures)) refl)
 
-pub number-requires-2 : goal.number-requires-2
-unfolding word_bytes word_start word_type bytes_of
-number-requires-2 c =
-    is-number (span-start c.operand-at.ensures c.held-long.ensures c.operand-at-2.ensures c.held-start.ensures
-    c.operand-at-3.ensures c.held-letter.ensures c.ends.ensures c.if-not-ends.false)
+pub returns-in_err-letter : goal.returns-in_err-letter
+unfolding word_bytes word_start word_type bytes_of span_form
+returns-in_err-letter c = rw c.from_residual-in_err-letter.ensures (span-none _ (reached-held (held-after (held-after c.in_ok-bytes.ensures
+    c.in_ok-first.ensures) c.in_err-letter.ensures)) refl)
+
+pub number-long-requires : goal.number-long-requires
+number-long-requires c = is_number_held c.in_ok-bytes.ensures
+
+pub number-start-requires : goal.number-start-requires
+number-start-requires c = is_number_held c.in_ok-first.ensures
 
 pub returns : goal.returns
-unfolding word_bytes word_start word_type bytes_of
-returns c =
-    let ·held = c.held-long
-    in span_right c.operand-at.ensures ·held.ensures c.operand-at-2.ensures c.held-start.ensures c.operand-at-3.ensures
-    c.held-letter.ensures c.ends.ensures _ _ c.if-not-ends.false c.number.ensures c.number-2.ensures
+unfolding word_bytes word_start word_type bytes_of span_form
+returns c = rw c.then_some.ensures (span-told c.in_ok-bytes.ensures c.in_ok-first.ensures c.in_ok-letter.ensures _ _ c.number-long.ensures
+    c.number-start.ensures _ c.ends.ensures)

@@ -1,24 +1,28 @@
-use mathlib.Core.Path.{◌∙◌}
 use Rattle.statements.specs.Text.{bytes_of}
-use Rattle.statements.specs.Statement.{word_segm, word_name, word_parent, word_bytes, segm_of}
-use Rattle.dbd_line.proofs.Told.{is-number, segm-form, segm-bytes, segm-right}
+use Rattle.statements.specs.Statement.{word_segm, word_name, word_parent, word_bytes, segm_form}
+use Rattle.dbd_words.proofs.Behind.{reached-held, held-after}
+use Rattle.dbd_line.proofs.Row.{unformed}
+use Rattle.dbd_line.proofs.Told.{is_number_held, segm-told}
 use Rattle.dbd_line.proofs.forms.segm.Goals as goal
 
-pub returns-then-not-ends : goal.returns-then-not-ends
-unfolding word_segm word_name word_parent word_bytes bytes_of
-returns-then-not-ends c =
-    segm-form c.keyword-first.ensures c.assigned-at.ensures c.held-name.ensures c.operand-at.ensures c.held-parent.ensures
-    c.operand-at-2.ensures c.held-long.ensures c.ends.ensures ∙ c.if-not-ends.true
+pub returns-in_err-name : goal.returns-in_err-name
+unfolding word_segm word_name word_parent word_bytes bytes_of segm_form
+returns-in_err-name c = rw c.from_residual.ensures (unformed _ (reached-held c.in_err-name.ensures))
 
-pub number-requires : goal.number-requires
-unfolding word_segm word_name word_parent word_bytes bytes_of
-number-requires c =
-    is-number (segm-bytes c.keyword-first.ensures c.assigned-at.ensures c.held-name.ensures c.operand-at.ensures
-    c.held-parent.ensures c.operand-at-2.ensures c.held-long.ensures c.ends.ensures c.if-not-ends.false)
+pub returns-in_err-parent : goal.returns-in_err-parent
+unfolding word_segm word_name word_parent word_bytes bytes_of segm_form
+returns-in_err-parent c = rw c.from_residual-in_err-parent.ensures (unformed _ (reached-held (held-after c.in_ok-name.ensures
+    c.in_err-parent.ensures)))
+
+pub returns-in_err-long : goal.returns-in_err-long
+unfolding word_segm word_name word_parent word_bytes bytes_of segm_form
+returns-in_err-long c = rw c.from_residual-in_err-long.ensures (unformed _ (reached-held (held-after (held-after c.in_ok-name.ensures
+    c.in_ok-parent.ensures) c.in_err-long.ensures)))
+
+pub number-bytes-requires : goal.number-bytes-requires
+number-bytes-requires c = is_number_held c.in_ok-long.ensures
 
 pub returns : goal.returns
-unfolding word_segm word_name word_parent word_bytes bytes_of segm_of
-returns c =
-    let ·assigned = c.assigned-at
-    in segm-right c.keyword-first.ensures ·assigned.ensures c.held-name.ensures c.operand-at.ensures c.held-parent.ensures
-    c.operand-at-2.ensures c.held-long.ensures c.ends.ensures _ c.if-not-ends.false c.number.ensures
+unfolding word_segm word_name word_parent word_bytes bytes_of segm_form
+returns c = rw c.then_some.ensures (segm-told c.in_ok-name.ensures c.in_ok-parent.ensures c.in_ok-long.ensures _ c.number-bytes.ensures _
+    c.ends.ensures)

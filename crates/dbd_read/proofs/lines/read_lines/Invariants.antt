@@ -1,12 +1,6 @@
-use Prim.Native.Nat.{◌+◌, ◌-◌, ◌≤◌}
-use lib.ListN.{length}
-use Rattle.dbd_draft.specs.Kept.{Sound}
-use Rattle.dbd_read.proofs.LinesRead.{Rest}
+use Rattle.std.specs.Slice.Iter.{split_inclusive_rest}
+use Rattle.dbd_read.proofs.LinesRead.{Before}
 use Rattle.dbd_read.proofs.lines.read_lines.Given as goal
 
-abbrev pub invariant-loop-at : goal.invariant-loop-at
-invariant-loop-at l = (l.at ≤ length l.text) × (l.line ≤ l.at + 1) × Sound l.draft
-    l.levels × Rest l.text l.at l.line l.draft
-
-abbrev pub decreases-loop-at : goal.decreases-loop-at
-decreases-loop-at l = length l.text - l.at
+abbrev pub invariant-loop-part : goal.invariant-loop-part
+invariant-loop-part l = Before l.text (split_inclusive_rest l.part-iterator) l.draft l.levels l.line

@@ -5,5 +5,5 @@ pub returns : goal.returns
 returns c =
     let ·args = c.args
     in
-    catalogue-put ·args.draft.now ·args.top ·args.last c.requires.0 ·args.cat.now c.write.new.block
-    c.write-2.new.block c.requires.1 c.write.ensures c.write-2.ensures
+    catalogue-put ·args.draft.now ·args.top ·args.last c.requires.counted ·args.cat.now c.write.new.block
+    c.write-2.new.block c.requires.room c.write.ensures c.write-2.ensures

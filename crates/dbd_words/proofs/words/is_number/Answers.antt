@@ -1,20 +1,16 @@
-use mathlib.Core.Path.{sym, ◌∙◌}
-use native.Mathlib.Omega.{arith}
-use Rattle.blocks.proofs.Negated.{told-no, told-yes}
-use Rattle.dbd_words.proofs.Digits.{digits-next, digits-stop, digits-end, number-not, number_is}
+use Rattle.std.proofs.Common.{arith, rules, ◌∙◌}
+use borrow.Author.Tests.{tests}
+use Rattle.statements.specs.Words.{is_digit}
+use Rattle.std.proofs.lemmas.Grind.{common_steps}
+use Rattle.std.proofs.lemmas.Iterator.{YieldsList-from_slice}
+use Rattle.std.proofs.lemmas.Iterator.Search.{all_from_yields_List}
+use Rattle.dbd_words.proofs.Digits.{number_none, number_all}
 use Rattle.dbd_words.proofs.words.is_number.Goals as goal
 
-pub returns-then-not-is_digit : goal.returns-then-not-is_digit
-returns-then-not-is_digit c = number-not _ (sym c.loop-i.invariant.1 ∙ digits-stop _ _ c.loop-i-test.true
-    (told-no c.is_digit.ensures c.if-not-is_digit.true))
+pub returns-then-not-is_empty : goal.returns-then-not-is_empty
+returns-then-not-is_empty c =
+    all_from_yields_List is_digit _ _ _ c.all.ensures.ran (YieldsList-from_slice c.args.word.now cc) (λ x b q k. search (rules, tests))
+    ∙ number_all c.args.word.now (grind arith)
 
-pub loop-i-preserved : goal.loop-i-preserved
-loop-i-preserved c = (
-  omega arith,
-  digits-next _ _ c.loop-i-test.true
-      (told-yes c.is_digit.ensures c.if-not-is_digit.false) ∙ c.loop-i.invariant.1,
-)
-
-pub returns : goal.returns
-returns c = number_is c.args.word.now c.loop-i.i (omega arith)
-    (sym c.loop-i.invariant.1 ∙ digits-end _ _ c.loop-i-test.false)
+pub returns-else-not-is_empty : goal.returns-else-not-is_empty
+returns-else-not-is_empty c = grind (arith, common_steps, number_none)

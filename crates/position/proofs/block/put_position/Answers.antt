@@ -1,6 +1,12 @@
+use Rattle.std.proofs.Common.{rules, ◌≡◌}
+use Rattle.terms.specs.Choice.{pick}
+use Rattle.position.specs.Block.{parentage_kind, parentage_number}
 use Rattle.position.proofs.Parts.{position-put}
 use Rattle.position.proofs.block.put_position.Goals as goal
 
 pub returns : goal.returns
-returns c = position-put c.args.block.now c.args.p _ _ _ _ _ c.requires c.cell-c.ensures c.parentage_number-j.ensures
-    c.place_kind.ensures c.parentage_kind.ensures c.hold_byte.ensures
+returns c =
+    let j : c.map_or-j.result ≡ parentage_number c.args.p.parentage = search rules in
+    let m : c.from.result ≡ parentage_kind c.args.p.parentage = search rules in
+    let h : c.from-2.result ≡ pick c.args.p.hold 1 0 = search rules in
+    position-put c.args.block.now c.args.p _ _ _ _ _ c.requires c.cell-i.ensures j c.place_kind.ensures m h

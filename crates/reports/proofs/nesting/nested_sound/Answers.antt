@@ -41,13 +41,15 @@ read_under-w-requires c =
 
 pub loop-area-smaller : goal.loop-area-smaller
 loop-area-smaller c = let m = next_one c.requires.first
-    c.loop-area.invariant.1 c.read_next-a.result _ c.number.result c.number.ensures (next-alone _ _ _ _ _ _ c.read_next-a.ensures) c.if-number-ge10.false _ c.cell-p.ensures in rw c.under-at.ensures
+    c.loop-area.invariant.1 c.read_next-a.result _ c.number.result c.number.ensures
+    (next-alone _ _ _ _ _ _ c.read_next-a.ensures) c.if-number-ge10.false _ c.cell-p.ensures in rw c.under-at.ensures
     (omega (arith, m.turn.later, m.turn.inside, c.read_under-w.ensures.later))
 
 pub loop-area-preserved : goal.loop-area-preserved
 loop-area-preserved c =
     let m = next_one c.requires.first
-    c.loop-area.invariant.1 c.read_next-a.result _ c.number.result c.number.ensures (next-alone _ _ _ _ _ _ c.read_next-a.ensures) c.if-number-ge10.false _ c.cell-p.ensures in rw c.under-at.ensures (
+    c.loop-area.invariant.1 c.read_next-a.result _ c.number.result c.number.ensures
+    (next-alone _ _ _ _ _ _ c.read_next-a.ensures) c.if-number-ge10.false _ c.cell-p.ensures in rw c.under-at.ensures (
       outer-next c.requires
           c.loop-area.invariant.0 m.turn _ _ c.read_under-w.ensures,
       stands-under

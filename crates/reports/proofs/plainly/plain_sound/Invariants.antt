@@ -1,6 +1,5 @@
 use mathlib.Core.Path.{◌≡◌}
 use mathlib.Core.List.{◌++◌}
-use Prim.Native.Nat.{◌-◌}
 use Rattle.rules.specs.Table.{listing}
 use Rattle.search.specs.Stretch.{levels, stretch_before}
 use Rattle.reports.proofs.Tested.{Passed}
@@ -9,6 +8,3 @@ use Rattle.reports.proofs.plainly.plain_sound.Given as goal
 abbrev pub invariant-loop-i : goal.invariant-loop-i
 invariant-loop-i l = Passed l.cat l.tab (l.one ++ l.two)
     l.initial.out l.hits l.i l.out × (l.long ≡ stretch_before l.cat (listing l.cat l.tab) (levels l.cat (l.one ++ l.two) l.t) l.i)
-
-abbrev pub decreases-loop-i : goal.decreases-loop-i
-decreases-loop-i l = l.n - l.i

@@ -20,8 +20,8 @@ pub data_part-field-requires : goal.data_part-field-requires
 data_part-field-requires c =
     field-data c.requires c.entry_of-entry.ensures.0 c.wide-start.ensures.0 c.wide-long.ensures.0
 
-pub slice_bounds-value-end : goal.slice_bounds-value-end
-slice_bounds-value-end c = omega (
+pub slice_bounds-order_of-end : goal.slice_bounds-order_of-end
+slice_bounds-order_of-end c = omega (
   arith,
   value_in
       c.requires c.entry_of-entry.ensures.0

@@ -41,7 +41,7 @@ pub returns : goal.returns
 returns c = first-none _ _ _ _ _ (omega (
   arith,
   c.loop-i-test.false,
-  c.count-top.ensures.0,
+  c.count-i-end.ensures.0,
   end-in
       c.requires.0.good c.args.p.0
       c.requires.2.cell,

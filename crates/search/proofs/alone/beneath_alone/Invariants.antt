@@ -1,6 +1,6 @@
 use mathlib.Core.Path.{◌≡◌}
 use mathlib.Core.List.{◌++◌}
-use Prim.Native.Nat.{◌-◌, ◌<◌, ◌≤◌}
+use Prim.Native.Nat.{◌<◌, ◌≤◌}
 use Rattle.rules.specs.Cells.{end_at}
 use Rattle.rules.specs.Matching.{first_match}
 use Rattle.rules.specs.Table.{listing}
@@ -11,6 +11,3 @@ abbrev pub invariant-loop-i : goal.invariant-loop-i
 invariant-loop-i l = (l.p.0 < l.i) × (l.i ≤ end_at l.cat (listing l.cat l.tab) l.p.0) ×
     (first_match l.cat (listing l.cat l.tab) (levels l.cat (l.one ++ l.two) l.t) l.i (end_at l.cat (listing l.cat l.tab) l.p.0) ≡ first_match
     l.cat (listing l.cat l.tab) (levels l.cat (l.one ++ l.two) l.t) l.from (end_at l.cat (listing l.cat l.tab) l.p.0))
-
-abbrev pub decreases-loop-i : goal.decreases-loop-i
-decreases-loop-i l = l.top - l.i

@@ -18,7 +18,7 @@ forward_alone-requires c = (
     pair =
         c.requires.pair;
   },
-  lone-own c.requires.good (omega arith) _ _ c.alone.ensures c.in-Own.is,
+  lone-own c.requires.good (omega arith) _ _ c.alone.ensures c.in-Some.is,
   omega arith,
   omega
       (arith, c.count-n.ensures.0),

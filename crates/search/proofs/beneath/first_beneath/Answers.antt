@@ -5,7 +5,7 @@ use Rattle.search.proofs.Heeded.{filled-told}
 use Rattle.search.proofs.beneath.first_beneath.Goals as goal
 
 pub beneath_alone-requires : goal.beneath_alone-requires
-beneath_alone-requires c = (c.requires.0, lone-own c.requires.0.good c.requires.1.some _ _ c.alone.ensures c.in-Own.is, c.requires.1)
+beneath_alone-requires c = (c.requires.0, lone-own c.requires.0.good c.requires.1.some _ _ c.alone.ensures c.in-Some.is, c.requires.1)
 
 pub path_to-before-requires : goal.path_to-before-requires
 path_to-before-requires c = (

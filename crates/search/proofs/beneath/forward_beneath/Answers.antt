@@ -5,7 +5,7 @@ use mathlib.Core.Path.{◌∙◌}
 use Rattle.search.proofs.Branches.{carried-cell, before-next, turn-found, turn-next, first-none, end-in}
 use Rattle.search.proofs.Within.{in-run, past-run}
 use Rattle.search.proofs.beneath.forward_beneath.Goals as goal
-use Rattle.search.proofs.beneath.forward_beneath.Goals.{then-l-last+else-long-last, else-l-last}
+use Rattle.search.proofs.beneath.forward_beneath.Goals.{else-l-last-via-then-l-last+else-long-last, else-l-last-via-else-l-last}
 
 pub levels-requires : goal.levels-requires
 levels-requires c = (c.requires.0.good.catalogue, levels-none c.args.cat.now)
@@ -28,7 +28,7 @@ stretched-long-requires c = (
   omega (
     arith,
     c.loop-i-test.true,
-    c.count-top.ensures.0,
+    c.count-i-end.ensures.0,
   ),
   c.level_at-l.ensures,
   carried-cell
@@ -37,7 +37,7 @@ stretched-long-requires c = (
       (omega (
         arith,
         c.loop-i-test.true,
-        c.count-top.ensures.0,
+        c.count-i-end.ensures.0,
       ))
       c.loop-i.invariant.2,
 )
@@ -75,7 +75,10 @@ loop-i-preserved c = (
       c.requires.1.cell) c.requires.1.some
       c.level_at-l.ensures c.stretched-long.ensures
       c.level_by-last.ensures
-      (λ a b. elim c.if-l-last.branch [ then-l-last+else-long-last w ↦ w.if-long-last.false b | else-l-last w ↦ w.if-l-last.false a ]) ∙
+      (λ a b. elim c.else-l-last.branch [
+        | else-l-last-via-then-l-last+else-long-last w ↦ w.if-long-last.false b
+        | else-l-last-via-else-l-last w ↦ w.if-l-last.false a
+      ]) ∙
       c.loop-i.invariant.3,
 )
 
@@ -84,7 +87,7 @@ returns c =
     first-none _ _ _ _ _ (omega (
       arith,
       c.loop-i-test.false,
-      c.count-top.ensures.0,
+      c.count-i-end.ensures.0,
       end-in
           c.requires.0.good
           c.args.p.0 c.requires.1.cell,

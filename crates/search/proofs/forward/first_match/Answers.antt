@@ -4,6 +4,7 @@ use Rattle.search.proofs.Branches.{first-none, all-match, before-cell, before-ma
 use Rattle.search.proofs.Plain.{lone-own}
 use Rattle.search.proofs.Heeded.{filled-told}
 use Rattle.search.proofs.forward.first_match.Goals as goal
+use Rattle.search.proofs.forward.first_match.Goals.{then-from-eq0, else-from-eq0+then-again, else-from-eq0+else-again}
 
 pub returns-then-to-from : goal.returns-then-to-from
 returns-then-to-from c = first-none _ _ _ _ _ c.if-to-from.true
@@ -15,31 +16,22 @@ pub forward_alone-requires : goal.forward_alone-requires
 forward_alone-requires c = (
   c.requires.0,
   lone-own
-      c.requires.0.good (omega arith) _ _ c.alone.ensures c.in-Own.is,
+      c.requires.0.good (omega arith) _ _ c.alone.ensures c.in-Some.is,
   omega arith,
   c.requires.1,
 )
 
-pub forward-requires-then-again : goal.forward-requires-then-again
-forward-requires-then-again c = (
+pub forward-requires : goal.forward-requires
+forward-requires c = (
   filled-told c.requires.0 c.ask.ensures,
   omega arith,
   c.requires.1,
-  before-matched c.requires.0.good c.args.from _
-      (omega (
-        arith,
-        c.requires.1,
-        c.if-to-from.false,
-      ))
-      (omega arith) c.if-from-eq0.false
-      (c.requires.2 c.if-again.true) refl,
-)
-
-pub forward-requires-2 : goal.forward-requires-2
-forward-requires-2 c = (
-  filled-told c.requires.0 c.ask.ensures,
-  omega arith,
-  c.requires.1,
-  before-cell c.requires.0.good c.args.from c.path_to-before.result
-      c.if-from-eq0.false c.path_to-before.ensures,
+  elim c.if-from-eq0.branch [
+    | then-from-eq0 w ↦ rw (w.k-is, w.if-from-eq0.true)
+    | else-from-eq0+then-again w ↦
+        rw w.k-is (before-matched c.requires.0.good c.args.from _ (omega (arith, c.requires.1, c.if-to-from.false)) (omega arith)
+        w.if-from-eq0.false (c.requires.2 w.if-again.true) refl)
+    | else-from-eq0+else-again w ↦
+        rw w.k-is (before-cell c.requires.0.good c.args.from w.path_to.result w.if-from-eq0.false w.path_to.ensures)
+  ],
 )

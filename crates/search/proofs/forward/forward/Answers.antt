@@ -4,7 +4,7 @@ use native.Mathlib.Omega.{arith}
 use mathlib.Core.Path.{◌∙◌}
 use Rattle.search.proofs.Branches.{carried-cell, before-next, turn-found, turn-next, first-none}
 use Rattle.search.proofs.forward.forward.Goals as goal
-use Rattle.search.proofs.forward.forward.Goals.{then-l-last+else-long-last, else-l-last}
+use Rattle.search.proofs.forward.forward.Goals.{else-l-last-via-then-l-last+else-long-last, else-l-last-via-else-l-last}
 
 pub levels-requires : goal.levels-requires
 levels-requires c = (c.requires.0.good.catalogue, levels-none c.args.cat.now)
@@ -49,7 +49,10 @@ loop-i-preserved c = (
   before-next c.requires.0.good c.upcoming-i.result c.stretched-long.result c.stretched-long.ensures,
   turn-next c.requires.0.good c.upcoming-i.result c.level_at-l.result c.stretched-long.result c.level_by-last.result
       c.args.to c.if-to-i.false c.requires.2 c.requires.1 c.level_at-l.ensures c.stretched-long.ensures
-      c.level_by-last.ensures (λ a b. elim c.if-l-last.branch [ then-l-last+else-long-last w ↦ w.if-long-last.false b | else-l-last w ↦ w.if-l-last.false a ]) ∙ c.upcoming-i.ensures.3 ∙
+      c.level_by-last.ensures (λ a b. elim c.else-l-last.branch [
+        | else-l-last-via-then-l-last+else-long-last w ↦ w.if-long-last.false b
+        | else-l-last-via-else-l-last w ↦ w.if-l-last.false a
+      ]) ∙ c.upcoming-i.ensures.3 ∙
       c.loop-i.invariant.1,
 )
 

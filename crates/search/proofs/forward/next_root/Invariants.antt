@@ -1,10 +1,6 @@
-use Prim.Native.Nat.{◌-◌, ◌≤◌}
 use Rattle.rules.specs.Table.{listing}
 use Rattle.search.proofs.Branches.{NoRoot}
 use Rattle.search.proofs.forward.next_root.Given as goal
 
 abbrev pub invariant-loop-i : goal.invariant-loop-i
-invariant-loop-i l = (l.from ≤ l.i) × (l.i ≤ l.to) × NoRoot (listing l.cat l.tab) l.from l.i
-
-abbrev pub decreases-loop-i : goal.decreases-loop-i
-decreases-loop-i l = l.to - l.i
+invariant-loop-i l = NoRoot (listing l.cat l.tab) l.from l.i

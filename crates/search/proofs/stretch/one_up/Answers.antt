@@ -3,9 +3,10 @@ use mathlib.Core.Path.{sym, ◌∙◌}
 use Rattle.search.proofs.Branches.{level-some}
 use Rattle.search.proofs.Climb.{turn-off, turn-kept, turn-named, turn-implied}
 use Rattle.search.proofs.stretch.one_up.Goals as goal
+use Rattle.search.proofs.stretch.one_up.Goals.{then-is_some-via-then-is_some, then-is_some-via-else-is_some+then-not-is_implied}
 
-pub overflow_sub-above : goal.overflow_sub-above
-overflow_sub-above c = omega (
+pub overflow_sub-result : goal.overflow_sub-result
+overflow_sub-result c = omega (
   arith,
   c.requires.2,
   level-some
@@ -19,16 +20,17 @@ returns-then-not-agrees c = turn-off c.requires.0.good c.args.c.0 c.args.l c.arg
     c.requires.2 _ (omega arith)
     (sym c.agrees.ensures ∙ c.if-not-agrees.true)
 
-pub returns-in-At : goal.returns-in-At
-returns-in-At c = turn-kept c.requires.0.good c.args.c.0 c.args.l c.args.below c.requires.1 c.requires.2
-    (sym c.agrees.ensures ∙ c.if-not-agrees.false) _ c.in-At.is
-
-pub returns-then-not-is_implied : goal.returns-then-not-is_implied
-returns-then-not-is_implied c = turn-named c.requires.0.good c.args.c.0 c.args.l c.args.below c.requires.1 c.requires.2
-    (sym c.agrees.ensures ∙ c.if-not-agrees.false) c.in_default.is
-    (sym c.is_implied.ensures ∙ c.if-not-is_implied.true)
+pub returns-then-is_some : goal.returns-then-is_some
+returns-then-is_some c =
+    let a = sym c.agrees.ensures ∙ c.if-not-agrees.false in
+    elim c.then-is_some.branch [
+      | then-is_some-via-then-is_some w ↦ turn-kept c.requires.0.good c.args.c.0 c.args.l c.args.below c.requires.1 c.requires.2 a
+          (sym c.is_some.ensures ∙ w.if-is_some.true)
+      | then-is_some-via-else-is_some+then-not-is_implied w ↦ turn-named c.requires.0.good c.args.c.0 c.args.l c.args.below c.requires.1 c.requires.2 a
+          (sym w.is_implied.ensures ∙ w.if-not-is_implied.true)
+    ]
 
 pub returns : goal.returns
 returns c = turn-implied c.requires.0.good c.args.c.0 c.args.l c.args.below c.requires.1 c.requires.2
-    (sym c.agrees.ensures ∙ c.if-not-agrees.false) c.in_default.is
+    (sym c.agrees.ensures ∙ c.if-not-agrees.false) (sym c.is_some.ensures ∙ c.if-is_some.false)
     (sym c.is_implied.ensures ∙ c.if-not-is_implied.false)

@@ -18,14 +18,14 @@ overflow_sub-l c = omega (
   parent-level
       c.requires.0.good
       c.loop-p.at.0 c.loop-p.invariant.0 _
-      (sym c.in-At.is ∙ c.parent_of.ensures),
+      (sym c.in-Some.is ∙ c.parent_of.ensures),
 )
 
 pub loop-p-smaller : goal.loop-p-smaller
 loop-p-smaller c = omega (
   arith,
   (parent-some _ _ _ _
-      (sym c.in-At.is ∙ c.parent_of.ensures)).0,
+      (sym c.in-Some.is ∙ c.parent_of.ensures)).0,
 )
 
 pub loop-p-preserved : goal.loop-p-preserved
@@ -34,7 +34,7 @@ loop-p-preserved c = (
     arith,
     c.loop-p.invariant.0,
     (parent-some _ _ _ _
-        (sym c.in-At.is ∙ c.parent_of.ensures)).0,
+        (sym c.in-Some.is ∙ c.parent_of.ensures)).0,
   ),
   omega (
     arith,
@@ -42,11 +42,11 @@ loop-p-preserved c = (
     parent-level
         c.requires.0.good
         c.loop-p.at.0 c.loop-p.invariant.0 _
-        (sym c.in-At.is ∙ c.parent_of.ensures),
+        (sym c.in-Some.is ∙ c.parent_of.ensures),
   ),
   climb-up
       c.requires.0.good
       c.loop-p.at.0 c.loop-p.invariant.0 _
-      _ (sym c.in-At.is ∙ c.parent_of.ensures) ∙
+      _ (sym c.in-Some.is ∙ c.parent_of.ensures) ∙
       c.one_up-below.ensures ∙ c.loop-p.invariant.2,
 )

@@ -1,77 +1,28 @@
-use Rattle.blocks.proofs.Negated.{told-no, told-yes}
+use mathlib.Core.Path.{sym}
+use native.Mathlib.Omega.{arith}
+use Rattle.std.proofs.lemmas.Grind.{common_steps}
 use Rattle.table_check.proofs.Stored.{keys-valued}
 use Rattle.table_check.proofs.Frame.{frame-sized, table-frame}
 use Rattle.table_check.proofs.check.is_good_on.Goals as goal
 
-pub returns-then-not-good_frame : goal.returns-then-not-good_frame
-returns-then-not-good_frame c = simp (
-  table-frame c.args.cat.now c.args.tab.now c.requires,
-  told-no c.good_frame.ensures
-      c.if-not-good_frame.true,
-)
-
 pub all_padded-requires : goal.all_padded-requires
-all_padded-requires c = frame-sized c.args.cat.now c.args.tab.now c.cell_size-size.result c.cell_size-size.ensures.0 c.requires
-    (told-yes c.good_frame.ensures c.if-not-good_frame.false)
-
-pub returns-then-not-all_padded : goal.returns-then-not-all_padded
-returns-then-not-all_padded c = simp (
-  table-frame c.args.cat.now c.args.tab.now c.requires,
-  told-yes c.good_frame.ensures c.if-not-good_frame.false,
-  told-no
-      c.all_padded.ensures c.if-not-all_padded.true,
-)
+all_padded-requires c = frame-sized c.args.cat.now c.args.tab.now _ c.cell_size-size.ensures.0 c.requires (sym c.if-good_frame.ensures)
 
 pub all_free-requires : goal.all_free-requires
-all_free-requires c = frame-sized c.args.cat.now c.args.tab.now c.cell_size-size.result c.cell_size-size.ensures.0 c.requires
-    (told-yes c.good_frame.ensures c.if-not-good_frame.false)
-
-pub returns-then-not-all_free : goal.returns-then-not-all_free
-returns-then-not-all_free c = simp (
-  table-frame c.args.cat.now c.args.tab.now c.requires,
-  told-yes c.good_frame.ensures c.if-not-good_frame.false,
-  told-yes
-      c.all_padded.ensures c.if-not-all_padded.false,
-  told-no c.all_free.ensures c.if-not-all_free.true,
-)
+all_free-requires c = frame-sized c.args.cat.now c.args.tab.now _ c.cell_size-size.ensures.0 c.requires (grind (arith, common_steps))
 
 pub has_keys-requires : goal.has_keys-requires
-has_keys-requires c = (
-  c.requires,
-  frame-sized c.args.cat.now c.args.tab.now c.cell_size-size.result c.cell_size-size.ensures.0 c.requires
-      (told-yes c.good_frame.ensures c.if-not-good_frame.false),
-)
-
-pub returns-then-not-has_keys : goal.returns-then-not-has_keys
-returns-then-not-has_keys c =
-    simp (
-      table-frame c.args.cat.now c.args.tab.now c.requires,
-      told-yes c.good_frame.ensures c.if-not-good_frame.false,
-      told-yes
-          c.all_padded.ensures c.if-not-all_padded.false,
-      told-yes c.all_free.ensures c.if-not-all_free.false,
-      told-no
-          c.has_keys.ensures c.if-not-has_keys.true,
-    )
+has_keys-requires c = (c.requires, frame-sized c.args.cat.now c.args.tab.now _ c.cell_size-size.ensures.0 c.requires (grind (arith, common_steps)))
 
 pub is_listing-requires : goal.is_listing-requires
 is_listing-requires c = (
   c.requires,
-  frame-sized c.args.cat.now c.args.tab.now c.cell_size-size.result c.cell_size-size.ensures.0 c.requires
-      (told-yes c.good_frame.ensures c.if-not-good_frame.false),
-  keys-valued c.args.cat.now c.args.tab.now
-      (told-yes c.has_keys.ensures c.if-not-has_keys.false),
+  frame-sized c.args.cat.now c.args.tab.now _ c.cell_size-size.ensures.0 c.requires (grind (arith, common_steps)),
+  keys-valued c.args.cat.now c.args.tab.now (grind (arith, common_steps)),
 )
 
-pub returns : goal.returns
-returns c =
-    simp (
-      table-frame c.args.cat.now c.args.tab.now c.requires,
-      told-yes c.good_frame.ensures c.if-not-good_frame.false,
-      told-yes
-          c.all_padded.ensures c.if-not-all_padded.false,
-      told-yes c.all_free.ensures c.if-not-all_free.false,
-      told-yes c.has_keys.ensures
-          c.if-not-has_keys.false,
-      c.is_listing.ensures,
-    )
+pub returns-then-has_keys : goal.returns-then-has_keys
+returns-then-has_keys c = let e = table-frame c.args.cat.now c.args.tab.now c.requires in grind (arith, common_steps)
+
+pub returns-else-has_keys : goal.returns-else-has_keys
+returns-else-has_keys c = let e = table-frame c.args.cat.now c.args.tab.now c.requires in grind (arith, common_steps)

@@ -18,14 +18,14 @@ returns-then-fact-eq5 c = unique-follows _ _ _ (last-at c.requires c.start_befor
     c.fact-long.ensures.0) (next-at c.requires c.start_before.ensures c.start_before-2.ensures c.fact-from.ensures.0
     c.fact-long.ensures.0) (sym c.fact.ensures.0 ∙ c.if-fact-eq5.true) c.holds_at.ensures
 
-pub holds_at-requires-2 : goal.holds_at-requires-2
-holds_at-requires-2 c = (
+pub holds_at-requires-else-fact-eq5 : goal.holds_at-requires-else-fact-eq5
+holds_at-requires-else-fact-eq5 c = (
   next-in c.requires c.start_before.ensures c.start_before-2.ensures c.fact-from.ensures.0 c.fact-long.ensures.0,
   last-in
       c.requires c.start_before.ensures c.start_before-2.ensures c.fact-from.ensures.0 c.fact-long.ensures.0,
 )
 
-pub returns : goal.returns
-returns c = multiple-follows _ _ _ (last-at c.requires c.start_before.ensures c.start_before-2.ensures c.fact-from.ensures.0
+pub returns-else-fact-eq5 : goal.returns-else-fact-eq5
+returns-else-fact-eq5 c = multiple-follows _ _ _ (last-at c.requires c.start_before.ensures c.start_before-2.ensures c.fact-from.ensures.0
     c.fact-long.ensures.0) (next-at c.requires c.start_before.ensures c.start_before-2.ensures c.fact-from.ensures.0
-    c.fact-long.ensures.0) (λ z. c.if-fact-eq5.false (c.fact.ensures.0 ∙ z)) c.holds_at-2.ensures
+    c.fact-long.ensures.0) (λ z. c.if-fact-eq5.false (c.fact.ensures.0 ∙ z)) c.holds_at-else-fact-eq5.ensures

@@ -16,10 +16,10 @@ pub returns-then-kind-gt2 : goal.returns-then-kind-gt2
 returns-then-kind-gt2 c = packed-key c.requires c.code_before.ensures c.if-code_before-t.false c.fact-kind.result c.fact-kind.ensures.0 c.if-kind-gt2.true
     c.packed_twin.ensures
 
-pub returns-in-Smaller : goal.returns-in-Smaller
-returns-in-Smaller c =
+pub returns-in-Less : goal.returns-in-Less
+returns-in-Less c =
     smaller-key c.requires c.code_before.ensures c.if-code_before-t.false c.fact-kind.result c.fact-kind.ensures.0 c.if-kind-gt2.false
-    (sym c.in-Smaller.is ∙ c.key_order.ensures)
+    (sym c.in-Less.is ∙ c.key_order.ensures)
 
 pub returns-in-Equal : goal.returns-in-Equal
 returns-in-Equal c =
