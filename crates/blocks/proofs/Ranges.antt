@@ -1,12 +1,11 @@
 -- The numbers of a range, tested one after another by a `for` that ends at the first that fails. Assumes nothing.
-use Rattle.std.proofs.Common.{◌≡◌, ℕ, zero, suc, ◌+◌, ◌-◌, ◌<◌, ◌≤◌, Bool, true, false, ◌&&◌, refl, sym, ap, ◌∙◌, []}
+use Rattle.std.proofs.Common.{◌≡◌, ℕ, zero, suc, ◌+◌, ◌-◌, ◌<◌, ◌≤◌, Bool, true, false, refl, sym, ap, ◌∙◌, []}
 use native.Mathlib.Omega.{arith}
-use Rattle.std.specs.List.{list_all, range_with_len}
 use Rattle.forest.specs.Forest.{inside, outside, side}
 use Rattle.forest.specs.Good.{on, off, is}
 use Rattle.forest.specs.Numbers.{range}
 use Rattle.rules.specs.Block.{every}
-use Rattle.rules.proofs.Every.{every_in, every-out, every-cons}
+use Rattle.rules.proofs.Every.{every_in, every-out}
 
 module _ (p : ℕ → Bool) where
   -- none is left to fail

@@ -2,15 +2,13 @@
 use mathlib.Core.Path.{◌≡◌, refl, ap, sym, ◌∙◌}
 use mathlib.Core.Bool.{true, false, ◌&&◌, and-true, and-false}
 use mathlib.Core.List.{[], ◌∷◌}
-use Prim.Native.Nat.{ℕ, zero, suc, max, min, ◌+◌, ◌<◌, ◌≤◌}
+use Prim.Native.Nat.{ℕ, suc, max, min, ◌+◌, ◌<◌, ◌≤◌}
 use native.Mathlib.Numerals.{add-one}
 use native.Mathlib.Omega.{arith}
 use lib.Dec.{eqb}
-use lib.ListN.{length, take, drop, drop_of_length-le}
+use lib.ListN.{length, drop, drop_of_length-le}
 use lib.Seq.{drop-cons}
-use lib.Pointwise.{pointwise}
 use borrow.Author.Tests.{eq-eqb, ne_eqb, lt-ltb, le-ltb}
-use Rattle.std.specs.Prelude.{nat_eq}
 use Rattle.std.proofs.Common.{nat_cmp, Equal}
 use Rattle.forest.specs.Forest.{inside, outside, side}
 use Rattle.forest.specs.Good.{on, off, is}
@@ -78,16 +76,17 @@ module _ (a b : Bytes) (i : ℕ) where
     | outside l ↦ rw (none_left a i l)
   ]
 
--- the language's `==` on slices
-pub same-pointwise : (a b : Bytes) → pointwise nat_eq a b ≡ same_bytes a b
-unfolding same_bytes
-same-pointwise [] [] = refl
-same-pointwise [] (y ∷ ys) = refl
-same-pointwise (x ∷ xs) [] = refl
-same-pointwise (x ∷ xs) (y ∷ ys) = elim (is (eqb x y)) [
-  | on e ↦ rw (same_bytes, e) (same-pointwise xs ys)
-  | off e ↦ rw (same_bytes, e)
-]
+  pub same_next : i < length a → i < length b → byte a i ≡ byte b i → same_bytes (drop (i + 1) a) (drop (i + 1) b) ≡ same_bytes (drop i a) (drop i b)
+  unfolding same_bytes
+  same_next h k e = sym (rw (left_at a i h, left_at b i k, same_bytes, eq-eqb (byte a i) (byte b i) e))
+
+  pub same_stop : i < length a → i < length b → (byte a i ≡ byte b i → ⊥) → false ≡ same_bytes (drop i a) (drop i b)
+  unfolding same_bytes
+  same_stop h k n = rw (left_at a i h, left_at b i k, same_bytes, ne_eqb (byte a i) (byte b i) n)
+
+  pub same_end : length a ≤ i → length b ≤ i → true ≡ same_bytes (drop i a) (drop i b)
+  unfolding same_bytes
+  same_end h k = rw (none_left a i h, none_left b i k)
 
 -- values of other lengths are not the same
 pub same_length : (a b : Bytes) → (length a ≡ length b → ⊥) → false ≡ same_bytes a b

@@ -58,8 +58,11 @@ fn segm(line: &[u8]) -> Option<Line>
     let name = named(line, b"SEGM")?;
     let parent = given(line, name.to, b"PARENT", Asks::AParent)?;
     let long = given(line, parent.to, b"BYTES", Asks::ANumber)?;
+    if !ends(line, long.to) {
+        return None;
+    }
     let bytes = number(&line[long.from..long.to]);
-    ends(line, long.to).then_some(Line::IsSegm(name, parent, bytes))
+    Some(Line::IsSegm(name, parent, bytes))
 }
 
 // BYTES, START and TYPE, to the line's end.
@@ -70,9 +73,12 @@ fn rest(line: &[u8], at: usize) -> Option<Extent>
     let bytes = given(line, at, b"BYTES", Asks::ANumber)?;
     let first = given(line, bytes.to, b"START", Asks::ANumber)?;
     let letter = given(line, first.to, b"TYPE", Asks::OneOf(b'C', b'X'))?;
+    if !ends(line, letter.to) {
+        return None;
+    }
     let long = number(&line[bytes.from..bytes.to]);
     let start = number(&line[first.from..first.to]);
-    ends(line, letter.to).then_some(Extent { long, start })
+    Some(Extent { long, start })
 }
 
 fn field(line: &[u8]) -> Option<Line>

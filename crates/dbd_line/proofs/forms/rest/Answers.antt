@@ -1,4 +1,5 @@
-use mathlib.Core.Path.{refl}
+use mathlib.Core.Path.{refl, sym, ◌∙◌}
+use mathlib.Core.Bool.{true, false}
 use Rattle.statements.specs.Text.{bytes_of}
 use Rattle.statements.specs.Statement.{word_bytes, word_start, word_type, span_form}
 use Rattle.dbd_words.proofs.Behind.{reached-held, held-after}
@@ -19,6 +20,11 @@ unfolding word_bytes word_start word_type bytes_of span_form
 returns-in_err-letter c = rw c.from_residual-in_err-letter.ensures (span-none _ (reached-held (held-after (held-after c.in_ok-bytes.ensures
     c.in_ok-first.ensures) c.in_err-letter.ensures)) refl)
 
+pub returns-then-not-ends : goal.returns-then-not-ends
+unfolding word_bytes word_start word_type bytes_of span_form
+returns-then-not-ends c = span-told c.in_ok-bytes.ensures c.in_ok-first.ensures c.in_ok-letter.ensures _ _ refl refl false
+    (sym c.if-not-ends.true ∙ c.ends.ensures)
+
 pub number-long-requires : goal.number-long-requires
 number-long-requires c = is_number_held c.in_ok-bytes.ensures
 
@@ -27,5 +33,5 @@ number-start-requires c = is_number_held c.in_ok-first.ensures
 
 pub returns : goal.returns
 unfolding word_bytes word_start word_type bytes_of span_form
-returns c = rw c.then_some.ensures (span-told c.in_ok-bytes.ensures c.in_ok-first.ensures c.in_ok-letter.ensures _ _ c.number-long.ensures
-    c.number-start.ensures _ c.ends.ensures)
+returns c = span-told c.in_ok-bytes.ensures c.in_ok-first.ensures c.in_ok-letter.ensures _ _ c.number-long.ensures
+    c.number-start.ensures true (sym c.if-not-ends.false ∙ c.ends.ensures)
